@@ -4,6 +4,7 @@ pub mod Counting
 pub mod Decided
 pub mod DecidedCalls
 pub mod DecidedWalks
+pub mod Doubling
 pub mod EachOnce
 pub mod Empties
 pub mod Emptiest

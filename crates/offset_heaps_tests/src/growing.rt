@@ -127,6 +127,7 @@ fn expect_relocation<T: Tables>(rt: &impl Abort, heaps: &mut HeapsOf<T>) {
 fn heaps_grow(rt: HostRuntime) -> Result<(), Fail> {
     let limits = Limits {
         size: 200,
+        first_size: 200,
         max_allocs: 40,
         first_allocs: 8,
         most: 2,
@@ -145,6 +146,7 @@ fn heaps_grow(rt: HostRuntime) -> Result<(), Fail> {
 fn heaps_that_grow_grant_as_others_do(rt: HostRuntime) -> Result<(), Fail> {
     let limits = Limits {
         size: 200,
+        first_size: 200,
         max_allocs: 40,
         first_allocs: 8,
         most: 2,
@@ -152,6 +154,7 @@ fn heaps_that_grow_grant_as_others_do(rt: HostRuntime) -> Result<(), Fail> {
     };
     let whole = Limits {
         size: 200,
+        first_size: 200,
         max_allocs: 40,
         first_allocs: 40,
         most: 2,

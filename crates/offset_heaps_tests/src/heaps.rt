@@ -103,6 +103,7 @@ fn expect_drops<T: Tables>(rt: &impl Abort, heaps: &mut HeapsOf<T>, nowhere: Pla
 fn heaps(rt: HostRuntime) -> Result<(), Fail> {
     let limits = Limits {
         size: 100,
+        first_size: 100,
         max_allocs: 8,
         first_allocs: 8,
         most: 2,
@@ -124,6 +125,7 @@ fn heaps(rt: HostRuntime) -> Result<(), Fail> {
 fn an_empty_larger_heap_is_dropped_first(rt: HostRuntime) -> Result<(), Fail> {
     let limits = Limits {
         size: 1000,
+        first_size: 1000,
         max_allocs: 8,
         first_allocs: 8,
         most: 1,
@@ -146,6 +148,7 @@ fn an_empty_larger_heap_is_dropped_first(rt: HostRuntime) -> Result<(), Fail> {
 fn an_aligned_page_fits_a_page(rt: HostRuntime) -> Result<(), Fail> {
     let limits = Limits {
         size: 1024,
+        first_size: 1024,
         max_allocs: 8,
         first_allocs: 8,
         most: 2,
@@ -178,6 +181,7 @@ fn an_aligned_page_fits_a_page(rt: HostRuntime) -> Result<(), Fail> {
 fn heaps_are_shown(rt: HostRuntime) -> Result<(), Fail> {
     let limits = Limits {
         size: 10,
+        first_size: 10,
         max_allocs: 4,
         first_allocs: 4,
         most: 1,
@@ -187,7 +191,7 @@ fn heaps_are_shown(rt: HostRuntime) -> Result<(), Fail> {
     let text = format!(in rt.alloc(); "{heaps:?}, {}", Refusal::Full)?;
     assert_eq!(rt;
         text.as_str(),
-        "Heaps { realm: 9, limits: Limits { size: 10, max_allocs: 4, first_allocs: 4, most: 1, most_larger: 0 }, made: 0, \
+        "Heaps { realm: 9, limits: Limits { size: 10, first_size: 10, max_allocs: 4, first_allocs: 4, most: 1, most_larger: 0 }, made: 0, \
          totals: Totals { heaps: 0, units: 0, live_units: 0, free_units: 0, largest_free_region: 0 } }, \
          no heap has room, and no other may be made"
     );

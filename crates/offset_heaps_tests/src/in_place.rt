@@ -9,6 +9,7 @@ use std::test::Fail;
 // Two heaps of 100 units, and one larger.
 const LIMITS: Limits = Limits {
     size: 100,
+    first_size: 100,
     max_allocs: 8,
     first_allocs: 8,
     most: 2,

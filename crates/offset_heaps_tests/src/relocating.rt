@@ -88,6 +88,7 @@ fn expect_pass<T: Tables>(rt: &impl Abort, heaps: &mut HeapsOf<T>, nowhere: Plac
 fn aligned_relocation(rt: HostRuntime) -> Result<(), Fail> {
     let limits = Limits {
         size: 96,
+        first_size: 96,
         max_allocs: 8,
         first_allocs: 8,
         most: 2,
@@ -125,6 +126,7 @@ fn aligned_relocation(rt: HostRuntime) -> Result<(), Fail> {
 fn relocation(rt: HostRuntime) -> Result<(), Fail> {
     let limits = Limits {
         size: 96,
+        first_size: 96,
         max_allocs: 8,
         first_allocs: 8,
         most: 3,
