@@ -1,10 +1,10 @@
 -- Usual heaps double, by their numbers.
-use Rattle.std.proofs.Common.{◌≡◌, ◌↔◌, ℕ, suc, ◌+◌, ◌-◌, ◌*◌, ◌^◌, ◌<◌, ◌≤◌, min, refl, sym, ap, ◌∙◌, arith, inl, inr, mul_assoc, mul_comm, mul-le-mul_left, mul-le-mul_right, pow-suc}
+use Rattle.std.proofs.Common.{◌≡◌, ◌↔◌, ℕ, suc, ◌+◌, ◌-◌, ◌*◌, ◌%◌, ◌^◌, ◌<◌, ◌≤◌, min, refl, sym, ap, ◌∙◌, arith, inl, inr, mul_assoc, mul_comm, mul-le-mul_left, mul-le-mul_right, pow-suc}
 use Rattle.std.proofs.Math.Nat.{one-le-pow, pow-le-pow_right}
 use Rattle.std.proofs.lemmas.Bool.{cases_lt}
 use Rattle.std.proofs.lemmas.Nat.{shl_below, shl_whole}
 use Rattle.offset_allocator.specs.Classes.{down, value}
-use Rattle.offset_allocator.proofs.Classes.{down_law, value_at, value_down, value_grows}
+use Rattle.offset_allocator.proofs.Classes.{down_law, value_down, value_grows}
 use Rattle.offset_heaps.specs.declared.limits.Limits.{Limits}
 use Rattle.offset_heaps.specs.Heaps.{Heaps, IsFirstSize, IsUsual, usual_room, usual_size}
 
@@ -52,10 +52,12 @@ room_grows limits j k small before =
 
 -- below the number of a class that no block has
 highest : value 239 ≡ 4026531840
-highest = value_at 28 7 (omega arith)
+unfolding value
+highest = refl
 
 none_above : value 240 ≡ 2 ^ 32
-none_above = value_at 29 0 (omega arith)
+unfolding value
+none_above = refl
 
 pub class_small : (n : ℕ) → n < 2 ^ 32 → down n < 240
 class_small n small = elim (cases_lt (down n) 240) [

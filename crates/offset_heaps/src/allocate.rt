@@ -81,6 +81,7 @@ impl<T: Tables> HeapsOf<T> {
         ensures steps { (bits : ℕ) → numbers self.old ≤ 2 ^ bits
             → self.new.accesses ≤ self.old.accesses + bits + 1 }
     {
+        // what is read recalls that sizes have 32 bits
         let _ = &self.limits;
         self.index
             .spare

@@ -61,6 +61,8 @@ impl<T: Tables> HeapsOf<T> {
         if self.limits.most_larger == 0 {
             return Some(Refusal::TooLarge);
         }
+        // what is read recalls that sizes have 32 bits
+        let _ = &self.limits;
         let found = self.index.spare.first_at_least(LARGER_KEY as u64, count);
         self.why_not_made(found)
     }

@@ -1,5 +1,5 @@
 //! How many heaps there may be, and how large. It touches no heap.
-ghost use Rattle.std.specs.Prelude.{◌≡◌, ◌-◌, ◌^◌, ◌<◌};
+ghost use Rattle.std.specs.Prelude.{◌≡◌};
 ghost use Rattle.offset_heaps.specs.Heaps.{usual_room, usual_size};
 
 use offset_allocator::small_float::{float_to_uint, uint_to_float_round_down};
@@ -41,7 +41,6 @@ pub(crate) fn usual_size(limits: Limits, number: u32) -> u32
 /// The largest request that it grants when it is fresh.
 pub(crate) fn usual_room(limits: Limits, number: u32) -> u32
     ensures { result ≡ usual_room limits number }
-    ensures low { result < 2 ^ 32 - 1 }
 {
     let class = uint_to_float_round_down(usual_size(limits, number));
     float_to_uint(class)

@@ -132,13 +132,13 @@ static void states(void) {
     /* one block is live and one is free, and each of 2 nodes was granted or may be: 48 and at most 16, and 32, 16 and 4 */
     size_t own = oa_state_size(state) - 96 - 3 * 8;
     CHECK(own == 48 + 8 * 2 + 32 + 2 * 8 + 4);
-    uint64_t numbers[] = {1397244239, 2, 100, 4, 4, 2, 1, 2, 9, 0, own, own, own}, sum = 0;
-    for (int i = 0; i < 13; i++) {
+    uint64_t numbers[] = {1397244239, 3, 100, 100, 4, 4, 2, 1, 2, 9, 0, own, own, own}, sum = 0;
+    for (int i = 0; i < 14; i++) {
         sum = sum * 1099511628211u + numbers[i];
         for (int j = 0; j < 8; j++) CHECK(oa_state_bytes(state)[8 * i + j] == (uint8_t) (numbers[i] >> 8 * j));
     }
-    for (int j = 0; j < 8; j++) CHECK(oa_state_bytes(state)[104 + j] == (uint8_t) (sum >> 8 * j));
-    CHECK(memcmp(oa_state_bytes(state) + 112, "OATK", 4) == 0);
+    for (int j = 0; j < 8; j++) CHECK(oa_state_bytes(state)[112 + j] == (uint8_t) (sum >> 8 * j));
+    CHECK(memcmp(oa_state_bytes(state) + 120, "OATK", 4) == 0);
     oah_heaps *copy = oah_clone(heaps);
     CHECK(copy && oah_is_live(copy, a) && oah_free(heaps, a) && oah_is_live(copy, a));
     oah_drop(heaps);
@@ -152,34 +152,35 @@ static void states(void) {
     CHECK(oah_free(read.heaps, a) && !oah_free(read.heaps, a));
     oah_drop(read.heaps);
     read = oah_read_state(state, 2, 4);
-    CHECK(!read.heaps && read.found == OA_BAD_LIMIT && read.at == 48);
+    CHECK(!read.heaps && read.found == OA_BAD_LIMIT && read.at == 56);
     read = oah_read_state(state, 3, 3);
-    CHECK(!read.heaps && read.found == OA_BAD_LIMIT && read.at == 24);
+    CHECK(!read.heaps && read.found == OA_BAD_LIMIT && read.at == 32);
     for (size_t i = 0; i < oa_state_size(state); i++) {
         oa_state_bytes(state)[i] ^= 128;
         read = oah_read_state(state, 1000, 1000);
         CHECK(!read.heaps && read.found != OA_SPACE_READ && read.found != OA_OUT_OF_MEMORY && read.at <= oa_state_size(state));
         oa_state_bytes(state)[i] ^= 128;
     }
-    /* numbers that are wrong, with the checksum of them */
+    /* numbers that are wrong, with the checksum of them; the first size is that of all heaps */
     static const struct { int place; uint64_t number; oa_found found; size_t at; } wrong[] = {
         {0, 1397244240, OA_BAD_FORM, 0}, {1, 1, OA_BAD_FORM, 0}, {2, 1ull << 32, OA_BAD_LIMIT, 16},
-        {2, 99, OA_BAD_SIZE, 112}, {3, 5, OA_BAD_LIMIT, 32}, {3, 3, OA_BAD_LIMIT, 24}, {4, 5, OA_BAD_LIMIT, 32}, {4, 3, OA_BAD_LIMIT, 32},
-        {5, 1ull << 63, OA_BAD_LIMIT, 40}, {6, 1001, OA_BAD_LIMIT, 48},
-        {7, 1ull << 32, OA_BAD_COUNTS, 56}, {7, 0, OA_BAD_REALM, 112 + 32}, {8, 1ull << 32, OA_BAD_COUNTS, 64},
-        {9, 1, OA_BAD_PLACE, 72}, {10, 1000, OA_BAD_PLACE, 80}, {10, 0, OA_BAD_PLACE, 0}, {12, 0, OA_BAD_PLACE, 96},
+        {2, 101, OA_BAD_SIZE, 120}, {3, 0, OA_BAD_LIMIT, 24}, {3, 101, OA_BAD_LIMIT, 24}, {4, 5, OA_BAD_LIMIT, 40}, {4, 3, OA_BAD_LIMIT, 32},
+        {5, 5, OA_BAD_LIMIT, 40}, {5, 3, OA_BAD_LIMIT, 40}, {6, 1ull << 63, OA_BAD_LIMIT, 48}, {7, 1001, OA_BAD_LIMIT, 56},
+        {8, 1ull << 32, OA_BAD_COUNTS, 64}, {8, 0, OA_BAD_REALM, 120 + 32}, {9, 1ull << 32, OA_BAD_COUNTS, 72},
+        {10, 1, OA_BAD_PLACE, 80}, {11, 1000, OA_BAD_PLACE, 88}, {11, 0, OA_BAD_PLACE, 0}, {13, 0, OA_BAD_PLACE, 104},
     };
     for (size_t n = 0; n < sizeof wrong / sizeof *wrong; n++) {
         oa_state *changed = oa_state_new(oa_state_size(state));
         memcpy(oa_state_bytes(changed), oa_state_bytes(state), oa_state_size(state));
         sum = 0;
-        for (int i = 0; i < 14; i++) {
-            uint64_t number = i == 13 ? sum : i == wrong[n].place ? wrong[n].number : numbers[i];
+        for (int i = 0; i < 15; i++) {
+            int is_changed = i == wrong[n].place || (i == 3 && wrong[n].place == 2);
+            uint64_t number = i == 14 ? sum : is_changed ? wrong[n].number : numbers[i];
             sum = sum * 1099511628211u + number;
             for (int j = 0; j < 8; j++) oa_state_bytes(changed)[8 * i + j] = (uint8_t) (number >> 8 * j);
         }
         read = oah_read_state(changed, 1000, 1000);
-        if (wrong[n].place == 10 && wrong[n].number == 0) {
+        if (wrong[n].place == 11 && wrong[n].number == 0) {
             /* the bytes are those of heap 1 then */
             CHECK(read.found == OA_SPACE_READ && !oah_has(read.heaps, 0) && oah_has(read.heaps, 1) && !oah_is_live(read.heaps, a));
             oah_drop(read.heaps);
@@ -192,6 +193,7 @@ static void states(void) {
     /* a state of tickets is none of many heaps */
     oa_state_drop(state);
     oag_allocator *one = oag_new(100, 4, 9);
+    CHECK(oag_allocate(one, 60).serial);
     state = oag_write_state(one);
     CHECK(oah_read_state(state, 3, 4).found == OA_BAD_FORM);
     oa_state_drop(state);

@@ -8,7 +8,7 @@ returns-then-is_usual-clause-why g c =
     why_usual c.args.size c.args.self.now c.below.result c.why_not_made.result (c.is_usual.ensures.0 c.if-is_usual.true)
     (subst (λ (h : Heaps). MatchOption c.below.result ((k : ℕ) → IsSpareUsual c.args.size k h → ⊥) (λ k. IsSpareUsual c.args.size k h × ((j : ℕ) → j < k → IsSpareUsual c.args.size j h → ⊥))) c.self.view_is
     (usual_first g.T.Index.NodeIndex.MAX c.self.inside.slots c.self.inside.limits c.self.inside.made c.self.inside.index c.self.invariant c.self.inside.realm c.self.inside.accesses
-    c.args.size c.first_at_least-found.result c.below.result c.requires c.first_at_least-found.ensures.first c.below.ensures))
+    c.args.size c.first_at_least-found.result c.below.result c.requires.some c.first_at_least-found.ensures.first c.below.ensures))
     c.why_not_made.ensures.full c.why_not_made.ensures.left
 
 pub returns-clause-why : goal.returns-clause-why
