@@ -15,6 +15,7 @@ pub mod Grants
 pub mod Growing
 pub mod Histories
 pub mod Numbers
+pub mod OneHeap
 pub mod Places
 pub mod Refusals
 pub mod Rooms

@@ -1,4 +1,5 @@
 use Rattle.std.proofs.Common.{◌≡◌, ◌∙◌, ◌+◌, ◌*◌, ap, arith, drop, inl, inr, length, refl, subst, sym, List, ℕ}
+use Rattle.offset_allocator.proofs.Saving.Reads.{no_fault}
 use Rattle.offset_guarded.specs.Numbers.{number_at}
 use Rattle.offset_guarded.proofs.Bytes.{rest_of}
 use Rattle.offset_heaps.specs.declared.limits.Limits.{Limits}
@@ -108,3 +109,9 @@ returns-in-Err-2-clause-fault g c =
 
 pub returns-in-Err-clause-refused : goal.returns-in-Err-clause-refused
 returns-in-Err-clause-refused g c = c.in-Err.ensures.wrong refl
+
+pub returns-in_err-index-clause-refused : goal.returns-in_err-index-clause-refused
+returns-in_err-index-clause-refused g c = no_fault _ c.from_residual-in_err-index.result c.from_residual-in_err-index.ensures.1
+
+pub returns-in_err-index-clause-fault : goal.returns-in_err-index-clause-fault
+returns-in_err-index-clause-fault g c = no_fault _ c.from_residual-in_err-index.result c.from_residual-in_err-index.ensures.1

@@ -14,7 +14,7 @@ returns-then-is_usual-clause-why g c =
 pub returns-clause-why : goal.returns-clause-why
 returns-clause-why g c =
     let limits = ap (λ (h : Heaps). h.limits.most_larger) c.self.view_is in
-    let some : 1 ≤ c.args.self.now.limits.most_larger = omega (arith, limits, c.if-self-eq0.false) in
+    let some : 1 ≤ c.args.self.now.limits.most_larger = omega (arith, limits, c.if-limits-eq0.false) in
     why_larger c.args.size c.args.self.now c.first_at_least-found-2.result c.why_not_made-2.result (λ usual. let b = c.is_usual.ensures.1 usual in let n = c.if-is_usual.false in cc) some
     (subst (λ (h : Heaps). MatchOption c.first_at_least-found-2.result ((k : ℕ) → IsSpareLarger k h → ⊥) (λ k. IsSpareLarger k h × ((j : ℕ) → j < k → IsSpareLarger j h → ⊥))) c.self.view_is
     (larger_first g.T.Index.NodeIndex.MAX c.self.inside.slots c.self.inside.limits c.self.inside.made c.self.inside.index c.self.invariant c.self.inside.realm c.self.inside.accesses
