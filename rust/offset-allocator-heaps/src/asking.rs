@@ -51,11 +51,11 @@ impl<T: Tables> HeapsOf<T> {
             let found = self.index.spare.first_at_least(size as u64, count);
             return self.why_not_made(below(found, self.limits.most));
         }
-        if self.limits.most_larger == 0 {
+        // what is read recalls that sizes have 32 bits
+        let limits = self.limits;
+        if limits.most_larger == 0 {
             return Some(Refusal::TooLarge);
         }
-        // what is read recalls that sizes have 32 bits
-        let _ = &self.limits;
         let found = self.index.spare.first_at_least(LARGER_KEY as u64, count);
         self.why_not_made(found)
     }
