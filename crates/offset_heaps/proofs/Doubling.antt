@@ -2,7 +2,7 @@
 use Rattle.std.proofs.Common.{◌≡◌, ◌↔◌, ℕ, suc, ◌+◌, ◌-◌, ◌*◌, ◌%◌, ◌^◌, ◌<◌, ◌≤◌, min, refl, sym, ap, ◌∙◌, arith, inl, inr, mul_assoc, mul_comm, mul-le-mul_left, mul-le-mul_right, pow-suc}
 use Rattle.std.proofs.Math.Nat.{one-le-pow, pow-le-pow_right}
 use Rattle.std.proofs.lemmas.Bool.{cases_lt}
-use Rattle.std.proofs.lemmas.Nat.{shl_below, shl_whole}
+use Rattle.std.proofs.lemmas.Nat.{shl_whole}
 use Rattle.offset_allocator.specs.Classes.{down, value}
 use Rattle.offset_allocator.proofs.Classes.{down_law, value_down, value_grows}
 use Rattle.offset_heaps.specs.declared.limits.Limits.{Limits}

@@ -4,7 +4,7 @@ use Rattle.offset_allocator.specs.Requests.{blocks_needed, units_needed}
 use Rattle.offset_heaps.specs.declared.refusal.Refusal.{Refusal}
 use Rattle.offset_heaps.specs.declared.refusal.Refusal.TheVariants.{Empty, TooLarge, Full, Memory}
 use Rattle.offset_heaps.specs.Asking.{IsRefusedFor, IsServed, IsWhyNone}
-use Rattle.offset_heaps.specs.Heaps.{Heaps, IsFirstFit, IsNext, IsSpareLarger, IsSpareUsual, IsUsual, NoneFits, last_realm}
+use Rattle.offset_heaps.specs.Heaps.{Heaps, IsFirstFit, IsSpareLarger, IsSpareUsual, IsUsual, NoneFits, last_realm}
 
 module _ (size : ℕ) (hs : Heaps) where
   pub why_usual : (s : Option ℕ) (r : Option Refusal) → IsUsual size hs

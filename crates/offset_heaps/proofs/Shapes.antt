@@ -1,5 +1,5 @@
 -- A heap that was made has the size and the node limit of its kind.
-use Rattle.std.proofs.Common.{◌≡◌, ℕ, ◌+◌, ◌<◌, ◌≤◌, ◌∙◌, Option, Some, IfSome, length, ap, sym, inl, inr, arith}
+use Rattle.std.proofs.Common.{◌≡◌, ℕ, ◌<◌, ◌≤◌, ◌∙◌, Option, Some, IfSome, length, ap, sym, inl, inr, arith}
 use Rattle.offset_allocator.specs.{Requests.units_needed, Tight.AlignsTight, View.Handle, View.View, View.padding_to}
 use Rattle.offset_guarded.specs.Guard.{Guard, handle_in}
 use Rattle.offset_guarded.specs.declared.ticket.Ticket.{Ticket}

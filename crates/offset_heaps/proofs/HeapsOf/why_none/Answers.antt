@@ -1,5 +1,5 @@
 use Rattle.std.proofs.Common.{ℕ, ◌<◌, ◌≤◌, MatchOption, arith, ap, subst}
-use Rattle.offset_heaps.specs.Heaps.{Heaps, IsSpareLarger, IsSpareUsual, IsUsual}
+use Rattle.offset_heaps.specs.Heaps.{Heaps, IsSpareLarger, IsSpareUsual}
 use Rattle.offset_heaps.proofs.{Finding.larger_first, Finding.usual_first, Refusals.why_larger, Refusals.why_usual}
 use Rattle.offset_heaps.proofs.HeapsOf.why_none.Goals as goal
 
