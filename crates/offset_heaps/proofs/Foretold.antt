@@ -1,13 +1,12 @@
 -- What a request is answered is what was foretold, and the units of a heap that is made for it.
-use Rattle.std.proofs.Common.{◌≡◌, ◌≢◌, ℕ, ◌≤◌, ◌⊎◌, true, false, Option, Some, None, MatchOption, Result, Ok, Err, IfErr, option_map, refl, sym, ap, ◌∙◌, inl, inr, arith}
-use Rattle.std.proofs.lemmas.Bool.{cases_eq}
-use Rattle.offset_allocator.specs.{Requests.blocks_needed, Requests.units_needed, View.View}
-use Rattle.offset_guarded.specs.Guard.{Guard, handle_in}
+use Rattle.std.proofs.Common.{◌≡◌, ℕ, true, Option, Some, None, MatchOption, Result, Ok, Err, IfErr, option_map, ap, ◌∙◌, inl, inr}
+use Rattle.offset_allocator.specs.{View.View}
+use Rattle.offset_guarded.specs.Guard.{handle_in}
 use Rattle.offset_heaps.specs.declared.place.Granted.{Granted}
 use Rattle.offset_heaps.specs.declared.refusal.Refusal.{Refusal}
 use Rattle.offset_heaps.specs.declared.refusal.Refusal.TheVariants.{Memory}
 use Rattle.offset_heaps.specs.{Asking.IsRefusedFor, Asking.IsServed, Calls.Allocates}
-use Rattle.offset_heaps.specs.Heaps.{Heaps, Grants, IsBefore, IsUsual, heap_at, size_of, slot}
+use Rattle.offset_heaps.specs.Heaps.{Heaps, Grants, IsBefore, IsUsual, heap_at, size_of, slot, usual_size}
 use Rattle.offset_heaps.proofs.{DecidedCalls.refused, Grants.memory_alone, Grants.none_found, Grants.one_reason, Numbers.slot_same, Shapes.size_tight}
 
 pub foretold : (size align : ℕ) (hs ks : Heaps) (why : Option Refusal) (r : Result Granted Refusal) → MatchOption why (IsServed size align hs) (IsRefusedFor size align hs)
@@ -32,10 +31,10 @@ module _ (size align : ℕ) (hs ks : Heaps) (grant : Granted) (g : Grants size a
     | inr a ↦ size_tight size g.before.space g.after.space (handle_in grant.place.ticket) a.2
   ]
 
-  pub usual_units : IsUsual size hs → option_map size_of (heap_at grant.place.heap ks) ≡ Some hs.limits.size
+  pub usual_units : IsUsual size hs → option_map size_of (heap_at grant.place.heap ks) ≡ Some (usual_size hs.limits grant.place.heap)
   usual_units usual = ap (option_map size_of) now ∙ ap Some (same ∙ go g.heap)
     where
-      go : IsBefore size hs grant g.before → g.before.space.size ≡ hs.limits.size
+      go : IsBefore size hs grant g.before → g.before.space.size ≡ usual_size hs.limits grant.place.heap
       go (inl old) = absurd (let e = old.0 in cc)
       go (inr made) = elim made.2 [
         | inl u ↦ ap (λ (v : View). v.size) u.1.space.view

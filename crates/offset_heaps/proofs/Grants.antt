@@ -10,8 +10,8 @@ use Rattle.offset_heaps.specs.declared.limits.Limits.{Limits}
 use Rattle.offset_heaps.specs.declared.place.Granted.{Granted}
 use Rattle.offset_heaps.specs.declared.refusal.Refusal.{Refusal}
 use Rattle.offset_heaps.specs.declared.refusal.Refusal.TheVariants.{Empty, TooLarge, Full, Memory}
-use Rattle.offset_heaps.specs.Heaps.{Heaps, Adds, Grants, IsBefore, IsFirstFit, IsForRoom, IsNext, IsWhy, MayEverFit, NoneFits, IsNew, IsSame, IsSpareLarger, IsSpareUsual, IsUsual, KeepsOthers, IsGrown, MustGrowIn, heap_at}
-use Rattle.offset_heaps.specs.{Heaps.larger_limit, Heaps.last_realm, Heaps.range_in, Heaps.range_of, Heaps.room_of, Heaps.slot, Slots.Changes, Slots.GrowsIn, Slots.KeepsOthersIn, Slots.Serves, Slots.ServesTight}
+use Rattle.offset_heaps.specs.Heaps.{Heaps, Adds, Grants, IsBefore, IsFirstFit, IsForRoom, IsNext, IsWhy, MayEverFit, NoneFits, IsNew, IsSame, IsSpareLarger, IsSpareUsual, IsUsual, KeepsOthers, IsGrown, MustGrowIn, heap_at, usual_size}
+use Rattle.offset_heaps.specs.{Heaps.larger_limit, Heaps.last_realm, Heaps.range_in, Heaps.range_of, Heaps.slot, Slots.Changes, Slots.GrowsIn, Slots.KeepsOthersIn, Slots.Serves, Slots.ServesTight}
 use Rattle.offset_heaps.proofs.{Growing.grown_range, Growing.must_in, Growing.set_twice}
 use Rattle.offset_heaps.proofs.{Numbers.slot_same, Places.none_if, Places.put_keeps, Places.same_realm, Places.shown, Rooms.fresh_none, Rooms.some_same}
 
@@ -40,13 +40,13 @@ module _ (hs ks : Heaps) (number size align : ℕ) (o : Option Guard) (ticket : 
   abbrev grant : Granted
   grant = record { place = record { heap = number; realm = hs.realm; ticket = ticket }; is_new = true }
 
-  pub granted_usual : (g : Guard) → IsSpareUsual number hs → IsUsual size hs → IsNew hs.limits.size hs.limits.first_allocs (hs.made + 1) g
+  pub granted_usual : (g : Guard) → IsSpareUsual size number hs → IsUsual size hs → IsNew (usual_size hs.limits number) hs.limits.first_allocs (hs.made + 1) g
       → Serves size 1 (Some g) o ticket → Grants size align hs ks grant
   granted_usual g spare usual new by =
       record {
         before = by.before;
         after = by.after;
-        heap = inr (refl, spare.1, inl (usual, subst (IsNew hs.limits.size hs.limits.first_allocs (hs.made + 1)) (some_same g by.before by.was) new));
+        heap = inr (refl, spare.1, inl (usual, subst (IsNew (usual_size hs.limits number) hs.limits.first_allocs (hs.made + 1)) (some_same g by.before by.was) new));
         step = inl (λ new. usual, by.step, by.accesses);
         grants = by.grants;
         realm = refl;
@@ -123,7 +123,7 @@ granted_if_since size align hs ks ls (Ok grant) same g = granted_since size alig
 granted_if_since size align hs ks ls (Err why) same g = g
 
 -- the first spare number for a heap of the usual size is the next one for a request that is usual
-pub next_usual : (units k : ℕ) (hs ks : Heaps) (r : Result Granted Refusal) → IsSame hs ks → IsUsual units hs → IsSpareUsual k hs → ((j : ℕ) → j < k → IsSpareUsual j hs → ⊥)
+pub next_usual : (units k : ℕ) (hs ks : Heaps) (r : Result Granted Refusal) → IsSame hs ks → IsUsual units hs → IsSpareUsual units k hs → ((j : ℕ) → j < k → IsSpareUsual units j hs → ⊥)
     → IfOk r (λ g. (g.is_new ≡ true) × (g.place.heap ≡ k) × (ks.made < last_realm)) → IfOk r (λ g. (g.is_new ≡ true) × IsNext units g.place.heap hs)
 next_usual units k hs ks (Ok g) same usual spare first made =
     let now = ap (λ (h : Heaps). h.made) same in
@@ -162,9 +162,9 @@ module _ (size align : ℕ) (hs ks : Heaps) (grant : Granted) (g : Grants size a
   pub others_kept : KeepsOthers grant.place hs ks
   others_kept = put_keeps hs ks grant.place.heap (Some g.after) slots realms g.number grant.place refl g.realm (kept g.heap)
     where
-      fresh : (t : Ticket) → ((IsUsual size hs × IsNew hs.limits.size hs.limits.first_allocs (hs.made + 1) g.before)
+      fresh : (t : Ticket) → ((IsUsual size hs × IsNew (usual_size hs.limits grant.place.heap) hs.limits.first_allocs (hs.made + 1) g.before)
           ⊎ ((IsUsual size hs → ⊥) × IsNew size larger_limit (hs.made + 1) g.before)) → guarded.range_of t g.before ≡ None
-      fresh t (inl usual) = fresh_none hs.limits.size hs.limits.first_allocs (hs.made + 1) g.before t usual.1
+      fresh t (inl usual) = fresh_none (usual_size hs.limits grant.place.heap) hs.limits.first_allocs (hs.made + 1) g.before t usual.1
       fresh t (inr larger) = fresh_none size larger_limit (hs.made + 1) g.before t larger.1
 
       kept : IsBefore size hs grant g.before → KeepsOthersIn grant.place.ticket (slot grant.place.heap hs.slots) (Some g.after)

@@ -4,6 +4,7 @@ pub mod Counting
 pub mod Decided
 pub mod DecidedCalls
 pub mod DecidedWalks
+pub mod Doubling
 pub mod EachOnce
 pub mod Empties
 pub mod Emptiest
@@ -14,6 +15,7 @@ pub mod Grants
 pub mod Growing
 pub mod Histories
 pub mod Numbers
+pub mod OneHeap
 pub mod Places
 pub mod Refusals
 pub mod Rooms

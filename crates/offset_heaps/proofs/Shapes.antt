@@ -1,10 +1,10 @@
 -- A heap that was made has the size and the node limit of its kind.
-use Rattle.std.proofs.Common.{◌≡◌, ℕ, ◌+◌, ◌<◌, ◌≤◌, ◌∙◌, Option, Some, IfSome, length, ap, sym, inl, inr, arith}
+use Rattle.std.proofs.Common.{◌≡◌, ℕ, ◌<◌, ◌≤◌, ◌∙◌, Option, Some, IfSome, length, ap, sym, inl, inr, arith}
 use Rattle.offset_allocator.specs.{Requests.units_needed, Tight.AlignsTight, View.Handle, View.View, View.padding_to}
 use Rattle.offset_guarded.specs.Guard.{Guard, handle_in}
 use Rattle.offset_guarded.specs.declared.ticket.Ticket.{Ticket}
 use Rattle.offset_heaps.specs.declared.limits.Limits.{Limits}
-use Rattle.offset_heaps.specs.{Heaps.IsFirstLimit, Heaps.IsNew, Heaps.IsOfKind, Heaps.larger_limit, Slots.Serves, Slots.ServesTight}
+use Rattle.offset_heaps.specs.{Heaps.IsFirstLimit, Heaps.IsNew, Heaps.IsOfKind, Heaps.larger_limit, Heaps.usual_size, Slots.Serves, Slots.ServesTight}
 use Rattle.offset_heaps.proofs.{Growing.begun_left, Growing.split_blocks, Rooms.some_same, Sound.kind_kept}
 
 pub size_tight : (n : ℕ) (v w : View) (h : Handle) → AlignsTight n 1 v w (Some h) → w.size ≡ v.size
@@ -15,7 +15,7 @@ limit_tight : (n : ℕ) (v w : View) (h : Handle) → AlignsTight n 1 v w (Some 
 limit_tight n v w h (inl a) = ap (λ (v : View). v.max_allocs) a.1.view
 limit_tight n v w h (inr f) = ap (λ (v : View). v.max_allocs) f.1.1.3.view
 
-pub kind_usual : (limits : Limits) (k realm size align : ℕ) (g : Guard) (o : Option Guard) (t : Ticket) → k < limits.most → IsFirstLimit limits → 4 ≤ limits.max_allocs → IsNew limits.size limits.first_allocs realm g
+pub kind_usual : (limits : Limits) (k realm size align : ℕ) (g : Guard) (o : Option Guard) (t : Ticket) → k < limits.most → IsFirstLimit limits → 4 ≤ limits.max_allocs → IsNew (usual_size limits k) limits.first_allocs realm g
     → Serves size align (Some g) o t
     → IfSome o (IsOfKind limits k)
 kind_usual limits k realm size align g o t l first least new by =
@@ -28,7 +28,7 @@ kind_usual limits k realm size align g o t l first least new by =
     let few = split_blocks (units_needed size align) size (padding_to align) by.before.space by.after.space (handle_in t) by.step.1 in
     kind_kept limits k (Some g) o by.before by.after by.was by.is (ap (λ (v : View). v.size) by.step.1.view) kept
     (λ _ _. begun_left limits k (length by.after.space.blocks) by.after.space.max_allocs first least (omega (arith, few, one)) (omega (arith, kept, own, limit)))
-    (inl (l, units, (omega (arith, limit), omega (arith, limit, first.1), begun_left limits k (length g.space.blocks) g.space.max_allocs first least (omega (arith, one, ap (λ (z : Guard). length z.space.blocks) same)) (omega (arith, limit)))))
+    (inl (l, omega (arith, units), (omega (arith, limit), omega (arith, limit, first.1), begun_left limits k (length g.space.blocks) g.space.max_allocs first least (omega (arith, one, ap (λ (z : Guard). length z.space.blocks) same)) (omega (arith, limit)))))
 
 pub kind_larger : (limits : Limits) (k realm size : ℕ) (g : Guard) (o : Option Guard) (t : Ticket) → limits.most ≤ k → 1 ≤ size → IsNew size larger_limit realm g → ServesTight size (Some g) o t
     → IfSome o (IsOfKind limits k)

@@ -6,7 +6,7 @@ use Rattle.offset_allocator.specs.View.{View}
 use Rattle.offset_guarded.specs.Guard.{Guard}
 use Rattle.offset_heaps.specs.declared.limits.Limits.{Limits}
 use Rattle.offset_heaps.specs.declared.index.Index.{Index}
-use Rattle.offset_heaps.specs.{Heaps.HasNodesLeft, Heaps.IsFirstLimit, Heaps.IsOfKind, Heaps.slot, Heaps.room_of, Slots.Changes, Slots.ResetsIn, Soundness.IsNoted, Soundness.IsSound, Soundness.IsWide, Soundness.empty_key, Soundness.spare_of, Maxima.cell}
+use Rattle.offset_heaps.specs.{Heaps.HasNodesLeft, Heaps.IsFirstLimit, Heaps.IsOfKind, Heaps.slot, Heaps.room_of, Heaps.usual_size, Slots.Changes, Slots.ResetsIn, Soundness.IsNoted, Soundness.IsSound, Soundness.IsWide, Soundness.empty_key, Soundness.spare_of, Maxima.cell}
 use Rattle.offset_heaps.proofs.Numbers.{slot_other, slot_same}
 
 pub wide_put : (slots : List (Option Guard)) (index : Index) (k : ℕ) (o : Option Guard) → IsWide slots index → IsWide (slice_set slots k o) index
@@ -71,6 +71,7 @@ module _ (max : ℕ) (slots : List (Option Guard)) (limits : Limits) (made then 
         limit_min = is.limit_min;
         limit_max = is.limit_max;
         limit_first = is.limit_first;
+        size_first = is.size_first;
         realms = realms_put below l;
         kinds = kinds_put kind l;
       }
@@ -88,7 +89,7 @@ pub kind_kept : (limits : Limits) (k : ℕ) (old new : Option Guard) (before aft
 kind_kept limits k old new before after was is size limit left kind = rw is (same (subst (λ o. IfSome o (IsOfKind limits k)) was kind))
   where
     same : IsOfKind limits k before → IsOfKind limits k after
-    same (inl u) = inl (u.0, size ∙ u.1, (omega (arith, limit, u.2.0), omega (arith, limit, u.2.1), left u.0 u.2))
+    same (inl u) = inl (u.0, subst (λ n. usual_size limits k ≤ n) (sym size) u.1, (omega (arith, limit, u.2.0), omega (arith, limit, u.2.1), left u.0 u.2))
     same (inr l) = let some = l.1 in inr (l.0, omega (arith, size, some), limit ∙ l.2)
 
 -- with no heap and keys of 0, what is behind the last number is noted

@@ -72,7 +72,7 @@ abbrev pub is_less : Wanted → Bool
 is_less (Less n) = true
 is_less (More n) = false
 
--- few nodes of a heap of the usual size are unused: fewer than four, where its node limit is below the largest one
+-- few nodes of a usual heap are unused: fewer than four, where its node limit is below the largest one
 abbrev pub IsNear : Limits → ℕ → Guard → Type 0
 IsNear limits k g = (k < limits.most) × (g.space.max_allocs < limits.max_allocs) × (g.space.max_allocs < length g.space.blocks + 4)
 

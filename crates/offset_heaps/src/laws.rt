@@ -1,6 +1,6 @@
 //! Laws: what holds of all heaps. Its functions do nothing.
-ghost use Rattle.std.specs.Prelude.{ℕ, List, ◌≡◌, ◌↔◌, ◌+◌, ◌-◌, ◌*◌, ◌<◌, ◌≤◌, ◌∷◌, None, Some, IfSome, length};
-ghost use Rattle.std.specs.Prelude.{Bool, Err, IfErr, MatchOption, Option, Result, option_map, true};
+ghost use Rattle.std.specs.Prelude.{ℕ, List, ◌≡◌, ◌↔◌, ◌+◌, ◌-◌, ◌*◌, ◌^◌, ◌<◌, ◌≤◌, ◌∷◌, None, Some, IfSome};
+ghost use Rattle.std.specs.Prelude.{Bool, Err, IfErr, MatchOption, Option, Result, length, min, option_map, true};
 ghost use Rattle.std.specs.List.{AllByRecursion};
 ghost use Rattle.offset_allocator.specs.Ranges.{AreDisjoint, Range};
 ghost use Rattle.offset_allocator.specs.Reporting.Reports.{IsReport};
@@ -9,7 +9,7 @@ ghost use Rattle.offset_allocator.specs.declared.reports.StorageReport.{StorageR
 ghost use Rattle.offset_guarded.specs.Guard.{Guard, HasSerialLeft, IsRaised};
 ghost use Rattle.offset_heaps.specs.Heaps.{Heaps, room, AreAlike, AreTotals, heap_at, numbers, range_of};
 ghost use Rattle.offset_heaps.specs.Heaps.{Grants, IsFirstFit, IsLive, IsNext, IsUsual, IsWhy, MustGrowIn, Puts};
-ghost use Rattle.offset_heaps.specs.Heaps.{size_of, total};
+ghost use Rattle.offset_heaps.specs.Heaps.{IsFirstSize, size_of, total, usual_room, usual_size};
 ghost use Rattle.offset_heaps.specs.Histories.{AreSteps, IsGone, IsStep, ResetsAll};
 ghost use Rattle.offset_heaps.specs.Numbering.{AreOfLive, MeetsPlaces, first_from, live_places, next_place};
 ghost use Rattle.offset_heaps.specs.State.{IsCopy, IsStateOf, IsWellFormed, SameHeaps};
@@ -21,6 +21,7 @@ ghost use Rattle.offset_heaps.specs.Calls.{GoAll, Goes, Packs, Relocates, Reply,
 ghost use Rattle.offset_heaps.specs.Asking.{IsRefusedFor, IsServed};
 ghost use Rattle.offset_heaps.specs.Changing.{Wanted};
 ghost use Rattle.offset_allocator.specs.declared.moves.room.RoomCost.{RoomCost};
+ghost use Rattle.offset_heaps.specs.declared.limits.Limits.{Limits};
 ghost use Rattle.offset_heaps.specs.declared.place.Granted.{Granted};
 ghost use Rattle.offset_heaps.specs.declared.place.Place.{Place};
 ghost use Rattle.offset_heaps.specs.declared.refusal.Refusal.{Refusal};
@@ -93,13 +94,27 @@ pub fn refusals_are_foretold()
         → MatchOption why (IfErr r (λ w. w ≡ Memory)) (λ w. r ≡ Err w) }
 {}
 
-/// A heap that is made for a request has the units of the limits where the request is usual, and else those
-/// of the request: what `units_of_heap` returns after it.
+/// A heap that is made for a request is the usual one of its number where the request is usual, and else has
+/// the units of the request: what `units_of_heap` returns after it.
 pub fn new_heaps_have_their_units()
     ensures usual { (size align : ℕ) (hs ks : Heaps) (g : Granted) → Grants size align hs ks g
-        → g.is_new ≡ true → IsUsual size hs → option_map size_of (heap_at g.place.heap ks) ≡ Some hs.limits.size }
+        → g.is_new ≡ true → IsUsual size hs
+        → option_map size_of (heap_at g.place.heap ks) ≡ Some (usual_size hs.limits g.place.heap) }
     ensures larger { (size align : ℕ) (hs ks : Heaps) (g : Granted) → Grants size align hs ks g
         → g.is_new ≡ true → (IsUsual size hs → ⊥) → option_map size_of (heap_at g.place.heap ks) ≡ Some size }
+{}
+
+/// Usual heaps double: that of number 0 has `first_size` units, and each later one twice as many as the one
+/// before it, up to `size`. Where `first_size` is `size`, all have that size. A request is usual exactly where
+/// the usual heap of some number has room for it when it is fresh.
+pub fn usual_heaps_double()
+    ensures first { (limits : Limits) → IsFirstSize limits → usual_size limits 0 ≡ limits.first_size }
+    ensures next { (limits : Limits) (k : ℕ)
+        → usual_size limits (k + 1) ≡ min (2 * usual_size limits k) limits.size }
+    ensures alike { (limits : Limits) (k : ℕ) → limits.first_size ≡ limits.size
+        → usual_size limits k ≡ limits.size }
+    ensures usual { (size : ℕ) (hs : Heaps) → hs.limits.size < 2 ^ 32 → 1 ≤ hs.limits.most
+        → IsUsual size hs ↔ ((k : ℕ) × (k < hs.limits.most) × (size ≤ usual_room hs.limits k)) }
 {}
 
 /// There is a slot for each number, and no heap has a realm that a later one will have: theirs are above

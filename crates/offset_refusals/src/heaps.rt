@@ -18,6 +18,7 @@ fn made_from<T: Tables>(alloc: Global, script: &Script, nodes: u32) -> Result<He
     }
     let limits = Limits {
         size: script.size,
+        first_size: script.size,
         max_allocs: limit,
         first_allocs: limit.min(nodes.max(8)),
         most: 4,

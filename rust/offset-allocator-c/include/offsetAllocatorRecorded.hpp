@@ -548,7 +548,7 @@ class RecordedHeaps {
 public:
     explicit RecordedHeaps(std::FILE *file, const HeapLimits &limits, uint32 realm = 0) noexcept : RecordedHeaps(file, Heaps(limits, realm)) {}
     // Heaps that there are, from now on: as Recorded with one allocator.
-    RecordedHeaps(std::FILE *file, Heaps &&made) noexcept : heaps(std::move(made)), tape(file), next(nullptr), usual(0), maxAllocs(0), most(0), all(0) {
+    RecordedHeaps(std::FILE *file, Heaps &&made) noexcept : heaps(std::move(made)), tape(file), next(nullptr), maxAllocs(0), most(0), all(0) {
         detail::Bytes bytes;
         if (!heaps || !heaps.save(bytes) || bytes.size() == 0) {
             tape.fail();
@@ -556,15 +556,15 @@ public:
         }
         // docs/STATES.md has the form
         auto word = [&](size_t i) { return bytes.number(8 * i, 8); };
-        usual = uint32(word(2));
-        maxAllocs = uint32(word(3));
-        most = uint32(word(5));
-        all = most + uint32(word(6));
+        const HeapLimits limits = heaps.limits();
+        maxAllocs = limits.maxAllocs;
+        most = limits.most;
+        all = most + limits.mostLarger;
         bool hasHeaps = false;
         for (uint32 number = 0; number < all && !tape.isFailed(); number++)
-            if (word(9 + number) != word(10 + number)) {
-                size_t state = 8 * (size_t(all) + 11) + size_t(word(9 + number));
-                // who plays it needs the largest limit that a heap of the usual size may grow to
+            if (word(10 + number) != word(11 + number)) {
+                size_t state = 8 * (size_t(all) + 12) + size_t(word(10 + number));
+                // who plays it needs the largest limit that a usual heap may grow to
                 uint32 nodes = number < most ? maxAllocs : 0;
                 if (Grants *of = grants(number)) of->begin(*this, bytes, detail::spaceBehindTickets(bytes, state), nodes);
                 hasHeaps = true;
@@ -710,8 +710,8 @@ private:
     detail::Items<Grants *> held;
     // the name of the next request
     char *next;
-    // the limits of heaps of the usual size, and how many of all there may be
-    uint32 usual, maxAllocs, most, all;
+    // the limit of usual heaps, and how many of these and of all there may be
+    uint32 maxAllocs, most, all;
 
     static char *copied(const char *text, const char *more = "") {
         if (!text) return nullptr;
@@ -760,8 +760,8 @@ private:
         bool isLarger = found.isNew && heap >= most;
         if (found.isNew) {
             if (Grants *of = grants(heap)) of->forget();
-            // a larger heap has the units of its request, and may have three blocks
-            tape.write("heap %u space %u nodes %u index 32\n", heap, isLarger ? units : usual, isLarger ? 4 : maxAllocs);
+            // a larger heap may have three blocks
+            tape.write("heap %u space %u nodes %u index 32\n", heap, heaps.unitsOfHeap(heap), isLarger ? 4 : maxAllocs);
         }
         tape.comment(next);
         if (isLarger) tape.write("heap %u tight %u\n", heap, units);

@@ -21,6 +21,9 @@ pub struct HeapLimits {
     max_allocs: u32,
     most: u32,
     most_larger: u32,
+    // of these 0 means size, and max_allocs
+    first_size: u32,
+    first_allocs: u32,
 }
 
 /// A granted range: its ticket, the number of its heap, and the realm.
@@ -75,6 +78,8 @@ pub struct HeapsRead {
 const NOWHERE: At = At { ticket: NO_TICKET, heap: NO_SPACE, realm: 0 };
 
 const BAD_CALL: Answer = Answer { place: NOWHERE, is_new: false, refusal: Why::BadCall };
+
+const NO_LIMITS: HeapLimits = HeapLimits { size: 0, max_allocs: 0, most: 0, most_larger: 0, first_size: 0, first_allocs: 0 };
 
 const NOTHING_AT_ALL: All = All { heaps: 0, largest_free_region: 0, units: 0, live_units: 0, free_units: 0 };
 
@@ -135,22 +140,25 @@ fn read(state: &[u8], most_heaps: u32, most_allocs: u32) -> HeapsRead {
     }
 }
 
-// Heaps that begin with so many nodes, where the library admits these limits.
-fn from(limits: HeapLimits, first_allocs: u32, realm: u32) -> Option<Box<ManyHeaps>> {
-    let HeapLimits { size, max_allocs, most, most_larger } = limits;
-    let begins = (max_allocs.min(8)..=max_allocs).contains(&first_allocs);
+// What is left out is as large as it may be.
+fn or(first: u32, largest: u32) -> u32 {
+    if first == 0 { largest } else { first }
+}
+
+// No heap yet, where the library admits these limits.
+fn made(limits: HeapLimits, realm: u32) -> Option<Box<ManyHeaps>> {
+    let HeapLimits { size, max_allocs, most, most_larger, first_size, first_allocs } = limits;
+    let first_size = or(first_size, size);
+    let first_allocs = or(first_allocs, max_allocs);
+    let begins = first_size <= size && (max_allocs.min(8)..=max_allocs).contains(&first_allocs);
     if !begins || !(4..=u32::MAX - 2).contains(&max_allocs) || most.checked_add(most_larger).is_none() {
         return None;
     }
-    boxed(Heaps::new(Global, Limits { size, max_allocs, first_allocs, most, most_larger }, realm).ok()?)
+    boxed(Heaps::new(Global, Limits { size, first_size, max_allocs, first_allocs, most, most_larger }, realm).ok()?)
 }
 
 exports! {
-    fn oah_new(limits: HeapLimits, realm: u32) -> Option<Box<ManyHeaps>> { from(limits, limits.max_allocs, realm) } else ();
-
-    fn oah_new_from(limits: HeapLimits, first_allocs: u32, realm: u32) -> Option<Box<ManyHeaps>> {
-        from(limits, first_allocs, realm)
-    } else ();
+    fn oah_new(limits: HeapLimits, realm: u32) -> Option<Box<ManyHeaps>> { made(limits, realm) } else ();
 
     fn oah_drop(heaps: Option<Box<ManyHeaps>>) -> () { drop(heaps) } else ();
 
@@ -211,9 +219,9 @@ exports! {
     fn oah_units_of_heap([heaps: &ManyHeaps], number: u32) -> u32 { heaps.units_of_heap(number).unwrap_or(0) } else 0;
 
     fn oah_limits_of([heaps: &ManyHeaps],) -> HeapLimits {
-        let Limits { size, max_allocs, most, most_larger, .. } = heaps.limits();
-        HeapLimits { size, max_allocs, most, most_larger }
-    } else HeapLimits { size: 0, max_allocs: 0, most: 0, most_larger: 0 };
+        let Limits { size, first_size, max_allocs, first_allocs, most, most_larger } = heaps.limits();
+        HeapLimits { size, max_allocs, most, most_larger, first_size, first_allocs }
+    } else NO_LIMITS;
 
     fn oah_shrink([heaps: &mut ManyHeaps], at: At, size: u32) -> bool {
         heaps.shrink(place(at), size).unwrap_or(false)

@@ -406,6 +406,8 @@ static void randomHeaps(uint64_t seed, const std::string &path) {
     uint64_t state = seed;
     std::FILE *file = std::fopen((path + ".script").c_str(), "w"), *answers = std::fopen((path + ".answers").c_str(), "w");
     HeapLimits limits = {200 + below(state, 2000), 4 + below(state, 30), below(state, 5), below(state, 4)};
+    // of some the first heaps are small
+    if (seed % 3 == 0) limits.firstSize = 1 + limits.size / 9;
     Heaps made(limits, 3);
     std::vector<Place> places;
     if (seed % 2)

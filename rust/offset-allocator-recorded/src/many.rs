@@ -208,7 +208,7 @@ impl<W: Write> Write for Part<W> {
 /// ```
 /// # use offset_allocator_recorded::*;
 /// # use offset_allocator_heaps::{Heaps, Limits};
-/// let limits = Limits { size: 1000, max_allocs: 16, first_allocs: 16, most: 2, most_larger: 1 };
+/// let limits = Limits { size: 1000, first_size: 1000, max_allocs: 16, first_allocs: 16, most: 2, most_larger: 1 };
 /// let mut heaps = RecordedHeaps::new(Heaps::<u32>::new(Global, limits, 1).unwrap(), Vec::new()).unwrap();
 /// let rock = heaps.name("mesh: rock").allocate(300).unwrap();
 /// assert!(heaps.allocate(0).is_err());

@@ -17,7 +17,7 @@ fn fault(text: &str) -> String {
 
 #[test]
 fn ranges_of_heaps_change_in_place() {
-    let limits = Limits { size: 100, max_allocs: 16, first_allocs: 8, most: 1, most_larger: 0 };
+    let limits = Limits { size: 100, first_size: 100, max_allocs: 16, first_allocs: 8, most: 1, most_larger: 0 };
     let mut heaps = RecordedHeaps::new(Heaps::<u16>::new(Global, limits, 1).unwrap(), Vec::new()).unwrap();
     let places: Vec<Place> = [20, 20, 20].map(|size| heaps.allocate(size).unwrap().place).to_vec();
     // four of eight nodes are unused, so one more block may be added, and with three unused none may
@@ -40,7 +40,7 @@ fn ranges_of_heaps_change_in_place() {
 
 #[test]
 fn each_call_of_heaps_is_a_line() {
-    let limits = Limits { size: 1000, max_allocs: 16, first_allocs: 16, most: 2, most_larger: 1 };
+    let limits = Limits { size: 1000, first_size: 1000, max_allocs: 16, first_allocs: 16, most: 2, most_larger: 1 };
     let mut heaps = RecordedHeaps::new(Heaps::<u16>::new(Global, limits, 1).unwrap(), Vec::new()).unwrap();
     let rock = heaps.name("mesh: rock\nand moss").allocate(300).unwrap();
     assert!(rock.is_new);
@@ -148,7 +148,7 @@ fn several_threads_write_whole_lines() {
 // Who plays it has heaps that do not grow: so each has the largest limit from the start.
 #[test]
 fn a_heap_that_grows_has_its_largest_limit() {
-    let limits = Limits { size: 1000, max_allocs: 100, first_allocs: 8, most: 1, most_larger: 0 };
+    let limits = Limits { size: 1000, first_size: 1000, max_allocs: 100, first_allocs: 8, most: 1, most_larger: 0 };
     let mut heaps = RecordedHeaps::new(Heaps::<u32>::new(Global, limits, 1).unwrap(), Vec::new()).unwrap();
     assert!((0..50).all(|_| heaps.allocate(1).is_ok()));
     assert_eq!(heaps.heap(0).unwrap().allocator().max_allocs(), 64);
@@ -235,7 +235,7 @@ fn a_recording_that_is_finished_too_early_goes_on() {
 
 #[test]
 fn a_failure_ends_the_recording_alone() {
-    let limits = Limits { size: 1000, max_allocs: 16, first_allocs: 16, most: 2, most_larger: 1 };
+    let limits = Limits { size: 1000, first_size: 1000, max_allocs: 16, first_allocs: 16, most: 2, most_larger: 1 };
     let mut room = [0u8; 60];
     let mut heaps = RecordedHeaps::new(Heaps::<u32>::new(Global, limits, 1).unwrap(), &mut room[..]).unwrap();
     assert!(heaps.allocate(300).is_ok() && heaps.failure().is_none());
@@ -260,7 +260,10 @@ fn random_heaps<T: Tables>(seed: u64) -> (usize, usize) {
     let mut random = Random(seed);
     let max_allocs = 4 + random.below(30);
     let first_allocs = if seed % 3 == 0 { max_allocs.min(8) } else { max_allocs };
-    let limits = Limits { size: 200 + random.below(2000), max_allocs, first_allocs, most: random.below(5), most_larger: random.below(4) };
+    let size = 200 + random.below(2000);
+    // of some the first heaps are small
+    let first_size = if seed % 4 == 0 { 1 + size / 9 } else { size };
+    let limits = Limits { size, first_size, max_allocs, first_allocs, most: random.below(5), most_larger: random.below(4) };
     let mut heaps = HeapsOf::<T>::new(Global, limits, 3).unwrap();
     let mut places: Vec<Place> = Vec::new();
     if seed % 2 == 0 {
