@@ -11,16 +11,16 @@ use Rattle.offset_heaps.specs.declared.place.Granted.{Granted}
 use Rattle.offset_heaps.specs.declared.place.Place.{Place}
 use Rattle.offset_heaps.specs.declared.refusal.Refusal.{Refusal}
 use Rattle.offset_heaps.specs.declared.refusal.Refusal.TheVariants.{Memory}
-use Rattle.offset_heaps.specs.Changing.{CanResizeAt, CanResizeIn, ResizesAt, Wanted, Less, More, Alters, CompactsIn, MakesRoomIn, Resizes, ResizesSpace}
+use Rattle.offset_heaps.specs.Changing.{CanResizeAt, CanResizeIn, ResizesAt, Wanted, Less, More, Alters, CompactsAll, CompactsIn, PacksIn, MakesRoomIn, Resizes, ResizesSpace}
 use Rattle.offset_heaps.specs.Heaps.{Heaps, Grants, IsFirstFit, IsNext, IsSame, IsWhy, NoneFits, Puts, heap_at, is_empty, empties, live_of, numbers, part, slot, AreTotals, free_of, largest_room}
 use Rattle.offset_heaps.specs.{Heaps.room_of, Heaps.size_of, Heaps.total, Histories.ResetsAll, State.quiet, Twins.AreTwins, Twins.IsTwin, Twins.IsTwinIn}
 use Rattle.offset_heaps.specs.declared.totals.Totals.{Totals}
 use Rattle.offset_heaps.specs.Relocating.{HasLive, IsEmptiest, NoneLive, TakesRange, granted, live_at, units_in, units_of}
 use Rattle.offset_heaps.specs.State as state
 use Rattle.offset_heaps.proofs.{States.slot_quiet, Empties.empty_there, Grants.memory_alone, Grants.none_found, Grants.one_reason, Numbers.slot_there}
-use Rattle.offset_heaps.specs.Calls.{Allocates, TakesAll, Call, Allocate, Free, Relocate, Drop_empty, Drop_heap, Give_up, Reset, Resize, Compact_heap, Make_room, Drops, DropsEmpty, Frees, GivesUp, IsStarved, Relocates, Reply, Requested, Second, Dropped, Was_done, Resized, Room_made, Takes, TakesRoom, TakesSize, Packs, Notes}
+use Rattle.offset_heaps.specs.Calls.{Allocates, TakesAll, Call, Allocate, Free, Relocate, Drop_empty, Drop_heap, Give_up, Reset, Resize, Compact_heap, Compact_all, Make_room, Drops, DropsEmpty, Frees, GivesUp, IsStarved, Relocates, Reply, Requested, Second, Dropped, Was_done, Resized, Room_made, Takes, TakesRoom, TakesSize, Packs, Notes}
 use Rattle.offset_heaps.proofs.Decided.{first_twins, grants_decided, known, known_at, must_in_twins, next_twins, none_fit_twins, one_first, one_fit, one_next, why_twins}
-use Rattle.offset_heaps.proofs.Twins.{as_twin, free_twins, kept_twins, none_twins, option_twin, put_twins, range_twins, reset_twins, room_twins, slid_twins, some_twin, total_twins, twins_sym}
+use Rattle.offset_heaps.proofs.Twins.{as_twin, free_twins, kept_twins, none_twins, option_twin, put_twins, range_twins, reset_twins, room_twins, slid_twins, some_twin, total_twins, twin_some, twins_sym}
 
 -- ---- what calls leave
 same_twins : (hs hs' ks ks' : Heaps) → AreTwins hs hs' → IsSame hs ks → IsSame hs' ks' → AreTwins ks ks'
@@ -150,6 +150,23 @@ packs_decided k hs hs' ks ks' t true true x y =
     let before = before_twins k CompactsIn CompactsIn hs hs' ks ks' t a b in
     let after = compacts_decided a.before.space b.before.space a.after.space b.after.space before.space a.by.step b.by.step in
     (refl, alters_twins k CompactsIn CompactsIn hs hs' ks ks' t a b (slid_twins a.before b.before a.after b.after before a.by.serials b.by.serials a.by.sizes after))
+
+packed_twins : (o o' p p' : Option Guard) → IsTwinIn o o' → PacksIn o p → PacksIn o' p' → IsTwinIn p p'
+packed_twins None o' p p' twin f f' =
+    let none : p' ≡ None = subst (λ o. PacksIn o p') twin f' in
+    subst (λ p. IsTwinIn p p') (sym f) none
+packed_twins (Some g) o' p p' twin f f' =
+    let k : PacksIn (Some twin.0) p' = subst (λ o. PacksIn o p') twin.1 f' in
+    let after = compacts_decided g.space twin.0.space f.0.space k.0.space twin.2.space f.2.step k.2.step in
+    twin_some f.0 k.0 p p' f.1 k.1 (slid_twins g twin.0 f.0 k.0 twin.2 f.2.serials k.2.serials f.2.sizes after)
+
+pub compacts_all_decided : (hs hs' ks ks' : Heaps) → AreTwins hs hs' → CompactsAll hs ks → CompactsAll hs' ks' → AreTwins ks ks'
+compacts_all_decided hs hs' ks ks' t x y = record {
+  limits = ap (λ (h : Heaps). h.limits) y.rest ∙ t.limits ∙ sym (ap (λ (h : Heaps). h.limits) x.rest);
+  made = ap (λ (h : Heaps). h.made) y.rest ∙ t.made ∙ sym (ap (λ (h : Heaps). h.made) x.rest);
+  realm = ap (λ (h : Heaps). h.realm) y.rest ∙ t.realm ∙ sym (ap (λ (h : Heaps). h.realm) x.rest);
+  heaps = λ k. packed_twins (heap_at k hs) (heap_at k hs') (heap_at k ks) (heap_at k ks') (t.heaps k) (x.heaps k) (y.heaps k);
+}
 
 pub room_decided : (k size : ℕ) (hs hs' ks ks' : Heaps) → state.IsWellFormed hs → AreTwins hs hs' → (r r' : Option RoomCost) → TakesRoom k size hs ks r → TakesRoom k size hs' ks' r' → (r ≡ r') × AreTwins ks ks'
 room_decided k size hs hs' ks ks' is t r r' x y = go (heap_at k hs) refl
@@ -323,6 +340,7 @@ takes_decided (Give_up k) hs hs' ks ks' is t r r' x y m n = let e = gives_up_dec
 takes_decided Reset hs hs' ks ks' is t r r' x y m n = (x.0 ∙ sym y.0, resets_decided hs hs' ks ks' is t x.1 y.1)
 takes_decided (Resize how p) hs hs' ks ks' is t r r' x y m n = let e = size_decided how p hs hs' ks ks' is t x.0 y.0 x.2 y.2 in (x.1 ∙ ap Resized e.0 ∙ sym y.1, e.1)
 takes_decided (Compact_heap k) hs hs' ks ks' is t r r' x y m n = let e = packs_decided k hs hs' ks ks' t x.0 y.0 x.2 y.2 in (x.1 ∙ ap Was_done e.0 ∙ sym y.1, e.1)
+takes_decided Compact_all hs hs' ks ks' is t r r' x y m n = (x.0 ∙ sym y.0, compacts_all_decided hs hs' ks ks' t x.1 y.1)
 takes_decided (Make_room k size) hs hs' ks ks' is t r r' x y m n = let e = room_decided k size hs hs' ks ks' is t x.0 y.0 x.2 y.2 in (x.1 ∙ ap Room_made e.0 ∙ sym y.1, e.1)
 
 pub taken_decided : (cs : List Call) (hs hs' ks ks' : Heaps) → state.IsWellFormed hs → AreTwins hs hs' → (rs rs' : List Reply) → TakesAll hs cs rs ks → TakesAll hs' cs rs' ks' → (rs ≡ rs') × AreTwins ks ks'

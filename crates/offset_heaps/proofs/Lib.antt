@@ -14,6 +14,7 @@ pub mod Grants
 pub mod Growing
 pub mod Histories
 pub mod Numbers
+pub mod Packing
 pub mod Places
 pub mod Refusals
 pub mod Rooms

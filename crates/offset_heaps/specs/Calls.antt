@@ -3,7 +3,7 @@ use Rattle.std.specs.Prelude.{◌≡◌, ◌↔◌, ℕ, ◌<◌, ◌≤◌, Boo
 use Rattle.offset_allocator.specs.Moving.Compacting.{Move}
 use Rattle.offset_allocator.specs.Requests.{blocks_needed, units_needed}
 use Rattle.offset_allocator.specs.declared.moves.room.RoomCost.{RoomCost}
-use Rattle.offset_heaps.specs.Changing.{CanResizeAt, CompactsHeap, MakesRoomAt, ResizesAt, Wanted}
+use Rattle.offset_heaps.specs.Changing.{CanResizeAt, CompactsAll, CompactsHeap, MakesRoomAt, ResizesAt, Wanted}
 use Rattle.offset_heaps.specs.declared.place.Granted.{Granted}
 use Rattle.offset_heaps.specs.declared.place.Place.{Place}
 use Rattle.offset_heaps.specs.declared.refusal.Refusal.{Refusal}
@@ -102,6 +102,7 @@ pub data Call : Type 0 where
   Reset : Call
   Resize : Wanted → Place → Call
   Compact_heap : ℕ → Call
+  Compact_all : Call
   -- room for so many units in the heap of a number
   Make_room : ℕ → ℕ → Call
 
@@ -126,6 +127,7 @@ Takes (Give_up k) hs ks reply = (r : Bool) × (reply ≡ Was_done r) × GivesUp 
 Takes Reset hs ks reply = (reply ≡ Nothing) × ResetsAll hs ks
 Takes (Resize how p) hs ks reply = (r : Option Bool) × (reply ≡ Resized r) × TakesSize how p hs ks r
 Takes (Compact_heap k) hs ks reply = (r : Bool) × (reply ≡ Was_done r) × Packs k hs ks r
+Takes Compact_all hs ks reply = (reply ≡ Nothing) × CompactsAll hs ks
 Takes (Make_room k size) hs ks reply = (r : Option RoomCost) × (reply ≡ Room_made r) × TakesRoom k size hs ks r
 
 -- a request was refused for want of memory

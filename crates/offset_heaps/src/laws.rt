@@ -19,7 +19,7 @@ ghost use Rattle.offset_heaps.specs.Twins.{AreTwins};
 ghost use Rattle.offset_heaps.specs.Calls.{Allocates, TakesAll, Call, Drops, DropsEmpty, Frees, GivesUp};
 ghost use Rattle.offset_heaps.specs.Calls.{GoAll, Goes, Packs, Relocates, Reply, TakesRoom, TakesSize};
 ghost use Rattle.offset_heaps.specs.Asking.{IsRefusedFor, IsServed};
-ghost use Rattle.offset_heaps.specs.Changing.{Wanted};
+ghost use Rattle.offset_heaps.specs.Changing.{CompactsAll, Wanted};
 ghost use Rattle.offset_allocator.specs.declared.moves.room.RoomCost.{RoomCost};
 ghost use Rattle.offset_heaps.specs.declared.place.Granted.{Granted};
 ghost use Rattle.offset_heaps.specs.declared.place.Place.{Place};
@@ -204,6 +204,8 @@ pub fn a_state_decides_each_step()
         → (r ≡ r') × AreTwins ks ks' }
     ensures compact_heap { (k : ℕ) (hs hs' ks ks' : Heaps) → AreTwins hs hs' → (r r' : Bool)
         → Packs k hs ks r → Packs k hs' ks' r' → (r ≡ r') × AreTwins ks ks' }
+    ensures compact { (hs hs' ks ks' : Heaps) → AreTwins hs hs' → CompactsAll hs ks → CompactsAll hs' ks'
+        → AreTwins ks ks' }
     ensures make_room { (k size : ℕ) (hs hs' ks ks' : Heaps) → IsWellFormed hs → AreTwins hs hs'
         → (r r' : Option RoomCost) → TakesRoom k size hs ks r → TakesRoom k size hs' ks' r'
         → (r ≡ r') × AreTwins ks ks' }

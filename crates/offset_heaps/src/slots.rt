@@ -9,7 +9,7 @@ ghost use Rattle.offset_allocator.specs.Tight.{CanHold};
 ghost use Rattle.offset_guarded.specs.Guard.{Guard, HasSerialLeft, IsLive};
 ghost use Rattle.offset_allocator.specs.Moving.Compacting.{IsCalledWith};
 ghost use Rattle.offset_heaps.specs.Changing.{AltersIn, CanResize, CanResizeIn, CompactsIn, IsNear, MakesRoomIn, Resizes};
-ghost use Rattle.offset_heaps.specs.Changing.{moves_in, wanted};
+ghost use Rattle.offset_heaps.specs.Changing.{IsCalledAt, PacksIn, moves_in, numbered, wanted};
 ghost use Rattle.offset_heaps.specs.Heaps.{MustGrow, MustGrowIn, is_empty, live_of, part, range_in, room, room_of};
 ghost use Rattle.offset_heaps.specs.Heaps.{slot};
 ghost use Rattle.offset_heaps.specs.Numbering.{IsHeapFrom, NoHeapFrom};
@@ -17,6 +17,7 @@ ghost use Rattle.offset_heaps.specs.Relocating.{HasLive, IsEmptiest, NoneLive, T
 ghost use Rattle.offset_heaps.specs.Slots.{CanHoldIn, Changes, FreesIn, GrowsIn, KeepsOthersIn};
 ghost use Rattle.offset_heaps.specs.Slots.{IsMore, ResetsIn, Serves, ServesTight};
 
+use crate::compacting::compact_numbered;
 use crate::index::{is_empty_heap, rooms};
 use crate::limits::Limits;
 use crate::resize::Resize;
@@ -196,6 +197,24 @@ fn compact_in<T: Tables, F: FnMut(Move<T::Index>)>(slot: &mut Option<GuardedOf<T
     match slot {
         Some(heap) => heap.compact(moved),
         None => unreachable!(),
+    }
+}
+
+// Slides every live range of a heap to the front of its space, where there is one, and calls the closure with its
+// number too.
+fn pack_in<T: Tables, F: FnMut(u32, Move<T::Index>)>(
+    slot: &mut Option<GuardedOf<T>>,
+    number: u32,
+    moved: &mut F,
+)
+    requires callable { F.IsAlwaysCallable moved.old }
+    ensures callable { F.IsAlwaysCallable moved.new }
+    ensures change { PacksIn slot.old slot.new }
+    ensures moved { FoldsTo (IsCalledAt T.Index.NonMax.number (λ f k range g. F.step f k range tt g)) moved.old
+        (numbered number (moves_in slot.old)) moved.new }
+{
+    if let Some(heap) = slot {
+        compact_numbered(heap, number, moved);
     }
 }
 
@@ -393,6 +412,26 @@ impl<T: Tables> Slots<T> {
     {
         count.tick();
         compact_in(&mut self.heaps[number as usize], moved);
+    }
+
+    /// Slides every live range of the heap of a number to the front of its space, where it has one, and calls the
+    /// closure with the number too.
+    pub(crate) fn pack<F: FnMut(u32, Move<T::Index>)>(
+        &mut self,
+        number: u32,
+        moved: &mut F,
+        count: &mut Accesses,
+    )
+        requires there { number < length self.old }
+        requires callable { F.IsAlwaysCallable moved.old }
+        ensures callable { F.IsAlwaysCallable moved.new }
+        ensures change { Changes number PacksIn self.old self.new }
+        ensures moved { FoldsTo (IsCalledAt T.Index.NonMax.number (λ f k range g. F.step f k range tt g)) moved.old
+            (numbered number (moves_in (slot number self.old))) moved.new }
+        ensures accesses { count.new ≡ count.old + 1 }
+    {
+        count.tick();
+        pack_in(&mut self.heaps[number as usize], number, moved);
     }
 
     /// Makes room for a request in the heap of a number.
