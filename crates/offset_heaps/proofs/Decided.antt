@@ -65,7 +65,7 @@ raised_twin limit limit' g h same t = record {
   realm = t.realm;
 }
 
-grown_twin : (limits : Limits) (k : ℕ) (g g' h h' : Guard) → IsTwin g g' → (IsTwin g' g) → IsGrown limits k g h → IsGrown limits k g' h' → IsTwin h h'
+pub grown_twin : (limits : Limits) (k : ℕ) (g g' h h' : Guard) → IsTwin g g' → (IsTwin g' g) → IsGrown limits k g h → IsGrown limits k g' h' → IsTwin h h'
 grown_twin limits k g g' h h' t s (inl a) (inl b) =
     subst₂ IsTwin (sym a.1) (sym b.1) (raised_twin (grown_limit limits g) (grown_limit limits g') g g' (ap (grown_limit limits) (as_twin g g' t)) t)
 grown_twin limits k g g' h h' t s (inl a) (inr b) = absurd (b.0 (must_twin limits k g g' t a.0))

@@ -102,7 +102,7 @@ module _ (limits : Limits) (k : ℕ) where
   grown_same f same g h (inr kept) = ap f kept.1
 
   pub grown_kind : (g h : Guard) → IsFirstLimit limits → IsGrown limits k g h → IsOfKind limits k g → IsOfKind limits k h
-  grown_kind g h first grown (inl usual) = inl (usual.0, grown_same (λ (z : Guard). z.space.size) (λ limit g. refl) g h grown ∙ usual.1, grown_left g h first usual.0 usual.2 grown)
+  grown_kind g h first grown (inl usual) = inl (usual.0, subst (λ n. limits.size ≤ n) (sym (grown_same (λ (z : Guard). z.space.size) (λ limit g. refl) g h grown)) usual.1, grown_left g h first usual.0 usual.2 grown)
   grown_kind g h first (inl up) (inr larger) = absurd (omega (arith, up.0.0, larger.0))
   grown_kind g h first (inr kept) (inr larger) = subst (IsOfKind limits k) (sym kept.1) (inr larger)
 
@@ -155,7 +155,7 @@ room_grown limits k blocks g h few (inl usual) (inl up) = room_under (grown_limi
 pub must_in : (limits : Limits) (k : ℕ) (o : Option Guard) (g : Guard) → o ≡ Some g → MustGrow limits k g → MustGrowIn limits k o
 must_in limits k o g e must = subst (MustGrowIn limits k) (sym e) must
 
-usual_left : (limits : Limits) (k : ℕ) (g : Guard) → IsOfKind limits k g → k < limits.most → HasNodesLeft limits g
+pub usual_left : (limits : Limits) (k : ℕ) (g : Guard) → IsOfKind limits k g → k < limits.most → HasNodesLeft limits g
 usual_left limits k g (inl usual) l = usual.2
 usual_left limits k g (inr larger) l = absurd (omega (arith, larger.0, l))
 

@@ -13,6 +13,7 @@ pub mod Foretold
 pub mod Grants
 pub mod Growing
 pub mod Histories
+pub mod Longer
 pub mod Numbers
 pub mod Packing
 pub mod Places

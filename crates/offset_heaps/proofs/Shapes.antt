@@ -28,7 +28,7 @@ kind_usual limits k realm size align g o t l first least new by =
     let few = split_blocks (units_needed size align) size (padding_to align) by.before.space by.after.space (handle_in t) by.step.1 in
     kind_kept limits k (Some g) o by.before by.after by.was by.is (ap (λ (v : View). v.size) by.step.1.view) kept
     (λ _ _. begun_left limits k (length by.after.space.blocks) by.after.space.max_allocs first least (omega (arith, few, one)) (omega (arith, kept, own, limit)))
-    (inl (l, units, (omega (arith, limit), omega (arith, limit, first.1), begun_left limits k (length g.space.blocks) g.space.max_allocs first least (omega (arith, one, ap (λ (z : Guard). length z.space.blocks) same)) (omega (arith, limit)))))
+    (inl (l, omega (arith, units), (omega (arith, limit), omega (arith, limit, first.1), begun_left limits k (length g.space.blocks) g.space.max_allocs first least (omega (arith, one, ap (λ (z : Guard). length z.space.blocks) same)) (omega (arith, limit)))))
 
 pub kind_larger : (limits : Limits) (k realm size : ℕ) (g : Guard) (o : Option Guard) (t : Ticket) → limits.most ≤ k → 1 ≤ size → IsNew size larger_limit realm g → ServesTight size (Some g) o t
     → IfSome o (IsOfKind limits k)

@@ -88,7 +88,7 @@ pub kind_kept : (limits : Limits) (k : ℕ) (old new : Option Guard) (before aft
 kind_kept limits k old new before after was is size limit left kind = rw is (same (subst (λ o. IfSome o (IsOfKind limits k)) was kind))
   where
     same : IsOfKind limits k before → IsOfKind limits k after
-    same (inl u) = inl (u.0, size ∙ u.1, (omega (arith, limit, u.2.0), omega (arith, limit, u.2.1), left u.0 u.2))
+    same (inl u) = inl (u.0, subst (λ n. limits.size ≤ n) (sym size) u.1, (omega (arith, limit, u.2.0), omega (arith, limit, u.2.1), left u.0 u.2))
     same (inr l) = let some = l.1 in inr (l.0, omega (arith, size, some), limit ∙ l.2)
 
 -- with no heap and keys of 0, what is behind the last number is noted

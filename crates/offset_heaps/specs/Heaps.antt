@@ -149,10 +149,10 @@ abbrev pub HasNodesLeft : Limits → Guard → Type 0
 HasNodesLeft limits g = (limits.first_allocs ≤ g.space.max_allocs) × (g.space.max_allocs ≤ limits.max_allocs)
     × (min limits.max_allocs (length g.space.blocks + 3) ≤ g.space.max_allocs)
 
--- the heap of a number has the size and a node limit of its kind: those that the limits say of a heap of the usual size,
--- where the number is below most, and else those of a larger one, which has the units of some request
+-- the heap of a number has the units and a node limit of its kind: those that the limits say of a heap of the usual size,
+-- or more units, where the number is below most, and else those of a larger one, which has the units of some request, or more
 abbrev pub IsOfKind : Limits → ℕ → Guard → Type 0
-IsOfKind limits k g = ((k < limits.most) × (g.space.size ≡ limits.size) × HasNodesLeft limits g)
+IsOfKind limits k g = ((k < limits.most) × (limits.size ≤ g.space.size) × HasNodesLeft limits g)
     ⊎ ((limits.most ≤ k) × (1 ≤ g.space.size) × (g.space.max_allocs ≡ larger_limit))
 
 -- the heap of a grant, as it was before: one that was there, grown where it has to; a new one of the usual size, or one of

@@ -2,6 +2,7 @@ pub mod Asking
 pub mod Calls
 pub mod Changing
 pub mod Dumping
+pub mod Extending
 pub mod Heaps
 pub mod Histories
 pub mod Maxima

@@ -2,6 +2,7 @@
 ghost use Rattle.std.specs.Prelude.{ℕ, List, ◌≡◌, ◌↔◌, ◌+◌, ◌-◌, ◌*◌, ◌<◌, ◌≤◌, ◌∷◌, None, Some, IfSome, length};
 ghost use Rattle.std.specs.Prelude.{Bool, Err, IfErr, MatchOption, Option, Result, option_map, true};
 ghost use Rattle.std.specs.List.{AllByRecursion};
+ghost use Rattle.std.specs.declared.alloc.AllocError.{AllocError};
 ghost use Rattle.offset_allocator.specs.Ranges.{AreDisjoint, Range};
 ghost use Rattle.offset_allocator.specs.Reporting.Reports.{IsReport};
 ghost use Rattle.offset_allocator.specs.Requests.{CanGrant, blocks_needed, units_needed};
@@ -17,7 +18,7 @@ ghost use Rattle.offset_heaps.specs.Relocating.{IsEmptiest, NoneLive, last_place
 ghost use Rattle.offset_heaps.specs.Relocating.{live_at, squares, units_of};
 ghost use Rattle.offset_heaps.specs.Twins.{AreTwins};
 ghost use Rattle.offset_heaps.specs.Calls.{Allocates, TakesAll, Call, Drops, DropsEmpty, Frees, GivesUp};
-ghost use Rattle.offset_heaps.specs.Calls.{GoAll, Goes, Packs, Relocates, Reply, TakesRoom, TakesSize};
+ghost use Rattle.offset_heaps.specs.Calls.{GoAll, Goes, Lengthens, Packs, Relocates, Reply, TakesRoom, TakesSize};
 ghost use Rattle.offset_heaps.specs.Asking.{IsRefusedFor, IsServed};
 ghost use Rattle.offset_heaps.specs.Changing.{CompactsAll, Wanted};
 ghost use Rattle.offset_allocator.specs.declared.moves.room.RoomCost.{RoomCost};
@@ -180,7 +181,7 @@ pub fn a_state_is_read_back<T: Tables>(heaps: &HeapsOf<T>)
 /// Heaps and a call decide the result, and the heaps that are left. Heaps are twins where their spaces are in
 /// the same state, and live names have the same serials, however many accesses were counted: of twins a call
 /// returns the same, places and tickets included, and leaves twins. Only where memory is refused to a request
-/// of one of them, the other may have a heap or nodes more.
+/// of one of them, or to its `extend_heap`, the other may have a heap or nodes more.
 pub fn a_state_decides_each_step()
     ensures allocate { (size align : ℕ) (hs hs' ks ks' : Heaps) → size ≤ 4294967295 → IsWellFormed hs
         → AreTwins hs hs' → (r r' : Result Granted Refusal) → Allocates size align hs ks r
@@ -201,6 +202,10 @@ pub fn a_state_decides_each_step()
         → ResetsAll hs' ks' → AreTwins ks ks' }
     ensures resize { (how : Wanted) (p : Place) (hs hs' ks ks' : Heaps) → IsWellFormed hs → AreTwins hs hs'
         → (r r' : Option Bool) → TakesSize how p hs ks r → TakesSize how p hs' ks' r'
+        → (r ≡ r') × AreTwins ks ks' }
+    ensures extend_heap { (k more : ℕ) (hs hs' ks ks' : Heaps) → IsWellFormed hs → AreTwins hs hs'
+        → (r r' : Result Bool AllocError) → Lengthens k more hs ks r → Lengthens k more hs' ks' r'
+        → ((e : AllocError) → r ≡ Err e → ⊥) → ((e : AllocError) → r' ≡ Err e → ⊥)
         → (r ≡ r') × AreTwins ks ks' }
     ensures compact_heap { (k : ℕ) (hs hs' ks ks' : Heaps) → AreTwins hs hs' → (r r' : Bool)
         → Packs k hs ks r → Packs k hs' ks' r' → (r ≡ r') × AreTwins ks ks' }

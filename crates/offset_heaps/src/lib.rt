@@ -33,6 +33,7 @@ mod compacting;
 mod copying;
 mod drop;
 mod dumping;
+mod extending;
 mod fresh;
 mod index;
 pub mod laws;

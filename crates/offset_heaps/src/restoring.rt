@@ -121,7 +121,7 @@ fn is_of_kind<T: Tables>(heap: &GuardedOf<T>, number: u32, limits: Limits) -> bo
 {
     let space = heap.allocator();
     if number < limits.most {
-        space.size() == limits.size && has_nodes_left(heap, limits)
+        space.size() >= limits.size && has_nodes_left(heap, limits)
     } else {
         space.size() >= 1 && space.max_allocs() == LARGER_LIMIT
     }

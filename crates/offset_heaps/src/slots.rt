@@ -10,14 +10,16 @@ ghost use Rattle.offset_guarded.specs.Guard.{Guard, HasSerialLeft, IsLive};
 ghost use Rattle.offset_allocator.specs.Moving.Compacting.{IsCalledWith};
 ghost use Rattle.offset_heaps.specs.Changing.{AltersIn, CanResize, CanResizeIn, CompactsIn, IsNear, MakesRoomIn, Resizes};
 ghost use Rattle.offset_heaps.specs.Changing.{IsCalledAt, PacksIn, moves_in, numbered, wanted};
-ghost use Rattle.offset_heaps.specs.Heaps.{MustGrow, MustGrowIn, is_empty, live_of, part, range_in, room, room_of};
-ghost use Rattle.offset_heaps.specs.Heaps.{slot};
+ghost use Rattle.offset_heaps.specs.Extending.{CanExtendIn, ExtendsIf};
+ghost use Rattle.offset_heaps.specs.Heaps.{IsGrown, IsOfKind, MustGrow, MustGrowIn, is_empty, live_of, part};
+ghost use Rattle.offset_heaps.specs.Heaps.{range_in, room, room_of, slot};
 ghost use Rattle.offset_heaps.specs.Numbering.{IsHeapFrom, NoHeapFrom};
 ghost use Rattle.offset_heaps.specs.Relocating.{HasLive, IsEmptiest, NoneLive, TakesUnits, units_in};
 ghost use Rattle.offset_heaps.specs.Slots.{CanHoldIn, Changes, FreesIn, GrowsIn, KeepsOthersIn};
 ghost use Rattle.offset_heaps.specs.Slots.{IsMore, ResetsIn, Serves, ServesTight};
 
 use crate::compacting::compact_numbered;
+use crate::extending::extend_in;
 use crate::index::{is_empty_heap, rooms};
 use crate::limits::Limits;
 use crate::resize::Resize;
@@ -60,7 +62,32 @@ fn must_grow<T: Tables>(heap: &GuardedOf<T>, number: u32, limits: Limits) -> boo
     number < limits.most && space.max_allocs() < limits.max_allocs && unused_nodes(space) < 5
 }
 
-// Doubles the node limit of the heap of a number, where it has to grow.
+/// Doubles the node limit of the heap of a number, where it has to grow.
+pub(crate) fn grow_heap<T: Tables>(
+    alloc: Global,
+    heap: &mut GuardedOf<T>,
+    number: u32,
+    limits: Limits,
+) -> Result<(), AllocError>
+    requires limit_max { limits.max_allocs + 1 < T.Index.MAX }
+    ensures grows { IfOk result (λ _. IsGrown limits number heap.old heap.new) }
+    ensures must { IsErr result → MustGrow limits number heap.old }
+    ensures same { IsErr result → heap.new ≡ heap.old }
+{
+    if must_grow(heap, number, limits) {
+        let limit = heap.allocator().max_allocs();
+        let most = limits.max_allocs;
+        let twice = if most - limit < limit {
+            most
+        } else {
+            2 * limit
+        };
+        *heap = heap.raised(alloc, twice)?;
+    }
+    Ok(())
+}
+
+// The same, where the number has a heap.
 fn grow_in<T: Tables>(
     alloc: Global,
     slot: &mut Option<GuardedOf<T>>,
@@ -72,19 +99,10 @@ fn grow_in<T: Tables>(
     ensures must { IsErr result → MustGrowIn limits number slot.old }
     ensures same { IsErr result → slot.new ≡ slot.old }
 {
-    if let Some(heap) = slot {
-        if must_grow(heap, number, limits) {
-            let limit = heap.allocator().max_allocs();
-            let most = limits.max_allocs;
-            let twice = if most - limit < limit {
-                most
-            } else {
-                2 * limit
-            };
-            *heap = heap.raised(alloc, twice)?;
-        }
+    match slot {
+        Some(heap) => grow_heap(alloc, heap, number, limits),
+        None => Ok(()),
     }
-    Ok(())
 }
 
 /// Grants a request in a heap that has room for it.
@@ -393,6 +411,37 @@ impl<T: Tables> Slots<T> {
             limits,
             ticket,
             how,
+        )
+    }
+
+    /// Adds units at the end of the heap of a number, which grows first where it has to for a grant, and returns
+    /// whether it did.
+    pub(crate) fn extend(
+        &mut self,
+        alloc: Global,
+        number: u32,
+        limits: Limits,
+        more: u32,
+        count: &mut Accesses,
+    ) -> Result<bool, AllocError>
+        requires there { IsSome (slot number self.old) }
+        requires limit_max { limits.max_allocs + 1 < T.Index.MAX }
+        requires kind { IfSome (slot number self.old) (IsOfKind limits number) }
+        ensures done { IfOk result (λ done. IsTrue done ↔ CanExtendIn more (slot number self.old)) }
+        ensures change { IfOk result
+            (λ done. Changes number (AltersIn (ExtendsIf limits number more done)) self.old self.new) }
+        ensures must { IsErr result → MustGrowIn limits number (slot number self.old)
+            × CanExtendIn more (slot number self.old) }
+        ensures same { IsErr result → self.new ≡ self.old }
+        ensures accesses { count.new ≡ count.old + 1 }
+    {
+        count.tick();
+        extend_in(
+            alloc,
+            &mut self.heaps[number as usize],
+            number,
+            limits,
+            more,
         )
     }
 

@@ -1,4 +1,4 @@
-use Rattle.offset_heaps.proofs.DecidedCalls.{allocates_decided, compacts_all_decided, drops_decided, drops_empty_decided, emptiest_decided, free_decided, gives_up_decided, packs_decided, relocates_decided, resets_decided, room_decided, size_decided, totals_decided}
+use Rattle.offset_heaps.proofs.DecidedCalls.{allocates_decided, compacts_all_decided, drops_decided, drops_empty_decided, emptiest_decided, free_decided, gives_up_decided, lengthens_decided, packs_decided, relocates_decided, resets_decided, room_decided, size_decided, totals_decided}
 use Rattle.offset_heaps.proofs.{DecidedWalks.before_decided, DecidedWalks.last_decided, Twins.range_twins}
 use Rattle.offset_heaps.proofs.laws.a_state_decides_each_step.Goals as goal
 
@@ -49,3 +49,6 @@ returns-clause-make_room c = room_decided
 
 pub returns-clause-compact : goal.returns-clause-compact
 returns-clause-compact c = compacts_all_decided
+
+pub returns-clause-extend_heap : goal.returns-clause-extend_heap
+returns-clause-extend_heap c = lengthens_decided
