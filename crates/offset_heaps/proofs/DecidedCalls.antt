@@ -20,22 +20,11 @@ use Rattle.offset_heaps.specs.declared.totals.Totals.{Totals}
 use Rattle.offset_heaps.specs.Relocating.{HasLive, IsEmptiest, NoneLive, TakesRange, granted, live_at, units_in, units_of}
 use Rattle.offset_heaps.specs.State as state
 use Rattle.offset_heaps.proofs.{States.slot_quiet, Empties.empty_there, Grants.memory_alone, Grants.none_found, Grants.one_reason, Numbers.slot_there}
-use Rattle.offset_heaps.specs.Calls.{Allocates, TakesAll, Call, Allocate, Free, Relocate, Drop_empty, Drop_heap, Give_up, Reset, Resize, Extend_heap, Compact_heap, Compact_all, Make_room, Drops, DropsEmpty, Frees, GivesUp, IsStarved, Lengthens, Relocates, Reply, Requested, Second, Dropped, Was_done, Resized, Extended, Room_made, Takes, TakesRoom, TakesSize, Packs, Notes}
-use Rattle.offset_heaps.proofs.Decided.{first_twins, grants_decided, grown_twin, known, known_at, must_in_twins, next_twins, none_fit_twins, one_first, one_fit, one_next, why_twins}
+use Rattle.offset_heaps.specs.Calls.{Allocates, TakesAll, Call, Allocate, Allocate_tight, Free, Relocate, Drop_empty, Drop_heap, Give_up, Reset, Resize, Extend_heap, Compact_heap, Compact_all, Make_room, Drops, DropsEmpty, Frees, GivesUp, IsStarved, Lengthens, Relocates, Reply, Requested, Second, Dropped, Was_done, Resized, Extended, Room_made, Takes, TakesRoom, TakesSize, Packs, Notes}
+use Rattle.offset_heaps.proofs.Decided.{first_twins, grants_decided, grown_twin, known, known_at, must_in_twins, next_twins, none_fit_twins, one_first, one_fit, one_next, puts_twins, same_twins, why_twins}
+use Rattle.offset_heaps.proofs.DecidedTight.{tights_decided}
 use Rattle.offset_heaps.proofs.Growing.{grown_formed}
 use Rattle.offset_heaps.proofs.Twins.{as_twin, free_twins, kept_twins, none_twins, option_twin, put_twins, range_twins, reset_twins, room_twins, slid_twins, some_twin, total_twins, twin_some, twin_sym, twins_sym, twins_trans}
-
--- ---- what calls leave
-same_twins : (hs hs' ks ks' : Heaps) → AreTwins hs hs' → IsSame hs ks → IsSame hs' ks' → AreTwins ks ks'
-same_twins hs hs' ks ks' t e f = subst₂ AreTwins (sym e) (sym f) (record { limits = t.limits; made = t.made; realm = t.realm; heaps = t.heaps })
-
-puts_twins : (k : ℕ) (o o' : Option Guard) (hs hs' ks ks' : Heaps) → AreTwins hs hs' → k < length hs.slots → k < length hs'.slots → IsTwinIn o o' → Puts k o hs ks → Puts k o' hs' ks' → AreTwins ks ks'
-puts_twins k o o' hs hs' ks ks' t there there' now e f = subst₂ AreTwins (sym e) (sym f) (record {
-  limits = t.limits;
-  made = t.made;
-  realm = t.realm;
-  heaps = put_twins k hs.slots hs'.slots o o' there there' now t.heaps;
-})
 
 -- ---- requests
 pub refused : (size align : ℕ) (hs : Heaps) (why : Refusal) (g : Granted) → (size ≡ 0 → ⊥) → IsWhy size align hs why → (why ≡ Memory → ⊥)
@@ -360,6 +349,9 @@ takes_decided : (c : Call) (hs hs' ks ks' : Heaps) → state.IsWellFormed hs →
     → (r ≡ r') × AreTwins ks ks'
 takes_decided (Allocate size align) hs hs' ks ks' is t r r' x y m n =
     let e = allocates_decided size align hs hs' ks ks' x.2 is t x.0 y.0 x.3 y.3 (λ q. m (inl (x.1 ∙ ap Requested q))) (λ q. n (inl (y.1 ∙ ap Requested q))) in
+    (x.1 ∙ ap Requested e.0 ∙ sym y.1, e.1)
+takes_decided (Allocate_tight size align) hs hs' ks ks' is t r r' x y m n =
+    let e = tights_decided size align hs hs' ks ks' x.2 is t x.0 y.0 x.3 y.3 (λ q. m (inl (x.1 ∙ ap Requested q))) (λ q. n (inl (y.1 ∙ ap Requested q))) in
     (x.1 ∙ ap Requested e.0 ∙ sym y.1, e.1)
 takes_decided (Free p) hs hs' ks ks' is t r r' x y m n = let e = free_decided p hs hs' ks ks' is t x.0 y.0 x.2 y.2 in (x.1 ∙ ap Was_done e.0 ∙ sym y.1, e.1)
 takes_decided (Relocate p align) hs hs' ks ks' is t r r' x y m n = let e = relocates_decided p align hs hs' ks ks' is t x.0 y.0 x.2 y.2 in (x.1 ∙ ap Second e.0 ∙ sym y.1, e.1)

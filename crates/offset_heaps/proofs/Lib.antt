@@ -3,6 +3,7 @@ pub mod Changes
 pub mod Counting
 pub mod Decided
 pub mod DecidedCalls
+pub mod DecidedTight
 pub mod DecidedWalks
 pub mod EachOnce
 pub mod Empties
@@ -13,6 +14,7 @@ pub mod Foretold
 pub mod Grants
 pub mod Growing
 pub mod Histories
+pub mod Holders
 pub mod Longer
 pub mod Numbers
 pub mod Packing

@@ -14,6 +14,7 @@ use Rattle.offset_heaps.specs.Heaps.{Heaps, FreesIn, Grants, IsFirstFit, IsLive,
 use Rattle.offset_heaps.specs.Histories.{ResetsAll}
 use Rattle.offset_heaps.specs.Relocating.{IsTaker, NoneTakes, granted, units_of}
 use Rattle.offset_heaps.specs.State.{IsWellFormed}
+use Rattle.offset_heaps.specs.Tight.{GrantsTight, IsFirstHolding, IsWhyTight, NoneHolds}
 use Rattle.offset_heaps.specs.Twins.{AreTwins}
 
 -- `allocate_aligned`, and with the alignment 1 `allocate`
@@ -25,6 +26,16 @@ pub record Allocates (size align : ℕ) (hs ks : Heaps) (r : Result Granted Refu
   pub made : IfOk r (λ g. g.is_new ≡ true
       → NoneFits (blocks_needed align) (units_needed size align) hs × IsNext size g.place.heap hs)
   pub grants : IfOk r (Grants size align hs ks)
+
+-- `allocate_tight_aligned`, and with the alignment 1 `allocate_tight`
+pub record AllocatesTight (size align : ℕ) (hs ks : Heaps) (r : Result Granted Refusal) : Type 0 where
+  pub empty : size ≡ 0 → r ≡ Err Empty
+  pub why : IfErr r (IsWhyTight size align hs)
+  pub same : OnErr r (IsSame hs ks)
+  pub found : IfOk r (λ g. g.is_new ≡ false → IsFirstHolding size align g.place.heap hs)
+  pub made : IfOk r (λ g. g.is_new ≡ true → NoneHolds size align hs × IsNext size g.place.heap hs)
+  pub fills : IfOk r (λ g. g.is_new ≡ false → GrantsTight size align hs ks g.place)
+  pub grants : IfOk r (λ g. g.is_new ≡ true → Grants size align hs ks g)
 
 -- `free`
 pub record Frees (p : Place) (hs ks : Heaps) (r : Bool) : Type 0 where
@@ -104,6 +115,7 @@ pub record TakesRoom (k size : ℕ) (hs ks : Heaps) (r : Option RoomCost) : Type
 pub data Call : Type 0 where
   -- a request, by its size and alignment
   Allocate : ℕ → ℕ → Call
+  Allocate_tight : ℕ → ℕ → Call
   Free : Place → Call
   Relocate : Place → ℕ → Call
   Drop_empty : ℕ → Call
@@ -132,6 +144,7 @@ pub data Reply : Type 0 where
 -- a call is taken: what it leaves, and its result. The units of a request have 32 bits
 abbrev pub Takes : Call → Heaps → Heaps → Reply → Type 0
 Takes (Allocate size align) hs ks reply = (r : Result Granted Refusal) × (reply ≡ Requested r) × (size ≤ 4294967295) × Allocates size align hs ks r
+Takes (Allocate_tight size align) hs ks reply = (r : Result Granted Refusal) × (reply ≡ Requested r) × (size ≤ 4294967295) × AllocatesTight size align hs ks r
 Takes (Free p) hs ks reply = (r : Bool) × (reply ≡ Was_done r) × Frees p hs ks r
 Takes (Relocate p align) hs ks reply = (r : Option Place) × (reply ≡ Second r) × Relocates p align hs ks r
 Takes (Drop_empty keep) hs ks reply = (r : Option ℕ) × (reply ≡ Dropped r) × DropsEmpty keep hs ks r

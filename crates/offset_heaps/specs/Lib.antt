@@ -12,4 +12,5 @@ pub mod Slots
 pub mod Soundness
 pub mod State
 pub mod StateFaults
+pub mod Tight
 pub mod Twins

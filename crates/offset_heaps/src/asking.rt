@@ -48,7 +48,7 @@ impl<T: Tables> HeapsOf<T> {
     }
 
     // Why no heap is made for a request that none has room for.
-    fn why_none(&self, size: u32, count: &mut Accesses) -> Option<Refusal>
+    pub(crate) fn why_none(&self, size: u32, count: &mut Accesses) -> Option<Refusal>
         ensures why { IsWhyNone size self.now result }
         ensures accesses { (bits : ℕ) → numbers self.now ≤ 2 ^ bits → count.new ≤ count.old + bits + 1 }
     {

@@ -16,8 +16,9 @@ ghost use Rattle.offset_heaps.specs.Numbering.{AreOfLive, MeetsPlaces, first_fro
 ghost use Rattle.offset_heaps.specs.State.{IsCopy, IsStateOf, IsWellFormed, SameHeaps};
 ghost use Rattle.offset_heaps.specs.Relocating.{IsEmptiest, NoneLive, last_place, place_before};
 ghost use Rattle.offset_heaps.specs.Relocating.{live_at, squares, units_of};
+ghost use Rattle.offset_heaps.specs.Tight.{IsRefusedForTight, IsServedTight};
 ghost use Rattle.offset_heaps.specs.Twins.{AreTwins};
-ghost use Rattle.offset_heaps.specs.Calls.{Allocates, TakesAll, Call, Drops, DropsEmpty, Frees, GivesUp};
+ghost use Rattle.offset_heaps.specs.Calls.{Allocates, AllocatesTight, TakesAll, Call, Drops, DropsEmpty, Frees, GivesUp};
 ghost use Rattle.offset_heaps.specs.Calls.{GoAll, Goes, Lengthens, Packs, Relocates, Reply, TakesRoom, TakesSize};
 ghost use Rattle.offset_heaps.specs.Asking.{IsRefusedFor, IsServed};
 ghost use Rattle.offset_heaps.specs.Changing.{CompactsAll, Wanted};
@@ -32,6 +33,7 @@ use crate::HeapsOf;
 pub use crate::asking::refusal_aligned_counted;
 pub use crate::numbering::{first_heap_counted, heap_after_counted};
 pub use crate::relocate::emptiest_counted;
+pub use crate::tight::refusal_tight_aligned_counted;
 use offset_allocator::Tables;
 use offset_allocator::laws::{is_well_formed, ranges_are_disjoint};
 
@@ -91,6 +93,15 @@ pub fn reasons_exclude_one_another()
 pub fn refusals_are_foretold()
     ensures { (size align : ℕ) (hs ks : Heaps) (why : Option Refusal) (r : Result Granted Refusal)
         → MatchOption why (IsServed size align hs) (IsRefusedFor size align hs) → Allocates size align hs ks r
+        → MatchOption why (IfErr r (λ w. w ≡ Memory)) (λ w. r ≡ Err w) }
+{}
+
+/// What `refusal_tight_aligned` says is what the same tight request is answered then, as `refusal_aligned` of
+/// other requests. So `refusal_tight` and `allocate_tight`, with the alignment 1.
+pub fn tight_refusals_are_foretold()
+    ensures { (size align : ℕ) (hs ks : Heaps) (why : Option Refusal) (r : Result Granted Refusal)
+        → MatchOption why (IsServedTight size align hs) (IsRefusedForTight size align hs)
+        → AllocatesTight size align hs ks r
         → MatchOption why (IfErr r (λ w. w ≡ Memory)) (λ w. r ≡ Err w) }
 {}
 
@@ -186,6 +197,10 @@ pub fn a_state_decides_each_step()
     ensures allocate { (size align : ℕ) (hs hs' ks ks' : Heaps) → size ≤ 4294967295 → IsWellFormed hs
         → AreTwins hs hs' → (r r' : Result Granted Refusal) → Allocates size align hs ks r
         → Allocates size align hs' ks' r' → (r ≡ Err Memory → ⊥) → (r' ≡ Err Memory → ⊥)
+        → (r ≡ r') × AreTwins ks ks' }
+    ensures allocate_tight { (size align : ℕ) (hs hs' ks ks' : Heaps) → size ≤ 4294967295 → IsWellFormed hs
+        → AreTwins hs hs' → (r r' : Result Granted Refusal) → AllocatesTight size align hs ks r
+        → AllocatesTight size align hs' ks' r' → (r ≡ Err Memory → ⊥) → (r' ≡ Err Memory → ⊥)
         → (r ≡ r') × AreTwins ks ks' }
     ensures free { (p : Place) (hs hs' ks ks' : Heaps) → IsWellFormed hs → AreTwins hs hs' → (r r' : Bool)
         → Frees p hs ks r → Frees p hs' ks' r' → (r ≡ r') × AreTwins ks ks' }

@@ -49,6 +49,7 @@ mod restoring;
 mod saving;
 mod slots;
 mod state;
+mod tight;
 mod totals;
 
 pub use dumping::json_of;

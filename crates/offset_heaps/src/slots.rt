@@ -15,7 +15,7 @@ ghost use Rattle.offset_heaps.specs.Heaps.{IsGrown, IsOfKind, MustGrow, MustGrow
 ghost use Rattle.offset_heaps.specs.Heaps.{range_in, room, room_of, slot};
 ghost use Rattle.offset_heaps.specs.Numbering.{IsHeapFrom, NoHeapFrom};
 ghost use Rattle.offset_heaps.specs.Relocating.{HasLive, IsEmptiest, NoneLive, TakesUnits, units_in};
-ghost use Rattle.offset_heaps.specs.Slots.{CanHoldIn, Changes, FreesIn, GrowsIn, KeepsOthersIn};
+ghost use Rattle.offset_heaps.specs.Slots.{CanHoldIn, Changes, Fills, FreesIn, GrowsIn, KeepsOthersIn};
 ghost use Rattle.offset_heaps.specs.Slots.{IsMore, ResetsIn, Serves, ServesTight};
 
 use crate::compacting::compact_numbered;
@@ -126,7 +126,7 @@ pub(crate) fn grant_in<T: Tables>(slot: &mut Option<GuardedOf<T>>, size: u32, al
 
 /// Grants a request in a heap that has a free block for it.
 pub(crate) fn grant_tight_in<T: Tables>(slot: &mut Option<GuardedOf<T>>, size: u32) -> Ticket
-    requires { CanHoldIn size slot.old }
+    requires { CanHoldIn size 1 slot.old }
     ensures { ServesTight size slot.old slot.new result }
 {
     match slot {
@@ -136,6 +136,32 @@ pub(crate) fn grant_tight_in<T: Tables>(slot: &mut Option<GuardedOf<T>>, size: u
         },
         None => unreachable!(),
     }
+}
+
+// Grants a request in a heap, a free block of which holds it.
+fn fill_in<T: Tables>(slot: &mut Option<GuardedOf<T>>, size: u32, align: u32) -> Ticket
+    requires alignment { 1 ≤ align }
+    requires holds { CanHoldIn size align slot.old }
+    ensures { Fills size align slot.old slot.new result }
+{
+    match slot {
+        Some(heap) => match heap.allocate_tight_aligned(size, align) {
+            Some(ticket) => ticket,
+            None => unreachable!(),
+        },
+        None => unreachable!(),
+    }
+}
+
+// Whether a free block of a heap holds a request. Where none does, the heap has no room for it either.
+fn holds<T: Tables>(heap: &GuardedOf<T>, size: u32, align: u32) -> bool
+    requires some { 1 ≤ size }
+    requires alignment { 1 ≤ align }
+    ensures holds { IsTrue result ↔ CanHoldIn size align (Some heap.now) }
+    ensures less { result ≡ false → room (blocks_needed align) heap.now < units_needed size align }
+{
+    is_well_formed(heap.allocator());
+    heap.refusal_tight_aligned(size, align).is_none()
 }
 
 // Frees the range of a ticket, where it is live.
@@ -363,6 +389,66 @@ impl<T: Tables> Slots<T> {
     {
         count.tick();
         grant_in(&mut self.heaps[number as usize], size, align)
+    }
+
+    /// Grants a request in the heap of a number, a free block of which holds it.
+    pub(crate) fn fill(
+        &mut self,
+        number: u32,
+        size: u32,
+        align: u32,
+        count: &mut Accesses,
+    ) -> Ticket
+        requires there { number < length self.old }
+        requires alignment { 1 ≤ align }
+        requires holds { CanHoldIn size align (slot number self.old) }
+        ensures grants { Changes number (λ o p. Fills size align o p result) self.old self.new }
+        ensures accesses { count.new ≡ count.old + 1 }
+    {
+        count.tick();
+        fill_in(&mut self.heaps[number as usize], size, align)
+    }
+
+    // Whether a free block of the heap of a number holds a request.
+    fn holds_at(&self, number: u32, size: u32, align: u32, count: &mut Accesses) -> bool
+        requires some { 1 ≤ size }
+        requires alignment { 1 ≤ align }
+        ensures holds { IsTrue result ↔ CanHoldIn size align (slot number self.now) }
+        ensures less { result ≡ false
+            → room_of (blocks_needed align) (slot number self.now) < units_needed size align }
+        ensures accesses { count.new ≡ count.old + 1 }
+    {
+        match self.at(number, count) {
+            None => false,
+            Some(heap) => holds(heap, size, align),
+        }
+    }
+
+    /// The first heap, a free block of which holds a request. Where none does, none has room for it.
+    pub(crate) fn first_holding(
+        &self,
+        numbers: u32,
+        size: u32,
+        align: u32,
+        count: &mut Accesses,
+    ) -> Option<u32>
+        requires some { 1 ≤ size }
+        requires alignment { 1 ≤ align }
+        requires numbers { length self.now ≡ numbers }
+        ensures first { MatchOption result ((k : ℕ) → CanHoldIn size align (slot k self.now) → ⊥)
+            (λ k. CanHoldIn size align (slot k self.now)
+            × ((j : ℕ) → j < k → CanHoldIn size align (slot j self.now) → ⊥)) }
+        ensures less { result ≡ None
+            → (k : ℕ) → room_of (blocks_needed align) (slot k self.now) < units_needed size align }
+        ensures there { IfSome result (λ k. k < numbers) }
+        ensures accesses { count.new ≤ count.old + numbers }
+    {
+        for number in 0..numbers {
+            if self.holds_at(number, size, align, count) {
+                return Some(number);
+            }
+        }
+        None
     }
 
     /// Frees the range of a ticket in the heap of a number, where it is live.
