@@ -1,6 +1,6 @@
 -- Each call on heaps that no answer tells apart has the same result, and leaves such heaps.
 use Rattle.std.proofs.Common.{[], ◌∷◌, map, suc}
-use Rattle.std.proofs.Common.{◌≡◌, ℕ, ◌+◌, ◌<◌, ◌≤◌, Bool, true, false, length, List, Option, Some, None, MatchOption, Result, Ok, Err, is_some, if◌then◌else◌, nat_eq, refl, sym, ap, ap₂, subst, subst₂, ◌∙◌, inl, inr, arith}
+use Rattle.std.proofs.Common.{◌≡◌, ℕ, ◌+◌, ◌<◌, ◌≤◌, Bool, true, false, List, Option, Some, None, MatchOption, Result, Ok, Err, IsSome, is_some, if◌then◌else◌, nat_eq, refl, sym, ap, ap₂, subst, subst₂, ◌∙◌, inl, inr, arith}
 use Rattle.std.proofs.lemmas.Bool.{cases_Bool, cases_eq, cases_lt}
 use Rattle.offset_allocator.specs.{Classes.up, Classes.value, Relations.SameState, Requests.blocks_needed, Requests.units_needed, View.IsWellFormed, View.View, View.used_of}
 use Rattle.offset_allocator.specs.declared.moves.room.RoomCost.{RoomCost}
@@ -13,8 +13,8 @@ use Rattle.offset_heaps.specs.declared.place.Place.{Place}
 use Rattle.offset_heaps.specs.declared.refusal.Refusal.{Refusal}
 use Rattle.offset_heaps.specs.declared.refusal.Refusal.TheVariants.{Memory}
 use Rattle.offset_heaps.specs.Changing.{CanResizeAt, CanResizeIn, ResizesAt, Wanted, Less, More, Alters, CompactsAll, CompactsIn, PacksIn, MakesRoomIn, Resizes, ResizesSpace}
-use Rattle.offset_heaps.specs.Extending.{CanExtendIn, ExtendsIn}
-use Rattle.offset_heaps.specs.Heaps.{Heaps, Grants, IsFirstFit, IsGrown, IsNext, IsSame, IsWhy, NoneFits, Puts, heap_at, is_empty, empties, live_of, numbers, part, slot, AreTotals, free_of, largest_room}
+use Rattle.offset_heaps.specs.Extending.{CanExtendIn, ExtendsIf}
+use Rattle.offset_heaps.specs.Heaps.{Heaps, Grants, IsFirstFit, IsGrown, IsNext, IsWhy, NoneFits, Puts, heap_at, is_empty, empties, live_of, numbers, part, slot, AreTotals, free_of, largest_room}
 use Rattle.offset_heaps.specs.{Heaps.room_of, Heaps.size_of, Heaps.total, Histories.ResetsAll, State.quiet, Twins.AreTwins, Twins.IsTwin, Twins.IsTwinIn}
 use Rattle.offset_heaps.specs.declared.totals.Totals.{Totals}
 use Rattle.offset_heaps.specs.Relocating.{HasLive, IsEmptiest, NoneLive, TakesRange, granted, live_at, units_in, units_of}
@@ -24,7 +24,7 @@ use Rattle.offset_heaps.specs.Calls.{Allocates, TakesAll, Call, Allocate, Alloca
 use Rattle.offset_heaps.proofs.Decided.{first_twins, grants_decided, grown_twin, known, known_at, must_in_twins, next_twins, none_fit_twins, one_first, one_fit, one_next, puts_twins, same_twins, why_twins}
 use Rattle.offset_heaps.proofs.DecidedTight.{tights_decided}
 use Rattle.offset_heaps.proofs.Growing.{grown_formed}
-use Rattle.offset_heaps.proofs.Twins.{as_twin, free_twins, kept_twins, none_twins, option_twin, put_twins, range_twins, reset_twins, room_twins, slid_twins, some_twin, total_twins, twin_some, twin_sym, twins_sym, twins_trans}
+use Rattle.offset_heaps.proofs.Twins.{as_twin, free_twins, kept_twins, none_twins, option_twin, range_twins, reset_twins, room_twins, slid_twins, some_twin, total_twins, twin_some, twin_sym, twins_sym, twins_trans}
 
 -- ---- requests
 pub refused : (size align : ℕ) (hs : Heaps) (why : Refusal) (g : Granted) → (size ≡ 0 → ⊥) → IsWhy size align hs why → (why ≡ Memory → ⊥)
@@ -136,6 +136,10 @@ can_extend_twin : (more : ℕ) (o p : Option Guard) → IsTwinIn o p → CanExte
 can_extend_twin more None p u can = absurd can
 can_extend_twin more (Some g) p u can = subst (CanExtendIn more) (sym u.1) (subst (λ (z : Guard). CanExtendIn more (Some z)) (sym (as_twin g u.0 u.2)) can)
 
+can_there : (more : ℕ) (o : Option Guard) → CanExtendIn more o → IsSome o
+can_there more None can = absurd can
+can_there more (Some g) can = refl
+
 pub lengthens_decided : (k more : ℕ) (hs hs' ks ks' : Heaps) → state.IsWellFormed hs → AreTwins hs hs' → (r r' : Result Bool AllocError) → Lengthens k more hs ks r → Lengthens k more hs' ks' r'
     → ((e : AllocError) → r ≡ Err e → ⊥) → ((e : AllocError) → r' ≡ Err e → ⊥) → (r ≡ r') × AreTwins ks ks'
 lengthens_decided k more hs hs' ks ks' is t (Err e) r' x y m n = absurd (m e refl)
@@ -147,10 +151,10 @@ lengthens_decided k more hs hs' ks ks' is t (Ok false) (Ok true) x y m n =
 lengthens_decided k more hs hs' ks ks' is t (Ok false) (Ok false) x y m n =
     (refl, twins_trans ks hs ks' (twins_sym hs ks (x.refused refl)) (twins_trans hs hs' ks' t (y.refused refl)))
 lengthens_decided k more hs hs' ks ks' is t (Ok true) (Ok true) x y m n =
-    let P = ExtendsIn hs.limits k more in
-    let Q = ExtendsIn hs'.limits k more in
-    let a = x.step refl in
-    let b = y.step refl in
+    let P = ExtendsIf hs.limits k more true in
+    let Q = ExtendsIf hs'.limits k more true in
+    let a = x.step (can_there more (heap_at k hs) (x.done.0 refl)) in
+    let b = y.step (can_there more (heap_at k hs') (y.done.0 refl)) in
     let before = before_twins k P Q hs hs' ks ks' t a b in
     let well = known_at hs (known hs is) k a.before a.heap in
     let between = grown_twin hs.limits k a.before b.before a.by.between b.by.between before (twin_sym a.before b.before before) a.by.grown

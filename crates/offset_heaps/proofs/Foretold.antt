@@ -1,8 +1,7 @@
 -- What a request is answered is what was foretold, and the units of a heap that is made for it.
-use Rattle.std.proofs.Common.{◌≡◌, ◌≢◌, ℕ, ◌≤◌, ◌⊎◌, true, false, Option, Some, None, MatchOption, Result, Ok, Err, IfErr, option_map, refl, sym, ap, ◌∙◌, inl, inr, arith}
-use Rattle.std.proofs.lemmas.Bool.{cases_eq}
-use Rattle.offset_allocator.specs.{Requests.blocks_needed, Requests.units_needed, View.View}
-use Rattle.offset_guarded.specs.Guard.{Guard, handle_in}
+use Rattle.std.proofs.Common.{◌≡◌, ℕ, true, Option, Some, None, MatchOption, Result, Ok, Err, IfErr, option_map, ap, ◌∙◌, inl, inr}
+use Rattle.offset_allocator.specs.{View.View}
+use Rattle.offset_guarded.specs.Guard.{handle_in}
 use Rattle.offset_heaps.specs.declared.place.Granted.{Granted}
 use Rattle.offset_heaps.specs.declared.refusal.Refusal.{Refusal}
 use Rattle.offset_heaps.specs.declared.refusal.Refusal.TheVariants.{Memory}

@@ -1,7 +1,7 @@
 -- Tight requests: which heap holds one, what a grant leaves, and why one is refused.
-use Rattle.std.proofs.Common.{◌≡◌, ◌↔◌, ℕ, ◌+◌, ◌<◌, ◌≤◌, ◌⊎◌, Bool, true, false, Option, Some, None, List, Result, Ok, Err, IfOk, IfErr, IfSome, IsTrue, MatchOption, is_some, length, slice_set, nat_eq, refl, sym, ap, ap₂, subst, ◌∙◌, inl, inr, arith}
+use Rattle.std.proofs.Common.{◌≡◌, ◌↔◌, ℕ, ◌<◌, ◌≤◌, true, false, Option, Some, None, List, Result, Ok, Err, IfOk, IfErr, MatchOption, is_some, length, slice_set, nat_eq, refl, sym, ap, subst, ◌∙◌, inl, inr, arith}
 use Rattle.std.proofs.lemmas.Bool.{cases_Bool, cases_eq, cases_lt}
-use Rattle.offset_allocator.specs.{Requests.blocks_needed, Requests.units_needed, Tight.CanHold, View.IsWellFormed}
+use Rattle.offset_allocator.specs.{Requests.blocks_needed, Requests.units_needed, View.IsWellFormed}
 use Rattle.offset_allocator.proofs.Holding.{grant_holds}
 use Rattle.offset_guarded.specs.Guard.{Guard}
 use Rattle.offset_guarded.specs.declared.ticket.Ticket.{Ticket}
@@ -11,10 +11,10 @@ use Rattle.offset_heaps.specs.declared.place.Place.{Place}
 use Rattle.offset_heaps.specs.declared.refusal.Refusal.{Refusal}
 use Rattle.offset_heaps.specs.declared.refusal.Refusal.TheVariants.{Empty, TooLarge, Full, Memory}
 use Rattle.offset_heaps.specs.Asking.{IsWhyNone}
-use Rattle.offset_heaps.specs.Heaps.{Heaps, Grants, IsFirstFit, IsForRoom, IsGrown, IsNext, IsSame, IsWhy, KeepsOthers, MayEverFit, MustGrowIn, NoneFits, heap_at, range_in, range_of, room, room_of, slot}
+use Rattle.offset_heaps.specs.Heaps.{Heaps, Grants, IsForRoom, IsGrown, IsNext, IsSame, IsWhy, KeepsOthers, MustGrowIn, NoneFits, heap_at, range_in, range_of, room, slot}
 use Rattle.offset_heaps.specs.{Slots.CanHoldIn, Slots.Changes, Slots.Fills, Slots.GrowsIn}
-use Rattle.offset_heaps.specs.Tight.{GrantsTight, IsFirstHolding, IsRefusedForTight, IsServedTight, IsUnheld, IsWhyTight, NoneHolds}
-use Rattle.offset_heaps.proofs.{Grants.grown_once, Grants.next_fits, Grants.not_live_before, Grants.others_kept, Grants.range_granted, Growing.grown_range, Growing.must_in, Growing.set_twice}
+use Rattle.offset_heaps.specs.Tight.{GrantsTight, IsFirstHolding, IsRefusedForTight, IsServedTight, IsWhyTight, NoneHolds}
+use Rattle.offset_heaps.proofs.{Grants.granted_since, Grants.grown_once, Grants.next_fits, Grants.not_live_before, Grants.others_kept, Grants.range_granted, Growing.grown_range, Growing.must_in, Growing.set_twice}
 use Rattle.offset_heaps.proofs.{Numbers.slot_same, Numbers.slot_there, Places.none_if, Places.put_keeps, Places.same_realm, Places.shown, Rooms.can}
 
 -- ---- what a heap holds
@@ -114,6 +114,26 @@ module _ (size align : ℕ) (hs ks : Heaps) (p : Place) (g : GrantsTight size al
   others_filled : KeepsOthers p hs ks
   others_filled = put_keeps hs ks p.heap (Some g.after) slots realms there p refl g.realm
       (λ u apart. g.grants.others u apart ∙ grown_range hs.limits p.heap u g.was g.before g.grown ∙ sym (ap (range_in u) g.heap))
+
+-- a request is granted in a heap that was there, or in a new one
+pub not_filled : (size align : ℕ) (hs ks : Heaps) (r : Result Granted Refusal) (P : Granted → Type 0) → IfOk r (λ g. (g.is_new ≡ true) × P g)
+    → IfOk r (λ g. g.is_new ≡ false → GrantsTight size align hs ks g.place)
+not_filled size align hs ks (Ok g) P h = λ e. absurd (let q : true ≡ false = sym h.0 ∙ e in cc)
+not_filled size align hs ks (Err why) P h = tt
+
+pub not_made : (size align : ℕ) (hs ks : Heaps) (r : Result Granted Refusal) (P : Granted → Type 0) → IfOk r (λ g. (g.is_new ≡ false) × P g)
+    → IfOk r (λ g. g.is_new ≡ true → Grants size align hs ks g)
+not_made size align hs ks (Ok g) P h = λ e. absurd (let q : false ≡ true = sym h.0 ∙ e in cc)
+not_made size align hs ks (Err why) P h = tt
+
+pub granted_when : (size align : ℕ) (hs ks ls : Heaps) (r : Result Granted Refusal) → IsSame hs ks → IfOk r (Grants size align ks ls) → IfOk r (λ g. g.is_new ≡ true → Grants size align hs ls g)
+granted_when size align hs ks ls (Ok g) same h = λ _. granted_since size align hs ks ls g same h
+granted_when size align hs ks ls (Err why) same h = tt
+
+pub made_since : (size align : ℕ) (hs ks : Heaps) (r : Result Granted Refusal) → IsSame hs ks → NoneHolds size align hs → IfOk r (λ g. (g.is_new ≡ true) × IsNext size g.place.heap ks)
+    → IfOk r (λ g. g.is_new ≡ true → NoneHolds size align hs × IsNext size g.place.heap hs)
+made_since size align hs ks (Ok g) same none h = λ _. (none, subst (λ (k : Heaps). IsNext size g.place.heap k) same h.1)
+made_since size align hs ks (Err why) same none h = tt
 
 -- in either heap
 module _ (size align : ℕ) (hs ks : Heaps) (r : Result Granted Refusal) (fills : IfOk r (λ g. g.is_new ≡ false → GrantsTight size align hs ks g.place))

@@ -1,14 +1,14 @@
 -- Heaps whose space becomes larger in place.
-use Rattle.std.proofs.Common.{◌≡◌, ◌↔◌, ℕ, ◌+◌, ◌<◌, ◌≤◌, Bool, true, false, Result, Ok, Err, IfOk, IsTrue, List, [], ◌∷◌, ◌++◌, Option, Some, None, IfSome, length, length-append, option_map, slice_set, refl, sym, ap, subst, ◌∙◌, inl, inr, arith}
-use Rattle.std.proofs.lemmas.Bool.{cases_lt}
+use Rattle.std.proofs.Common.{◌≡◌, ◌↔◌, ℕ, ◌+◌, ◌<◌, ◌≤◌, Bool, true, false, List, [], ◌∷◌, ◌++◌, Option, Some, IfSome, length, length-append, sym, ap, subst, ◌∙◌, inl, inr, arith}
 use Rattle.offset_allocator.specs.{Relations.Adds, Relations.CanExtend, Relations.Extends, View.Block, View.View, View.free_block, View.units}
 use Rattle.offset_guarded.specs.Guard.{Guard}
 use Rattle.offset_guarded.specs.Guard as guarded
-use Rattle.offset_guarded.specs.declared.ticket.Ticket.{Ticket}
 use Rattle.offset_heaps.specs.declared.limits.Limits.{Limits}
 use Rattle.offset_heaps.specs.Extending.{ExtendsIf, ExtendsIn}
 use Rattle.offset_heaps.specs.Heaps.{HasNodesLeft, IsFirstLimit, IsGrown, IsOfKind, MustGrow, grown_limit}
-use Rattle.offset_heaps.proofs.Growing.{enough_left, grown_kind, grown_range, grown_realm, grown_same, grown_stays, usual_left}
+use Rattle.offset_heaps.specs.Twins.{IsTwin}
+use Rattle.offset_heaps.proofs.Twins.{range_twin}
+use Rattle.offset_heaps.proofs.Growing.{enough_left, grown_kind, grown_stays, usual_left}
 
 -- ---- what becomes of a space
 extended_blocks : (more : ℕ) (v w : View) → Extends more v w true → length w.blocks ≤ length v.blocks + 2
@@ -42,11 +42,6 @@ module _ (limits : Limits) (k more : ℕ) (g h : Guard) (has : k < limits.most �
   can_grown (inl up) fits = (λ _ _. can_before up.0 fits, λ _ _. can_after up.0 up.1 fits)
   can_grown (inr kept) fits = (λ c some. subst (λ (z : Guard). CanExtend more z.space) kept.1 (c some), λ c some. subst (λ (z : Guard). CanExtend more z.space) (sym kept.1) (c some))
 
-  -- what can't be done leaves the heap as it was: it did not grow
-  pub kept_short : IsGrown limits k g h → g.space.size + more ≤ 4294967295 → ((1 ≤ more → CanExtend more h.space) → ⊥) → h ≡ g
-  kept_short (inl up) fits no = absurd (no (λ _. can_after up.0 up.1 fits))
-  kept_short (inr kept) fits no = kept.1
-
 -- ---- the heap is of its kind, and keeps its realm
 extended_kind : (limits : Limits) (k more : ℕ) (g h : Guard) → IsFirstLimit limits → ExtendsIn limits k more g h → IsOfKind limits k g → IsOfKind limits k h
 extended_kind limits k more g h first e kind =
@@ -63,7 +58,7 @@ extended_kind limits k more g h first e kind =
             (
               omega (arith, limit, left.0),
               omega (arith, limit, left.1),
-              enough_left limits k e.between h (grown_stays limits k g e.between first (usual_left limits k g kind) e.grown) blocks limit u.0 left,
+              enough_left limits k e.between h (grown_stays limits k g e.between first (usual_left limits k g (inl u)) e.grown) blocks limit u.0 left,
             ),
           )
       | inr l ↦ inr (l.0, omega (arith, size, l.1), limit ∙ grown_four e.grown l ∙ l.2)
@@ -90,3 +85,11 @@ kind_longer limits k more done old new before after was is first e kind = rw is 
 pub realm_longer : (limits : Limits) (k more : ℕ) (done : Bool) (g h : Guard) → ExtendsIf limits k more done g h → h.realm ≡ g.realm
 realm_longer limits k more true g h e = e.serials.realm
 realm_longer limits k more false g h e = e.1.realm
+
+-- every ticket keeps its range, and what can't be done leaves what no answer tells from the heap before
+pub twin_same : (g h : Guard) → guarded.IsSame g h → IsTwin g h
+twin_same g h s = record { space = s.0; serials = λ x live. s.1.cells x; given = s.1.given; realm = s.1.realm }
+
+pub range_longer : (limits : Limits) (k more : ℕ) (done : Bool) (g h : Guard) → ExtendsIf limits k more done g h → guarded.KeepsAll g h
+range_longer limits k more true g h e = e.kept
+range_longer limits k more false g h e = λ t. range_twin t g h (twin_same g h e)

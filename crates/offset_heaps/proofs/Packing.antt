@@ -1,5 +1,5 @@
 -- What compacting all heaps leaves, and the moves that a closure is called with.
-use Rattle.std.proofs.Common.{◌≡◌, ℕ, suc, ◌+◌, ◌<◌, ◌≤◌, Bool, true, false, List, [], ◌∷◌, ◌++◌, Option, Some, None, IfSome, length, drop, map, nat_eq, option_map, if◌then◌else◌, refl, sym, ap, subst, ◌∙◌, arith}
+use Rattle.std.proofs.Common.{◌≡◌, ℕ, suc, ◌+◌, ◌<◌, ◌≤◌, Bool, true, false, List, [], ◌∷◌, ◌++◌, Option, Some, None, IfSome, length, drop, nat_eq, option_map, if◌then◌else◌, refl, sym, ap, subst, ◌∙◌, arith}
 use Rattle.std.proofs.Math.Seq.{drop-cons}
 use Rattle.std.specs.List.{FoldsTo}
 use Rattle.offset_allocator.specs.{Moving.Compacting.Move, Ranges.Range, View.View}
@@ -58,12 +58,16 @@ pub kept_along : {F X : Type 0} (R : F → X → F → Type 0) (P : F → Type 0
 kept_along R P each [] f g a h = subst P a h
 kept_along R P each (x ∷ xs) f g a h = kept_along R P each xs a.0 g a.2 (each f x a.0 a.1 h)
 
--- steps of a closure that calls another one with a number too: `see` is that one, and each call keeps its place
-pub numbered_steps : {C F N : Type 0} (R : C → Move → C → Type 0) (Q : F → ℕ × Move → F → Type 0) (see : C → F) (place : C → N) (k : ℕ)
-    → ((p : C) (x : Move) (q : C) → R p x q → Q (see p) (k, x) (see q) × (place q ≡ place p)) → (xs : List Move) (p q : C) → FoldsTo R p xs q
-    → FoldsTo Q (see p) (numbered k xs) (see q) × (place q ≡ place p)
-numbered_steps R Q see place k each [] p q e = (ap see e, ap place (sym e))
-numbered_steps R Q see place k each (x ∷ xs) p q f =
+-- steps of a closure that calls another one with a number too: `see` is that one, and each call keeps its place and what it
+-- has the number of
+pub numbered_steps : {C F N B : Type 0} (R : C → Move → C → Type 0) (Q : F → ℕ × Move → F → Type 0) (see : C → F) (place : C → N) (own : C → B) (number : B → ℕ)
+    → ((p : C) (x : Move) (q : C) → R p x q → Q (see p) (number (own p), x) (see q) × (place q ≡ place p) × (own q ≡ own p)) → (xs : List Move) (p q : C) → FoldsTo R p xs q
+    → FoldsTo Q (see p) (numbered (number (own p)) xs) (see q) × (place q ≡ place p)
+numbered_steps R Q see place own number each [] p q e = (ap see e, ap place (sym e))
+numbered_steps R Q see place own number each (x ∷ xs) p q f =
     let one = each p x f.0 f.1 in
-    let rest = numbered_steps R Q see place k each xs f.0 q f.2 in
-    ((see f.0, one.0, rest.0), rest.1 ∙ one.1)
+    let rest = numbered_steps R Q see place own number each xs f.0 q f.2 in
+    ((see f.0, one.0, subst (λ n. FoldsTo Q (see f.0) (numbered (number n) xs) (see q)) one.2 rest.0), rest.1 ∙ one.1)
+
+pub given : {A B : Type 0} → A → (A → B) → B
+given a f = f a

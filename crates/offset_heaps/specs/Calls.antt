@@ -92,9 +92,10 @@ pub record TakesSize (how : Wanted) (p : Place) (hs ks : Heaps) (r : Option Bool
 -- `extend_heap`
 pub record Lengthens (k more : ℕ) (hs ks : Heaps) (r : Result Bool AllocError) : Type 0 where
   pub done : IfOk r (λ d. IsTrue d ↔ CanExtendIn more (heap_at k hs))
+  pub none : heap_at k hs ≡ None → IsSame hs ks
   pub refused : r ≡ Ok false → AreTwins hs ks
   pub same : OnErr r (IsSame hs ks)
-  pub step : r ≡ Ok true → ExtendsHeap k more hs ks
+  pub step : IfOk r (λ d. IsSome (heap_at k hs) → ExtendsHeap k more d hs ks)
 
 -- `compact_heap`
 pub record Packs (k : ℕ) (hs ks : Heaps) (r : Bool) : Type 0 where

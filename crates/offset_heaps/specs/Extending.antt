@@ -27,5 +27,5 @@ abbrev pub ExtendsIf : Limits → ℕ → ℕ → Bool → Guard → Guard → T
 ExtendsIf limits k more true g h = ExtendsIn limits k more g h
 ExtendsIf limits k more false g h = guarded.IsSame g h
 
-abbrev pub ExtendsHeap : ℕ → ℕ → Heaps → Heaps → Type 0
-ExtendsHeap k more hs ks = Alters k (ExtendsIn hs.limits k more) hs ks
+abbrev pub ExtendsHeap : ℕ → ℕ → Bool → Heaps → Heaps → Type 0
+ExtendsHeap k more done hs ks = Alters k (ExtendsIf hs.limits k more done) hs ks

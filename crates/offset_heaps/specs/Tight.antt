@@ -1,5 +1,5 @@
 -- Tight requests: which heap grants one, what it leaves, and why one is refused.
-use Rattle.std.specs.Prelude.{◌≡◌, ℕ, ◌+◌, ◌*◌, ◌<◌, ◌≤◌, ◌⊎◌, Option, None, Some, length}
+use Rattle.std.specs.Prelude.{◌≡◌, ℕ, ◌+◌, ◌*◌, ◌<◌, ◌≤◌, ◌⊎◌, Some, length}
 use Rattle.offset_allocator.specs.Classes.{down}
 use Rattle.offset_allocator.specs.Tight.{AlignsTight, listed_from}
 use Rattle.offset_guarded.specs.Guard.{Guard, handle_in}

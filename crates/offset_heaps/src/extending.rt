@@ -1,5 +1,5 @@
 //! Heaps whose space becomes larger in place. It changes one slot, and notes it in the index.
-ghost use Rattle.std.specs.Prelude.{◌≡◌, ◌↔◌, ◌+◌, ◌<◌, ◌≤◌, Ok, Some, IfOk, IfSome, IsErr, IsSome, IsTrue, OnErr};
+ghost use Rattle.std.specs.Prelude.{◌≡◌, ◌↔◌, ◌+◌, ◌<◌, ◌≤◌, None, Ok, Some, IfOk, IfSome, IsErr, IsSome, IsTrue, OnErr};
 ghost use Rattle.std.specs.Prelude.{false, option_map, true};
 ghost use Rattle.offset_heaps.specs.Changing.{AltersIn};
 ghost use Rattle.offset_heaps.specs.Extending.{CanExtendIn, ExtendsHeap, ExtendsIf};
@@ -93,8 +93,10 @@ impl<T: Tables> HeapsOf<T> {
         ensures must { IsErr result → MustGrowIn self.old.limits number (heap_at number self.old)
             × CanExtendIn more (heap_at number self.old) }
         ensures same { OnErr result (IsSame self.old self.new) }
+        ensures none { heap_at number self.old ≡ None → IsSame self.old self.new }
         // The step of its heap. All other heaps are as they were.
-        ensures step { result ≡ Ok true → ExtendsHeap number more self.old self.new }
+        ensures step { IfOk result
+            (λ done. IsSome (heap_at number self.old) → ExtendsHeap number more done self.old self.new) }
         ensures steps { TakesFewSteps self.old self.new }
     {
         if !self.slots.has(number, &mut self.accesses) {

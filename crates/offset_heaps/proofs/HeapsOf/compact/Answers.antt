@@ -25,3 +25,6 @@ returns-clause-sizes g c =
     let old = shown c.self.inside.slots c.self.inside.limits c.self.inside.made c.self.inside.realm c.self.inside.accesses in
     let new = shown c.compact_all.new.slots c.self.inside.limits c.self.inside.made c.self.inside.realm c.compact_all.new.count in
     rw (← c.self.view_is) (sizes_packed old new (record { heaps = c.compact_all.ensures.done; rest = refl }))
+
+pub returns-clause-moved : goal.returns-clause-moved
+returns-clause-moved g c = rw (← c.self.view_is) c.compact_all.ensures.moved

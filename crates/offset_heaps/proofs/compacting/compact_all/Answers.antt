@@ -1,5 +1,5 @@
-use Rattle.std.proofs.Common.{◌≡◌, ◌+◌, ◌<◌, ◌∙◌, ap, arith, drop, length, subst, sym}
-use Rattle.std.proofs.lemmas.List.{length-set}
+use Rattle.std.proofs.Common.{◌≡◌, ◌+◌, ◌<◌, ◌≤◌, ◌∙◌, [], ap, arith, drop, length, refl, subst, sym}
+use Rattle.std.proofs.lemmas.List.{drop_all, length-set}
 use Rattle.std.specs.List.{FoldsTo}
 use Rattle.offset_heaps.specs.{Changing.IsCalledAt, Changing.PacksIn, Changing.moves_from, Changing.moves_in, Changing.numbered, Heaps.slot}
 use Rattle.offset_heaps.proofs.{Packing.folds_append, Packing.moves_step, Sound.changes_more, Sound.noted_changed}
@@ -29,3 +29,11 @@ loop-number-preserved g c =
           c.note.ensures.others;
       levels = c.note.ensures.levels ∙ inv.levels;
     }
+
+pub returns-clause-moved : goal.returns-clause-moved
+returns-clause-moved g c =
+    let all = c.requires.numbers in
+    let past : length c.args.slots.now ≤ c.loop-number.number = omega arith in
+    let none : drop c.loop-number.number c.args.slots.now ≡ [] = drop_all c.loop-number.number c.args.slots.now past in
+    c.loop-number.invariant.moves c.loop-number.moved
+    (subst (λ s. FoldsTo (IsCalledAt g.T.Index.NonMax.NodeIndexNonMax.number (λ f k range h. goal.F-step g f k range tt h)) c.loop-number.moved (moves_from c.loop-number.number s) c.loop-number.moved) (sym none) refl)
