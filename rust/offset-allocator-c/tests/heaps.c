@@ -164,7 +164,7 @@ static void states(void) {
     /* numbers that are wrong, with the checksum of them */
     static const struct { int place; uint64_t number; oa_found found; size_t at; } wrong[] = {
         {0, 1397244240, OA_BAD_FORM, 0}, {1, 1, OA_BAD_FORM, 0}, {2, 1ull << 32, OA_BAD_LIMIT, 16},
-        {2, 99, OA_BAD_SIZE, 112}, {3, 5, OA_BAD_LIMIT, 32}, {3, 3, OA_BAD_LIMIT, 24}, {4, 5, OA_BAD_LIMIT, 32}, {4, 3, OA_BAD_LIMIT, 32},
+        {2, 101, OA_BAD_SIZE, 112}, {3, 5, OA_BAD_LIMIT, 32}, {3, 3, OA_BAD_LIMIT, 24}, {4, 5, OA_BAD_LIMIT, 32}, {4, 3, OA_BAD_LIMIT, 32},
         {5, 1ull << 63, OA_BAD_LIMIT, 40}, {6, 1001, OA_BAD_LIMIT, 48},
         {7, 1ull << 32, OA_BAD_COUNTS, 56}, {7, 0, OA_BAD_REALM, 112 + 32}, {8, 1ull << 32, OA_BAD_COUNTS, 64},
         {9, 1, OA_BAD_PLACE, 72}, {10, 1000, OA_BAD_PLACE, 80}, {10, 0, OA_BAD_PLACE, 0}, {12, 0, OA_BAD_PLACE, 96},
@@ -229,6 +229,41 @@ static void in_place(void) {
     CHECK(!oah_make_room(heaps, 0, 101, NULL, NULL).possible && !oah_make_room(heaps, 9, 1, NULL, NULL).possible);
     oah_limits same = oah_limits_of(heaps);
     CHECK(same.size == 100 && same.max_allocs == 8 && same.most == 2 && same.most_larger == 2);
+    oah_drop(heaps);
+}
+
+static uint32_t moved_in[2];
+
+static void note_move_in(void *user, uint32_t heap, oa_move range) {
+    (void) user;
+    moved_in[heap] += range.size;
+}
+
+/* Heaps that become larger, tight requests, and all heaps compacted. */
+static void filled(void) {
+    oah_limits limits = {100, 8, 2, 0};
+    oah_heaps *heaps = oah_new(limits, 9);
+    oah_place hole = oah_allocate(heaps, 21).place, rest = oah_allocate(heaps, 70).place;
+    /* a request of 21 units is rounded up to 22, and of the last 9 units 4 begin at a multiple of 16 */
+    CHECK(oah_free(heaps, hole) && oah_why_tight(heaps, 21) == OAH_GRANTED && oah_allocate_tight(heaps, 21).place.heap == 0);
+    oah_place last = oah_allocate_tight_aligned(heaps, 4, 16).place;
+    CHECK(last.heap == 0 && oah_offset_of(heaps, last) == 96 && oah_storage_report(heaps, 0).total_free_space == 5);
+    oah_granted other = oah_allocate_tight(heaps, 90);
+    CHECK(other.is_new && other.place.heap == 1 && oah_why_tight(heaps, 11) == OAH_FULL && oah_why_tight_aligned(heaps, 97, 8) == OAH_TOO_LARGE);
+    CHECK(oah_allocate_tight(heaps, 11).refusal == OAH_FULL && oah_allocate_tight_aligned(heaps, 1, 0).refusal == OAH_BAD_CALL);
+    CHECK(oah_extend_heap(heaps, 1, 30) && oah_units_of_heap(heaps, 1) == 130 && !oah_extend_heap(heaps, 2, 1) && !oah_extend_heap(heaps, 1, 4294967295u));
+    CHECK(oah_why_tight_aligned(heaps, 1, 0) == OAH_BAD_CALL && oah_allocate_tight(heaps, 40).place.heap == 1);
+    CHECK(oah_free(heaps, rest) && oah_free(heaps, other.place));
+    oah_compact(heaps, note_move_in, NULL);
+    CHECK(moved_in[0] == 4 && moved_in[1] == 40 && oah_offset_of(heaps, last) == 21);
+    /* a heap that is larger than the limits say is read again */
+    oa_state *state = oah_write_state(heaps);
+    oah_read read = oah_read_state(state, 2, 8);
+    CHECK(read.heaps && oah_units_of_heap(read.heaps, 1) == 130 && oah_offset_of(read.heaps, last) == 21);
+    oa_state_drop(state);
+    oah_drop(read.heaps);
+    /* once it is dropped, its number has the usual size again */
+    CHECK(oah_give_up(heaps, 1) && oah_allocate(heaps, 90).place.heap == 1 && oah_units_of_heap(heaps, 1) == 100);
     oah_drop(heaps);
 }
 
@@ -301,6 +336,9 @@ static void nulls(void) {
     CHECK(!oah_first_place(NULL).ticket.serial && !oah_place_after(NULL, none.place).ticket.serial && !oah_first_live(NULL, 0).ticket.serial);
     CHECK(!oah_live_after(NULL, none.place).ticket.serial && oah_limits_of(NULL).size == 0 && oah_why(NULL, 1) == OAH_BAD_CALL);
     CHECK(oah_why_aligned(NULL, 1, 1) == OAH_BAD_CALL && !oah_shrink(NULL, none.place, 0) && !oah_grow_in_place(NULL, none.place, 0));
+    CHECK(oah_allocate_tight(NULL, 1).refusal == OAH_BAD_CALL && oah_allocate_tight_aligned(NULL, 1, 1).refusal == OAH_BAD_CALL);
+    CHECK(oah_why_tight(NULL, 1) == OAH_BAD_CALL && oah_why_tight_aligned(NULL, 1, 1) == OAH_BAD_CALL && !oah_extend_heap(NULL, 0, 1));
+    oah_compact(NULL, NULL, NULL);
     CHECK(!oah_compact_heap(NULL, 0, NULL, NULL) && !oah_make_room(NULL, 0, 0, NULL, NULL).possible);
     oah_reset(NULL);
     oah_drop(NULL);
@@ -314,6 +352,7 @@ int main(void) {
     states();
     nulls();
     in_place();
+    filled();
     heaps_grow();
     dumps();
     printf("C: %d checks of heaps pass\n", checks);

@@ -104,7 +104,7 @@ fn has_nodes_left<T: Tables>(heap: &GuardedOf<T>, limits: Limits) -> bool {
 fn is_of_kind<T: Tables>(heap: &GuardedOf<T>, number: u32, limits: Limits) -> bool {
     let space = heap.allocator();
     if number < limits.most {
-        space.size() == limits.size && has_nodes_left(heap, limits)
+        space.size() >= limits.size && has_nodes_left(heap, limits)
     } else {
         space.size() >= 1 && space.max_allocs() == LARGER_LIMIT
     }

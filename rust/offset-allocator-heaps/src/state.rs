@@ -41,7 +41,7 @@ pub enum StateFaultKind {
     Place,
     /// The realm of a heap, of which fewer were made: the place is in the state of the heap.
     Realm,
-    /// The size or the node limit of a heap. Where its number is below `most`: another size than the limits
+    /// The size or the node limit of a heap. Where its number is below `most`: fewer units than the limits
     /// say, a node limit below `first_allocs` or above `max_allocs`, or one below `max_allocs` with fewer than
     /// three unused nodes; else no unit, or another node limit than a larger heap has. The place is where the
     /// state of the heap begins.
@@ -67,7 +67,7 @@ impl fmt::Display for StateFaultKind {
             StateFaultKind::Size => {
                 write!(
                     f,
-                    "a heap of another size or node limit than the limits say"
+                    "a heap with fewer units, or another node limit, than the limits say"
                 )
             }
             StateFaultKind::Heap(kind) => write!(f, "{kind}"),
