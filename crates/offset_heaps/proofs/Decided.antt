@@ -11,7 +11,7 @@ use Rattle.offset_heaps.specs.declared.place.Granted.{Granted}
 use Rattle.offset_heaps.specs.declared.place.Place.{Place}
 use Rattle.offset_heaps.specs.declared.refusal.Refusal.{Refusal}
 use Rattle.offset_heaps.specs.declared.refusal.Refusal.TheVariants.{Empty, TooLarge, Full, Memory}
-use Rattle.offset_heaps.specs.Heaps.{Heaps, Grants, IsBefore, IsFirstFit, IsGrown, IsNew, IsNext, IsSpareLarger, IsSpareUsual, IsUsual, IsWhy, MayEverFit, MustGrow, MustGrowIn, NoneFits, grown_limit, heap_at, larger_limit, room_of, slot, usual_room, usual_size}
+use Rattle.offset_heaps.specs.Heaps.{Heaps, Grants, IsBefore, IsFirstFit, IsGrown, IsNew, IsNext, IsSame, IsSpareLarger, IsSpareUsual, IsUsual, IsWhy, MayEverFit, MustGrow, MustGrowIn, NoneFits, Puts, grown_limit, heap_at, larger_limit, room_of, slot, usual_room, usual_size}
 use Rattle.offset_heaps.specs.State as state
 use Rattle.offset_heaps.specs.Twins.{AreTwins, IsTwin, IsTwinIn}
 use Rattle.offset_heaps.proofs.Doubling.{size_low}
@@ -23,7 +23,7 @@ module _ (hs ks : Heaps) (t : AreTwins hs ks) where
   usual_twins : (units : ℕ) → IsUsual units hs → IsUsual units ks
   usual_twins units u = subst (λ (l : Limits). IsUsual units (record hs { limits = l })) (sym t.limits) u
 
-  may_twins : (units : ℕ) → MayEverFit units hs → MayEverFit units ks
+  pub may_twins : (units : ℕ) → MayEverFit units hs → MayEverFit units ks
   may_twins units m = subst (λ (l : Limits). MayEverFit units (record hs { limits = l })) (sym t.limits) m
 
   spare_usual_twins : (units k : ℕ) → IsSpareUsual units k hs → IsSpareUsual units k ks
@@ -70,7 +70,7 @@ raised_twin limit limit' g h same t = record {
   realm = t.realm;
 }
 
-grown_twin : (limits : Limits) (k : ℕ) (g g' h h' : Guard) → IsTwin g g' → (IsTwin g' g) → IsGrown limits k g h → IsGrown limits k g' h' → IsTwin h h'
+pub grown_twin : (limits : Limits) (k : ℕ) (g g' h h' : Guard) → IsTwin g g' → (IsTwin g' g) → IsGrown limits k g h → IsGrown limits k g' h' → IsTwin h h'
 grown_twin limits k g g' h h' t s (inl a) (inl b) =
     subst₂ IsTwin (sym a.1) (sym b.1) (raised_twin (grown_limit limits g) (grown_limit limits g') g g' (ap (grown_limit limits) (as_twin g g' t)) t)
 grown_twin limits k g g' h h' t s (inl a) (inr b) = absurd (b.0 (must_twin limits k g g' t a.0))
@@ -250,3 +250,15 @@ module _ (size align : ℕ) (hs hs' ks ks' : Heaps) (grant grant' : Granted) (sm
           (put_twins grant.place.heap hs.slots hs'.slots (Some s.after) (Some s'.after) s.number there (s'.after, refl, after) t.heaps j);
     },
   )
+
+-- ---- what calls leave
+pub same_twins : (hs hs' ks ks' : Heaps) → AreTwins hs hs' → IsSame hs ks → IsSame hs' ks' → AreTwins ks ks'
+same_twins hs hs' ks ks' t e f = subst₂ AreTwins (sym e) (sym f) (record { limits = t.limits; made = t.made; realm = t.realm; heaps = t.heaps })
+
+pub puts_twins : (k : ℕ) (o o' : Option Guard) (hs hs' ks ks' : Heaps) → AreTwins hs hs' → k < length hs.slots → k < length hs'.slots → IsTwinIn o o' → Puts k o hs ks → Puts k o' hs' ks' → AreTwins ks ks'
+puts_twins k o o' hs hs' ks ks' t there there' now e f = subst₂ AreTwins (sym e) (sym f) (record {
+  limits = t.limits;
+  made = t.made;
+  realm = t.realm;
+  heaps = put_twins k hs.slots hs'.slots o o' there there' now t.heaps;
+})

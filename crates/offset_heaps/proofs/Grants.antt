@@ -68,20 +68,21 @@ module _ (hs ks : Heaps) (number size align : ℕ) (o : Option Guard) (ticket : 
         heaps = subst (λ o. Adds number o hs ks) by.is adds;
       }
 
+-- a heap that grew, and need not grow again, is one that was there
+pub grown_once : (limits : Limits) (number : ℕ) (o now : Option Guard) → GrowsIn limits number o now → (g h : Guard) → now ≡ Some g → IsGrown limits number g h → (MustGrowIn limits number now → ⊥)
+    → (b : Guard) × (o ≡ Some b) × IsGrown limits number b h
+grown_once limits number None now grows g h e grown stays = absurd (let none = sym grows ∙ e in cc)
+grown_once limits number (Some b) now grows g h e (inl up) stays = absurd (stays (must_in limits number now g e up.0))
+grown_once limits number (Some b) now grows g h e (inr kept) stays =
+    let same : grows.0 ≡ g = some_same grows.0 g (sym grows.1 ∙ e) in
+    (b, refl, subst (IsGrown limits number b) (same ∙ sym kept.1) grows.2)
+
 -- a grant in a heap that grew before, is one of the heap that was there
 module _ (hs between ks : Heaps) (size align number : ℕ) (grant : Granted) (there : number < length hs.slots) (change : Changes number (GrowsIn hs.limits number) hs.slots between.slots)
     (rest : between ≡ record hs { slots = between.slots; accesses = between.accesses }) (none : MustGrowIn hs.limits number (slot number between.slots) → ⊥) (old : grant.is_new ≡ false)
     (at : grant.place.heap ≡ number) where
   found : slot number between.slots ≡ change.now
   found = ap (slot number) change.slots ∙ slot_same hs.slots number change.now there
-
-  was : (o now : Option Guard) → GrowsIn hs.limits number o now → (g h : Guard) → now ≡ Some g → IsGrown hs.limits number g h → (MustGrowIn hs.limits number now → ⊥)
-      → (b : Guard) × (o ≡ Some b) × IsGrown hs.limits number b h
-  was None now grows g h e grown stays = absurd (let none = sym grows ∙ e in cc)
-  was (Some b) now grows g h e (inl up) stays = absurd (stays (must_in hs.limits number now g e up.0))
-  was (Some b) now grows g h e (inr kept) stays =
-      let same : grows.0 ≡ g = some_same grows.0 g (sym grows.1 ∙ e) in
-      (b, refl, subst (IsGrown hs.limits number b) (same ∙ sym kept.1) grows.2)
 
   pub granted_grown : Grants size align between ks grant → Grants size align hs ks grant
   granted_grown given =
@@ -107,7 +108,7 @@ module _ (hs between ks : Heaps) (size align number : ℕ) (grant : Granted) (th
         | inr new ↦ absurd (let e = sym old ∙ new.0 in cc)
         | inl is ↦
             let e : change.now ≡ Some is.1.0 = sym found ∙ ap (λ k. slot k between.slots) (sym at) ∙ is.1.1 in
-            let w = was (slot number hs.slots) change.now change.by is.1.0 g.before e (subst (λ k. IsGrown hs.limits k is.1.0 g.before) at is.1.2)
+            let w = grown_once hs.limits number (slot number hs.slots) change.now change.by is.1.0 g.before e (subst (λ k. IsGrown hs.limits k is.1.0 g.before) at is.1.2)
             (λ must. none (subst (MustGrowIn hs.limits number) (sym found) must)) in
             inl (is.0, (w.0, ap (λ k. slot k hs.slots) at ∙ w.1, subst (λ k. IsGrown hs.limits k w.0 g.before) (sym at) w.2))
       ]

@@ -156,7 +156,7 @@ room_grown limits k blocks g h few (inl usual) (inl up) = room_under (grown_limi
 pub must_in : (limits : Limits) (k : ℕ) (o : Option Guard) (g : Guard) → o ≡ Some g → MustGrow limits k g → MustGrowIn limits k o
 must_in limits k o g e must = subst (MustGrowIn limits k) (sym e) must
 
-usual_left : (limits : Limits) (k : ℕ) (g : Guard) → IsOfKind limits k g → k < limits.most → HasNodesLeft limits g
+pub usual_left : (limits : Limits) (k : ℕ) (g : Guard) → IsOfKind limits k g → k < limits.most → HasNodesLeft limits g
 usual_left limits k g (inl usual) l = usual.2
 usual_left limits k g (inr larger) l = absurd (omega (arith, larger.0, l))
 

@@ -3,6 +3,7 @@ pub mod Changes
 pub mod Counting
 pub mod Decided
 pub mod DecidedCalls
+pub mod DecidedTight
 pub mod DecidedWalks
 pub mod Doubling
 pub mod EachOnce
@@ -14,8 +15,11 @@ pub mod Foretold
 pub mod Grants
 pub mod Growing
 pub mod Histories
+pub mod Holders
+pub mod Longer
 pub mod Numbers
 pub mod OneHeap
+pub mod Packing
 pub mod Places
 pub mod Refusals
 pub mod Rooms

@@ -156,21 +156,21 @@ pub realm_new : (made : ℕ) (o : Option Guard) → IfSome o (λ g. g.realm ≡ 
 realm_new made None h = tt
 realm_new made (Some g) h = omega (arith, h)
 
--- one more heap is reset
-pub resets_more : (first slots now : List (Option Guard)) (n : ℕ) → n < length slots → Changes n ResetsIn slots now → ((k : ℕ) → k < n → ResetsIn (slot k first) (slot k slots))
+-- one more heap is changed, as each is
+pub changes_more : (P : Option Guard → Option Guard → Type 0) (first slots now : List (Option Guard)) (n : ℕ) → n < length slots → Changes n P slots now → ((k : ℕ) → k < n → P (slot k first) (slot k slots))
     → ((k : ℕ) → n ≤ k → slot k slots ≡ slot k first)
-    → ((k : ℕ) → k < n + 1 → ResetsIn (slot k first) (slot k now)) × ((k : ℕ) → n + 1 ≤ k → slot k now ≡ slot k first)
-resets_more first slots now n l change done left = (
+    → ((k : ℕ) → k < n + 1 → P (slot k first) (slot k now)) × ((k : ℕ) → n + 1 ≤ k → slot k now ≡ slot k first)
+changes_more P first slots now n l change done left = (
   λ k below. elim (cases_eq k n) [
-    | inl e ↦ rw (e, change.slots, slot_same slots n change.now l) (subst (λ o. ResetsIn o change.now) (left n (omega arith)) change.by)
+    | inl e ↦ rw (e, change.slots, slot_same slots n change.now l) (subst (λ o. P o change.now) (left n (omega arith)) change.by)
     | inr d ↦ rw (change.slots, slot_other slots n k change.now d) (done k (omega arith))
   ],
   λ k past. rw change.slots (slot_other slots n k change.now (λ e. omega arith) ∙ left k (omega arith)),
 )
 
-pub noted_reset : (limits : Limits) (slots now : List (Option Guard)) (n : ℕ) (old new : Index) → Changes n ResetsIn slots now → ((k : ℕ) → IsNoted limits slots old k)
+pub noted_changed : (P : Option Guard → Option Guard → Type 0) (limits : Limits) (slots now : List (Option Guard)) (n : ℕ) (old new : Index) → Changes n P slots now → ((k : ℕ) → IsNoted limits slots old k)
     → IsNoted limits now new n → ((k : ℕ) → (k ≡ n → ⊥) → IsNoted limits now old k → IsNoted limits now new k) → (k : ℕ) → IsNoted limits now new k
-noted_reset limits slots now n old new change noted here others k = elim (cases_eq k n) [
+noted_changed P limits slots now n old new change noted here others k = elim (cases_eq k n) [
   | inl e ↦ rw e here
   | inr d ↦ others k d (rw change.slots (noted_other limits slots old n k change.now d (noted k)))
 ]

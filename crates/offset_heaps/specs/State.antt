@@ -160,5 +160,5 @@ fault_words Counts = codes "a realm or a count of more than 32 bits"
 fault_words Checksum = codes "a checksum that is not that of the numbers"
 fault_words Place = codes "the place of a heap that is not behind the one before it, or not in the bytes"
 fault_words Realm = codes "the realm of a heap that was not made"
-fault_words Size = codes "a heap of another size or node limit than the limits say"
+fault_words Size = codes "a heap with fewer units, or another node limit, than the limits say"
 fault_words (Heap kind) = texts.fault_words kind

@@ -89,7 +89,7 @@ impl<T: Tables> HeapsOf<T> {
     }
 
     // Doubles the node limit of the heap of a number, where it has to grow before a grant.
-    fn grow(&mut self, number: u32) -> Result<(), AllocError>
+    pub(crate) fn grow(&mut self, number: u32) -> Result<(), AllocError>
         requires there { number < length self.old.slots }
         ensures grows { IfOk result (λ _.
             Changes number (GrowsIn self.old.limits number) self.old.slots self.new.slots) }
@@ -231,7 +231,7 @@ impl<T: Tables> HeapsOf<T> {
     }
 
     // Makes a heap for a request that none has room for.
-    fn grant_new(&mut self, size: u32, align: u32) -> Result<Granted, Refusal>
+    pub(crate) fn grant_new(&mut self, size: u32, align: u32) -> Result<Granted, Refusal>
         requires size { 1 ≤ size }
         requires positive { 1 ≤ align }
         requires none { NoneFits (blocks_needed align) (units_needed size align) self.old }

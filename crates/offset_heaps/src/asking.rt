@@ -49,7 +49,7 @@ impl<T: Tables> HeapsOf<T> {
     }
 
     // Why no heap is made for a request that none has room for.
-    fn why_none(&self, size: u32, count: &mut Accesses) -> Option<Refusal>
+    pub(crate) fn why_none(&self, size: u32, count: &mut Accesses) -> Option<Refusal>
         requires some { 1 ≤ size }
         ensures why { IsWhyNone size self.now result }
         ensures accesses { (bits : ℕ) → numbers self.now ≤ 2 ^ bits → count.new ≤ count.old + bits + 1 }

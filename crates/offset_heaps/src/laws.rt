@@ -2,6 +2,7 @@
 ghost use Rattle.std.specs.Prelude.{ℕ, List, ◌≡◌, ◌↔◌, ◌+◌, ◌-◌, ◌*◌, ◌^◌, ◌<◌, ◌≤◌, ◌∷◌, None, Some, IfSome};
 ghost use Rattle.std.specs.Prelude.{Bool, Err, IfErr, MatchOption, Option, Result, length, min, option_map, true};
 ghost use Rattle.std.specs.List.{AllByRecursion};
+ghost use Rattle.std.specs.declared.alloc.AllocError.{AllocError};
 ghost use Rattle.offset_allocator.specs.Ranges.{AreDisjoint, Range};
 ghost use Rattle.offset_allocator.specs.Reporting.Reports.{IsReport};
 ghost use Rattle.offset_allocator.specs.Requests.{CanGrant, blocks_needed, units_needed};
@@ -15,11 +16,12 @@ ghost use Rattle.offset_heaps.specs.Numbering.{AreOfLive, MeetsPlaces, first_fro
 ghost use Rattle.offset_heaps.specs.State.{IsCopy, IsStateOf, IsWellFormed, SameHeaps};
 ghost use Rattle.offset_heaps.specs.Relocating.{IsEmptiest, NoneLive, last_place, place_before};
 ghost use Rattle.offset_heaps.specs.Relocating.{live_at, squares, units_of};
+ghost use Rattle.offset_heaps.specs.Tight.{IsRefusedForTight, IsServedTight};
 ghost use Rattle.offset_heaps.specs.Twins.{AreTwins};
-ghost use Rattle.offset_heaps.specs.Calls.{Allocates, TakesAll, Call, Drops, DropsEmpty, Frees, GivesUp};
-ghost use Rattle.offset_heaps.specs.Calls.{GoAll, Goes, Packs, Relocates, Reply, TakesRoom, TakesSize};
+ghost use Rattle.offset_heaps.specs.Calls.{Allocates, AllocatesTight, TakesAll, Call, Drops, DropsEmpty, Frees, GivesUp};
+ghost use Rattle.offset_heaps.specs.Calls.{GoAll, Goes, Lengthens, Packs, Relocates, Reply, TakesRoom, TakesSize};
 ghost use Rattle.offset_heaps.specs.Asking.{IsRefusedFor, IsServed};
-ghost use Rattle.offset_heaps.specs.Changing.{Wanted};
+ghost use Rattle.offset_heaps.specs.Changing.{CompactsAll, Wanted};
 ghost use Rattle.offset_allocator.specs.declared.moves.room.RoomCost.{RoomCost};
 ghost use Rattle.offset_heaps.specs.declared.limits.Limits.{Limits};
 ghost use Rattle.offset_heaps.specs.declared.place.Granted.{Granted};
@@ -32,6 +34,7 @@ use crate::HeapsOf;
 pub use crate::asking::refusal_aligned_counted;
 pub use crate::numbering::{first_heap_counted, heap_after_counted};
 pub use crate::relocate::emptiest_counted;
+pub use crate::tight::refusal_tight_aligned_counted;
 use offset_allocator::Tables;
 use offset_allocator::laws::{is_well_formed, ranges_are_disjoint};
 
@@ -91,6 +94,15 @@ pub fn reasons_exclude_one_another()
 pub fn refusals_are_foretold()
     ensures { (size align : ℕ) (hs ks : Heaps) (why : Option Refusal) (r : Result Granted Refusal)
         → MatchOption why (IsServed size align hs) (IsRefusedFor size align hs) → Allocates size align hs ks r
+        → MatchOption why (IfErr r (λ w. w ≡ Memory)) (λ w. r ≡ Err w) }
+{}
+
+/// What `refusal_tight_aligned` says is what the same tight request is answered then, as `refusal_aligned` of
+/// other requests. So `refusal_tight` and `allocate_tight`, with the alignment 1.
+pub fn tight_refusals_are_foretold()
+    ensures { (size align : ℕ) (hs ks : Heaps) (why : Option Refusal) (r : Result Granted Refusal)
+        → MatchOption why (IsServedTight size align hs) (IsRefusedForTight size align hs)
+        → AllocatesTight size align hs ks r
         → MatchOption why (IfErr r (λ w. w ≡ Memory)) (λ w. r ≡ Err w) }
 {}
 
@@ -195,11 +207,15 @@ pub fn a_state_is_read_back<T: Tables>(heaps: &HeapsOf<T>)
 /// Heaps and a call decide the result, and the heaps that are left. Heaps are twins where their spaces are in
 /// the same state, and live names have the same serials, however many accesses were counted: of twins a call
 /// returns the same, places and tickets included, and leaves twins. Only where memory is refused to a request
-/// of one of them, the other may have a heap or nodes more.
+/// of one of them, or to its `extend_heap`, the other may have a heap or nodes more.
 pub fn a_state_decides_each_step()
     ensures allocate { (size align : ℕ) (hs hs' ks ks' : Heaps) → size ≤ 4294967295 → IsWellFormed hs
         → AreTwins hs hs' → (r r' : Result Granted Refusal) → Allocates size align hs ks r
         → Allocates size align hs' ks' r' → (r ≡ Err Memory → ⊥) → (r' ≡ Err Memory → ⊥)
+        → (r ≡ r') × AreTwins ks ks' }
+    ensures allocate_tight { (size align : ℕ) (hs hs' ks ks' : Heaps) → size ≤ 4294967295 → IsWellFormed hs
+        → AreTwins hs hs' → (r r' : Result Granted Refusal) → AllocatesTight size align hs ks r
+        → AllocatesTight size align hs' ks' r' → (r ≡ Err Memory → ⊥) → (r' ≡ Err Memory → ⊥)
         → (r ≡ r') × AreTwins ks ks' }
     ensures free { (p : Place) (hs hs' ks ks' : Heaps) → IsWellFormed hs → AreTwins hs hs' → (r r' : Bool)
         → Frees p hs ks r → Frees p hs' ks' r' → (r ≡ r') × AreTwins ks ks' }
@@ -217,8 +233,14 @@ pub fn a_state_decides_each_step()
     ensures resize { (how : Wanted) (p : Place) (hs hs' ks ks' : Heaps) → IsWellFormed hs → AreTwins hs hs'
         → (r r' : Option Bool) → TakesSize how p hs ks r → TakesSize how p hs' ks' r'
         → (r ≡ r') × AreTwins ks ks' }
+    ensures extend_heap { (k more : ℕ) (hs hs' ks ks' : Heaps) → IsWellFormed hs → AreTwins hs hs'
+        → (r r' : Result Bool AllocError) → Lengthens k more hs ks r → Lengthens k more hs' ks' r'
+        → ((e : AllocError) → r ≡ Err e → ⊥) → ((e : AllocError) → r' ≡ Err e → ⊥)
+        → (r ≡ r') × AreTwins ks ks' }
     ensures compact_heap { (k : ℕ) (hs hs' ks ks' : Heaps) → AreTwins hs hs' → (r r' : Bool)
         → Packs k hs ks r → Packs k hs' ks' r' → (r ≡ r') × AreTwins ks ks' }
+    ensures compact { (hs hs' ks ks' : Heaps) → AreTwins hs hs' → CompactsAll hs ks → CompactsAll hs' ks'
+        → AreTwins ks ks' }
     ensures make_room { (k size : ℕ) (hs hs' ks ks' : Heaps) → IsWellFormed hs → AreTwins hs hs'
         → (r r' : Option RoomCost) → TakesRoom k size hs ks r → TakesRoom k size hs' ks' r'
         → (r ≡ r') × AreTwins ks ks' }

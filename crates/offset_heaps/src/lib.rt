@@ -34,6 +34,7 @@ mod compacting;
 mod copying;
 mod drop;
 mod dumping;
+mod extending;
 mod fresh;
 mod index;
 pub mod laws;
@@ -49,6 +50,7 @@ mod restoring;
 mod saving;
 mod slots;
 mod state;
+mod tight;
 mod totals;
 
 pub use dumping::json_of;

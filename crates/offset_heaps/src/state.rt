@@ -70,7 +70,7 @@ impl fmt::Display for StateFaultKind {
             StateFaultKind::Size => {
                 write!(
                     f,
-                    "a heap of another size or node limit than the limits say"
+                    "a heap with fewer units, or another node limit, than the limits say"
                 )
             }
             StateFaultKind::Heap(kind) => write!(f, "{kind}"),

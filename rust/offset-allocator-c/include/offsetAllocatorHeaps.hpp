@@ -104,6 +104,10 @@ public:
     Granted allocate(uint32 size) { return of(oah_allocate(heaps, size)); }
     Granted allocateAligned(uint32 size, uint32 align) { return of(oah_allocate_aligned(heaps, size, align)); }
 
+    // From any free block that holds the range, in the first heap that has one.
+    Granted allocateTight(uint32 size) { return of(oah_allocate_tight(heaps, size)); }
+    Granted allocateTightAligned(uint32 size, uint32 align) { return of(oah_allocate_tight_aligned(heaps, size, align)); }
+
     // Whether the place was live; if not, nothing changes.
     bool free(const Place &place) { return oah_free(heaps, in(place)); }
 
@@ -143,6 +147,19 @@ public:
     // Why a request would be refused now; granted, if memory for another heap is given.
     HeapRefusal why(uint32 size) const { return HeapRefusal(oah_why(heaps, size)); }
     HeapRefusal whyAligned(uint32 size, uint32 align) const { return HeapRefusal(oah_why_aligned(heaps, size, align)); }
+
+    HeapRefusal whyTight(uint32 size) const { return HeapRefusal(oah_why_tight(heaps, size)); }
+    HeapRefusal whyTightAligned(uint32 size, uint32 align) const { return HeapRefusal(oah_why_tight_aligned(heaps, size, align)); }
+
+    // Adds units at the end of the heap of a number, whose buffer became larger in place: whether it did.
+    bool extendHeap(uint32 number, uint32 more) { return oah_extend_heap(heaps, number, more); }
+
+    // As that of GuardedAllocator, of each heap, by number: calls moved(number, Move).
+    template <class F> void compact(F &&moved) {
+        detail::Calling<F> each(moved);
+        oah_compact(heaps, detail::Calling<F>::movedIn, &each);
+        each.finish();
+    }
 
     // As those of GuardedAllocator, in the heap of a number; the first says whether there is one.
     template <class F> bool compactHeap(uint32 number, F &&moved) {

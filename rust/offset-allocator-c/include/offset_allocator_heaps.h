@@ -12,9 +12,10 @@
  *
  * Usual heaps have the numbers below most, larger ones those from most on. Nothing is known of the buffers.
  * Every call takes any place: one that is stale, altered, made up, or of other heaps with another realm is refused by the
- * result, and nothing changes. No call takes memory but a request that makes a heap, or for which one gets more nodes
- * (first_allocs), and oah_new, oah_clone, oah_write_state, oah_read_state and oah_json. Any pointer to heaps may be null.
- * Several threads may read at a time; none may read or write while another writes. */
+ * result, and nothing changes. No call takes memory but a request that makes a heap, or one for which, as for
+ * oah_extend_heap, a heap gets more nodes (first_allocs), and oah_new, oah_clone, oah_write_state, oah_read_state and
+ * oah_json. Any pointer to heaps may be null. Several threads may read at a time; none may read or write while another
+ * writes. */
 #ifndef OFFSET_ALLOCATOR_HEAPS_H
 #define OFFSET_ALLOCATOR_HEAPS_H
 
@@ -127,6 +128,13 @@ oah_granted oah_allocate(oah_heaps *heaps, uint32_t size);
  * new one for size, since its first range begins at 0. */
 oah_granted oah_allocate_aligned(oah_heaps *heaps, uint32_t size, uint32_t align);
 
+/* The same from any free block that holds the range: of the first heap, by number, that has such a block, where the block is,
+ * and unused nodes; where none has, a heap is made as by oah_allocate_aligned. So heaps that are nearly full are filled.
+ * Cost: each number is read up to that of the heap, and in each heap the free blocks of the class of `size` or above, up to
+ * the first that holds the range. */
+oah_granted oah_allocate_tight(oah_heaps *heaps, uint32_t size);
+oah_granted oah_allocate_tight_aligned(oah_heaps *heaps, uint32_t size, uint32_t align);
+
 /* Frees the range of a place. True if it was live; else nothing changes. Its heap stays, for oah_drop_empty. */
 bool oah_free(oah_heaps *heaps, oah_place place);
 
@@ -208,9 +216,21 @@ bool oah_grow_in_place(oah_heaps *heaps, oah_place place, uint32_t size);
 oah_refusal oah_why(const oah_heaps *heaps, uint32_t size);
 oah_refusal oah_why_aligned(const oah_heaps *heaps, uint32_t size, uint32_t align);
 
+/* The same of oah_allocate_tight and oah_allocate_tight_aligned. Cost: that of these. */
+oah_refusal oah_why_tight(const oah_heaps *heaps, uint32_t size);
+oah_refusal oah_why_tight_aligned(const oah_heaps *heaps, uint32_t size, uint32_t align);
+
+/* As oag_extend, of the heap of a number, whose buffer became larger in place: true if done. Every place keeps its range. A
+ * heap of the usual size that has fewer than five unused nodes, and may have more, gets them first, as before a grant. False,
+ * and nothing changes, also where the number has no heap, or the memory for these was refused. */
+bool oah_extend_heap(oah_heaps *heaps, uint32_t number, uint32_t more);
+
 /* As oag_compact, of the heap of a number: true if there is one. Every place stays live; a range that moves begins at
  * oah_offset_of from then on. The moves are within the buffer of that number. */
 bool oah_compact_heap(oah_heaps *heaps, uint32_t number, void (*moved)(void *user, oa_move range), void *user);
+
+/* The same of each heap, by number: `moved` is called with the number of the heap and each move in it. */
+void oah_compact(oah_heaps *heaps, void (*moved)(void *user, uint32_t heap, oa_move range), void *user);
 
 /* As oag_make_room, in the heap of a number. oah_allocate takes the first heap that has room. */
 oa_room oah_make_room(oah_heaps *heaps, uint32_t number, uint32_t size, void (*moved)(void *user, oa_move range), void *user);

@@ -4,10 +4,11 @@ use core::ffi::c_void;
 use core::ptr::NonNull;
 
 use offset_allocator_heaps::{json_of, Global, Granted, Heaps, Limits, Place, ReadError, Refusal, StateFaultKind, Ticket};
+use offset_allocator_proved::Move;
 
 use crate::{
-    boxed, calls, guarded_fault, room, short, text, totals, Callback, Found, Guard, Report, Room, State, Text, Totals, NO_REPORT, NO_SPACE,
-    NO_TICKET,
+    boxed, calls, guarded_fault, room, seen, short, text, totals, Callback, Found, Guard, Moved, Report, Room, State, Text, Totals, NO_REPORT,
+    NO_SPACE, NO_TICKET,
 };
 
 /// Many heaps, as C holds them.
@@ -75,6 +76,9 @@ pub struct HeapsRead {
     at: usize,
 }
 
+/// What C passes to be called with the number of a heap and each move in it.
+pub type HeapCallback = extern "C" fn(Option<NonNull<c_void>>, u32, Moved);
+
 const NOWHERE: At = At { ticket: NO_TICKET, heap: NO_SPACE, realm: 0 };
 
 const BAD_CALL: Answer = Answer { place: NOWHERE, is_new: false, refusal: Why::BadCall };
@@ -111,6 +115,15 @@ fn answer(result: Result<Granted, Refusal>) -> Answer {
 fn place(at: At) -> Place {
     let Guard { serial, name, realm } = at.ticket;
     Place { heap: at.heap, realm: at.realm, ticket: Ticket { offset: 0, name, serial, realm } }
+}
+
+// Calls C with the number of a heap and each move in it, where it passed a function.
+fn calls_at(moved: Option<HeapCallback>, user: Option<NonNull<c_void>>) -> impl FnMut(u32, Move) {
+    move |heap, range| {
+        if let Some(moved) = moved {
+            moved(user, heap, seen(range));
+        }
+    }
 }
 
 fn fault(kind: StateFaultKind) -> Found {
@@ -180,6 +193,14 @@ exports! {
         if align != 0 { answer(heaps.allocate_aligned(size, align)) } else { BAD_CALL }
     } else BAD_CALL;
 
+    fn oah_allocate_tight([heaps: &mut ManyHeaps], size: u32) -> Answer {
+        answer(heaps.allocate_tight(size))
+    } else BAD_CALL;
+
+    fn oah_allocate_tight_aligned([heaps: &mut ManyHeaps], size: u32, align: u32) -> Answer {
+        if align != 0 { answer(heaps.allocate_tight_aligned(size, align)) } else { BAD_CALL }
+    } else BAD_CALL;
+
     fn oah_free([heaps: &mut ManyHeaps], at: At) -> bool { heaps.free(place(at)) } else false;
 
     fn oah_is_live([heaps: &ManyHeaps], at: At) -> bool { heaps.is_live(place(at)) } else false;
@@ -237,6 +258,16 @@ exports! {
         if align != 0 { why(heaps.refusal_aligned(size, align)) } else { Why::BadCall }
     } else Why::BadCall;
 
+    fn oah_why_tight([heaps: &ManyHeaps], size: u32) -> Why { why(heaps.refusal_tight(size)) } else Why::BadCall;
+
+    fn oah_why_tight_aligned([heaps: &ManyHeaps], size: u32, align: u32) -> Why {
+        if align != 0 { why(heaps.refusal_tight_aligned(size, align)) } else { Why::BadCall }
+    } else Why::BadCall;
+
+    fn oah_extend_heap([heaps: &mut ManyHeaps], number: u32, more: u32) -> bool {
+        heaps.extend_heap(number, more).unwrap_or(false)
+    } else false;
+
     fn oah_compact_heap(
         [heaps: &mut ManyHeaps],
         number: u32,
@@ -245,6 +276,14 @@ exports! {
     ) -> bool {
         heaps.compact_heap(number, &mut calls(moved, user))
     } else false;
+
+    fn oah_compact(
+        [heaps: &mut ManyHeaps],
+        moved: Option<HeapCallback>,
+        user: Option<NonNull<c_void>>
+    ) -> () {
+        heaps.compact(calls_at(moved, user))
+    } else ();
 
     fn oah_make_room(
         [heaps: &mut ManyHeaps],

@@ -235,6 +235,41 @@ static void in_place(void) {
     oah_drop(heaps);
 }
 
+static uint32_t moved_in[2];
+
+static void note_move_in(void *user, uint32_t heap, oa_move range) {
+    (void) user;
+    moved_in[heap] += range.size;
+}
+
+/* Heaps that become larger, tight requests, and all heaps compacted. */
+static void filled(void) {
+    oah_limits limits = {100, 8, 2, 0};
+    oah_heaps *heaps = oah_new(limits, 9);
+    oah_place hole = oah_allocate(heaps, 21).place, rest = oah_allocate(heaps, 70).place;
+    /* a request of 21 units is rounded up to 22, and of the last 9 units 4 begin at a multiple of 16 */
+    CHECK(oah_free(heaps, hole) && oah_why_tight(heaps, 21) == OAH_GRANTED && oah_allocate_tight(heaps, 21).place.heap == 0);
+    oah_place last = oah_allocate_tight_aligned(heaps, 4, 16).place;
+    CHECK(last.heap == 0 && oah_offset_of(heaps, last) == 96 && oah_storage_report(heaps, 0).total_free_space == 5);
+    oah_granted other = oah_allocate_tight(heaps, 90);
+    CHECK(other.is_new && other.place.heap == 1 && oah_why_tight(heaps, 11) == OAH_FULL && oah_why_tight_aligned(heaps, 97, 8) == OAH_TOO_LARGE);
+    CHECK(oah_allocate_tight(heaps, 11).refusal == OAH_FULL && oah_allocate_tight_aligned(heaps, 1, 0).refusal == OAH_BAD_CALL);
+    CHECK(oah_extend_heap(heaps, 1, 30) && oah_units_of_heap(heaps, 1) == 130 && !oah_extend_heap(heaps, 2, 1) && !oah_extend_heap(heaps, 1, 4294967295u));
+    CHECK(oah_why_tight_aligned(heaps, 1, 0) == OAH_BAD_CALL && oah_allocate_tight(heaps, 40).place.heap == 1);
+    CHECK(oah_free(heaps, rest) && oah_free(heaps, other.place));
+    oah_compact(heaps, note_move_in, NULL);
+    CHECK(moved_in[0] == 4 && moved_in[1] == 40 && oah_offset_of(heaps, last) == 21);
+    /* a heap that is larger than the limits say is read again */
+    oa_state *state = oah_write_state(heaps);
+    oah_read read = oah_read_state(state, 2, 8);
+    CHECK(read.heaps && oah_units_of_heap(read.heaps, 1) == 130 && oah_offset_of(read.heaps, last) == 21);
+    oa_state_drop(state);
+    oah_drop(read.heaps);
+    /* once it is dropped, its number has the usual size again */
+    CHECK(oah_give_up(heaps, 1) && oah_allocate(heaps, 90).place.heap == 1 && oah_units_of_heap(heaps, 1) == 100);
+    oah_drop(heaps);
+}
+
 /* A heap begins with 8 nodes, which are doubled before a grant that finds fewer than five unused, up to 40; a larger heap has 4. */
 static void heaps_grow(void) {
     oah_limits limits = {.size = 200, .max_allocs = 40, .most = 2, .most_larger = 1};
@@ -340,6 +375,9 @@ static void nulls(void) {
     CHECK(!oah_first_place(NULL).ticket.serial && !oah_place_after(NULL, none.place).ticket.serial && !oah_first_live(NULL, 0).ticket.serial);
     CHECK(!oah_live_after(NULL, none.place).ticket.serial && oah_limits_of(NULL).size == 0 && oah_why(NULL, 1) == OAH_BAD_CALL);
     CHECK(oah_why_aligned(NULL, 1, 1) == OAH_BAD_CALL && !oah_shrink(NULL, none.place, 0) && !oah_grow_in_place(NULL, none.place, 0));
+    CHECK(oah_allocate_tight(NULL, 1).refusal == OAH_BAD_CALL && oah_allocate_tight_aligned(NULL, 1, 1).refusal == OAH_BAD_CALL);
+    CHECK(oah_why_tight(NULL, 1) == OAH_BAD_CALL && oah_why_tight_aligned(NULL, 1, 1) == OAH_BAD_CALL && !oah_extend_heap(NULL, 0, 1));
+    oah_compact(NULL, NULL, NULL);
     CHECK(!oah_compact_heap(NULL, 0, NULL, NULL) && !oah_make_room(NULL, 0, 0, NULL, NULL).possible);
     oah_reset(NULL);
     oah_drop(NULL);
@@ -353,6 +391,7 @@ int main(void) {
     states();
     nulls();
     in_place();
+    filled();
     heaps_grow();
     heaps_double();
     dumps();

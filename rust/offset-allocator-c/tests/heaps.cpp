@@ -78,6 +78,16 @@ int main() {
         CHECK(all.isNew && all.place.heap == number && doubling.unitsOfHeap(number) == doubling.sizeOf(all.place));
     }
     CHECK(!Heaps({1024, 64, 4, 2, 1025}) && bool(Heaps({1024, 64, 4, 2, 1024})));
+    // a heap that becomes larger, a tight request, and all heaps compacted
+    Heaps filled({100, 8, 2, 0});
+    Place early = filled.allocate(21).place, late = filled.allocate(72).place;
+    CHECK(filled.free(early) && filled.whyTight(21) == HeapRefusal::granted && filled.whyTightAligned(22, 8) == HeapRefusal::granted);
+    CHECK(filled.allocateTight(21).place.heap == 0 && filled.extendHeap(0, 20) && filled.unitsOfHeap(0) == 120 && !filled.extendHeap(1, 1));
+    Place behind = filled.allocateTightAligned(16, 8).place;
+    CHECK(behind.heap == 0 && filled.offsetOf(behind) == 96 && filled.free(late));
+    std::vector<std::pair<uint32, uint32>> slid;
+    filled.compact([&](uint32 number, Move it) { slid.push_back({number, it.size}); });
+    CHECK(slid.size() == 1 && slid[0].first == 0 && slid[0].second == 16 && filled.offsetOf(behind) == 21);
     // a page at an alignment fits a page
     Heaps pages({1024, 8, 1, 0});
     Granted page = pages.allocateAligned(1024, 256);

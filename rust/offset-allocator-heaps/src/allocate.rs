@@ -56,7 +56,7 @@ impl<T: Tables> HeapsOf<T> {
     }
 
     // Doubles the node limit of the heap of a number, where it has to grow before a grant.
-    fn grow(&mut self, number: u32) -> Result<(), AllocError> {
+    pub(crate) fn grow(&mut self, number: u32) -> Result<(), AllocError> {
         self.slots
             .grow(self.alloc, number, self.limits, &mut self.accesses)
     }
@@ -123,7 +123,7 @@ impl<T: Tables> HeapsOf<T> {
     }
 
     // Makes a heap for a request that none has room for.
-    fn grant_new(&mut self, size: u32, align: u32) -> Result<Granted, Refusal> {
+    pub(crate) fn grant_new(&mut self, size: u32, align: u32) -> Result<Granted, Refusal> {
         if self.is_usual(size) {
             return match self.spare_usual(size) {
                 None => Err(Refusal::Full),

@@ -46,7 +46,7 @@ impl<T: Tables> HeapsOf<T> {
     }
 
     // Why no heap is made for a request that none has room for.
-    fn why_none(&self, size: u32, count: &mut Accesses) -> Option<Refusal> {
+    pub(crate) fn why_none(&self, size: u32, count: &mut Accesses) -> Option<Refusal> {
         if self.is_usual(size) {
             let found = self.index.spare.first_at_least(size as u64, count);
             return self.why_not_made(below(found, self.limits.most));

@@ -49,6 +49,7 @@ mod compacting;
 mod copying;
 mod drop;
 mod dumping;
+mod extending;
 mod fresh;
 mod index;
 pub mod laws;
@@ -64,6 +65,7 @@ mod restoring;
 mod saving;
 mod slots;
 mod state;
+mod tight;
 mod totals;
 
 pub use dumping::json_of;

@@ -63,7 +63,7 @@ struct Run<T: Tables> {
     // the last places that were given
     given: Vec<Place>,
     made: u32,
-    counts: [u64; 12],
+    counts: [u64; 15],
     numbers: Numbers,
 }
 
@@ -79,7 +79,7 @@ impl<T: Tables> Run<T> {
             places: HashMap::new(),
             given: vec![nowhere; 64],
             made: 0,
-            counts: [0; 12],
+            counts: [0; 15],
             numbers: Numbers(state),
         }
     }
@@ -108,12 +108,22 @@ impl<T: Tables> Run<T> {
         known.limit < self.most_nodes(number) && heap.allocator().block_count() + 5 > known.limit
     }
 
-    fn expected(&self, size: u32, align: u32) -> Result<(usize, bool), Refusal> {
+    // Whether a heap has nodes for a request, and free units for it in a row, from a multiple of the alignment on.
+    fn holds(&self, number: usize, size: u32, align: u32) -> bool {
+        let (Some(heap), Some(space)) = (&self.model[number], self.heaps.heap(number as u32)) else { return false };
+        let ends = heap.ranges.iter().map(|(&at, &units)| (at + units) as u64);
+        let starts = heap.ranges.keys().map(|&at| at as u64).chain([heap.units as u64]);
+        let fits = std::iter::once(0).chain(ends).zip(starts).any(|(from, to)| from.next_multiple_of(align as u64) + size as u64 <= to);
+        fits && space.allocator().block_count() + align.min(2) < self.most_nodes(number)
+    }
+
+    fn expected(&self, size: u32, align: u32, tight: bool) -> Result<(usize, bool), Refusal> {
         if size == 0 {
             return Err(Refusal::Empty);
         }
         let units = size as u64 + align as u64 - 1;
-        if let Some(number) = (0..self.model.len()).find(|&n| self.fits(n, units, align)) {
+        let grants = |n| if tight { self.holds(n, size, align) } else { self.fits(n, units, align) };
+        if let Some(number) = (0..self.model.len()).find(|&n| grants(n)) {
             return Ok((number, false));
         }
         let most = self.limits.most as usize;
@@ -128,12 +138,23 @@ impl<T: Tables> Run<T> {
         self.model[most..].iter().position(|h| h.is_none()).map(|n| (n + most, true)).ok_or(Refusal::Full)
     }
 
-    fn allocate(&mut self, size: u32, align: u32) {
-        let expected = self.expected(size, align);
-        let foretold = if align == 1 { self.heaps.refusal(size) } else { self.heaps.refusal_aligned(size, align) };
+    fn allocate(&mut self, size: u32, align: u32, tight: bool) {
+        let expected = self.expected(size, align, tight);
+        let foretold = match (tight, align) {
+            (false, 1) => self.heaps.refusal(size),
+            (false, _) => self.heaps.refusal_aligned(size, align),
+            (true, 1) => self.heaps.refusal_tight(size),
+            (true, _) => self.heaps.refusal_tight_aligned(size, align),
+        };
         assert_eq!(foretold, expected.err());
         let grows = expected.is_ok_and(|(number, is_new)| !is_new && self.must_grow(number));
-        let result = if align == 1 { self.heaps.allocate(size) } else { self.heaps.allocate_aligned(size, align) };
+        self.counts[11] += (tight && expected.is_ok_and(|(n, is_new)| !is_new && !self.fits(n, size as u64 + align as u64 - 1, align))) as u64;
+        let result = match (tight, align) {
+            (false, 1) => self.heaps.allocate(size),
+            (false, _) => self.heaps.allocate_aligned(size, align),
+            (true, 1) => self.heaps.allocate_tight(size),
+            (true, _) => self.heaps.allocate_tight_aligned(size, align),
+        };
         match (expected, result) {
             (Err(why), Err(said)) => {
                 assert_eq!(why, said);
@@ -146,7 +167,7 @@ impl<T: Tables> Run<T> {
                     self.made += 1;
                     let usual = number < self.limits.most as usize;
                     let units = if usual { self.usual_units(number) } else { size };
-                    self.counts[11] += u64::from(usual && self.model[..number].iter().any(|h| h.is_none()));
+                    self.counts[14] += u64::from(usual && self.model[..number].iter().any(|h| h.is_none()));
                     let limit = if usual { self.limits.first_allocs } else { 4 };
                     self.model[number] = Some(Heap { units, limit, ranges: BTreeMap::new() });
                     assert_eq!(place.ticket.realm, self.made);
@@ -261,7 +282,7 @@ impl<T: Tables> Run<T> {
         let place = self.place();
         let live = self.live.get(&key(place)).copied();
         let (at, size) = live.unwrap_or((0, 1));
-        let wanted = size / 2 + self.numbers.below(size as u64 + 2) as u32;
+        let wanted = (size / 2).saturating_add(self.numbers.below(size as u64 + 2) as u32);
         let behind = live.map(|_| {
             let heap = self.model[place.heap as usize].as_ref().unwrap();
             heap.ranges.range(at + 1..).next().map_or(heap.units, |(&next, _)| next) - at - size
@@ -297,7 +318,65 @@ impl<T: Tables> Run<T> {
             assert_eq!(self.heaps.make_room(number, size, &mut note), cost);
             assert_eq!((moves.len() as u64, moves.iter().map(|m| m.2 as u64).sum()), cost.map_or((0, 0), |c| (c.ranges as u64, c.units as u64)));
         }
-        for &(from, to, size) in &moves {
+        let moves: Vec<_> = moves.into_iter().map(|(from, to, size)| (number, from, to, size)).collect();
+        self.moved(&moves);
+        self.walk(number);
+    }
+
+    // A heap gets more units at its end, and nodes before where it has fewer than five unused, if the units have 32 bits; where
+    // a range is at its end it needs a node.
+    fn extend(&mut self) {
+        let number = self.numbers.below(self.model.len() as u64 + 2) as usize;
+        let more = match self.numbers.below(4) {
+            0 => 0,
+            1 => self.numbers.next() as u32,
+            _ => 1 + self.numbers.below(self.limits.size as u64 / 8) as u32,
+        };
+        // of a heap with so many units later requests would be for no more than a few
+        let more = if more < 1 << 20 || self.numbers.below(2) == 0 { more.min(self.limits.size) } else { u32::MAX };
+        let known = self.model.get(number).and_then(|h| h.as_ref()).filter(|h| h.units as u64 + more as u64 <= u32::MAX as u64);
+        let full = known.is_some_and(|h| h.ranges.iter().next_back().is_some_and(|(&at, &units)| at + units == h.units));
+        let nodes = known.is_some() && self.heaps.heap(number as u32).unwrap().allocator().block_count() + 1 < self.most_nodes(number);
+        let expected = known.is_some() && (more == 0 || !full || nodes);
+        let grows = known.is_some() && self.must_grow(number);
+        assert_eq!(self.heaps.extend_heap(number as u32, more), Ok(expected));
+        if !expected {
+            return;
+        }
+        let most = self.most_nodes(number);
+        let heap = self.model[number].as_mut().unwrap();
+        heap.units += more;
+        if grows {
+            heap.limit = most.min(2 * heap.limit);
+        }
+        assert_eq!(self.heaps.units_of_heap(number as u32), Some(heap.units));
+        assert_eq!(self.heaps.heap(number as u32).unwrap().allocator().max_allocs(), heap.limit);
+        self.counts[12] += 1;
+    }
+
+    // All ranges of all heaps slide to the front.
+    fn compact(&mut self) {
+        let mut moves = vec![];
+        self.heaps.compact(|number, it| moves.push((number, it.from, it.to, it.size)));
+        let mut expected = vec![];
+        for (number, heap) in self.model.iter().enumerate() {
+            let mut to = 0;
+            for (&from, &size) in heap.iter().flat_map(|h| &h.ranges) {
+                if from != to {
+                    expected.push((number as u32, from, to, size));
+                }
+                to += size;
+            }
+        }
+        assert_eq!(moves, expected);
+        self.moved(&moves);
+        self.counts[13] += moves.len() as u64;
+        self.walk_all();
+    }
+
+    // Ranges have moved within their heaps.
+    fn moved(&mut self, moves: &[(u32, u32, u32, u32)]) {
+        for &(number, from, to, size) in moves {
             let heap = self.model[number as usize].as_mut().unwrap();
             assert!(to < from && heap.ranges.remove(&from) == Some(size));
             assert!(heap.ranges.range(..from).next_back().map_or(true, |(&at, &units)| at + units <= to));
@@ -307,7 +386,6 @@ impl<T: Tables> Run<T> {
             let place = self.places[&moved];
             self.places.insert(moved, Place { ticket: offset_allocator_heaps::Ticket { offset: to, ..place.ticket }, ..place });
         }
-        self.walk(number);
     }
 
     // All heaps, and all live ranges.
@@ -433,7 +511,8 @@ impl<T: Tables> Run<T> {
                         _ => 1 + self.numbers.below(self.limits.size as u64 / 4) as u32,
                     };
                     let align = self.align(3, 8);
-                    self.allocate(size, align);
+                    let tight = self.numbers.below(4) == 0;
+                    self.allocate(size, align, tight);
                 }
                 40..=89 => self.free(),
                 90..=92 => self.drop_empty(),
@@ -461,6 +540,11 @@ impl<T: Tables> Run<T> {
                     self.resize();
                     self.slide();
                     self.walk_all();
+                    match self.numbers.below(6) {
+                        0 => self.extend(),
+                        1 => self.compact(),
+                        _ => {}
+                    }
                 }
             }
             if call % 64 == 0 {
@@ -485,12 +569,14 @@ fn runs<T: Tables>(calls: u64) {
     for (limits, state) in all.into_iter().chain(growing).chain(doubling).zip(1..) {
         let mut run = Run::<T>::new(limits, 0x9E37_79B9_7F4A_7C15 + state);
         run.run(calls / 6);
-        println!("{limits:?}: {:?} refused, new, larger, granted, freed, dropped, given up, reset, relocated, emptied, grown, passed over", run.counts);
+        println!("{limits:?}: {:?} refused, new, larger, granted, freed, dropped, given up, reset, relocated, emptied, grown, filled, extended, moved, passed over", run.counts);
         assert!(run.counts[0] > 0 && run.counts[3] > 0 && run.counts[4] > 0 && run.counts[6] > 0 && run.counts[7] > 0);
         assert!(run.counts[5] > 0, "an empty heap is dropped");
         assert!(run.counts[8] > 0 && run.counts[9] > 0, "a heap is emptied into others");
+        assert!(run.counts[11] > 0 || limits.most == 0, "a tight request is granted where no other is");
+        assert!(run.counts[12] > 0 && run.counts[13] > 0, "a heap gets units, and all are compacted");
         assert_eq!(run.counts[10] > 0, limits.first_allocs < limits.max_allocs);
-        assert_eq!(run.counts[11] > 0, limits.first_size < limits.size, "a number whose heap is too small is passed over");
+        assert_eq!(run.counts[14] > 0, limits.first_size < limits.size, "a number whose heap is too small is passed over");
         assert_eq!(run.counts[1] > 0, limits.most > 0);
         assert_eq!(run.counts[2] > 0, limits.most_larger > 0);
     }

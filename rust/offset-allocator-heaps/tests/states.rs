@@ -54,7 +54,9 @@ impl<T: Tables<Index = u32>> Worked<T> {
         let chosen = (!self.held.is_empty()).then(|| self.held[random.below(self.held.len() as u32) as usize]);
         match (kind, chosen) {
             (0..=4, _) => {
-                let granted = self.heaps.allocate_aligned(size, if kind < 3 { 1 } else { align });
+                let align = if kind < 3 { 1 } else { align };
+                let is_tight = random.below(8) == 0;
+                let granted = if is_tight { self.heaps.allocate_tight_aligned(size, align) } else { self.heaps.allocate_aligned(size, align) };
                 if let Ok(it) = granted {
                     self.held.push(it.place);
                     self.made += u64::from(it.is_new);
@@ -69,6 +71,12 @@ impl<T: Tables<Index = u32>> Worked<T> {
                     String::new()
                 }
                 1 => format!("{}", self.heaps.give_up(random.below(6))),
+                2 | 3 => format!("{:?}", self.heaps.extend_heap(random.below(6), random.below(300))),
+                4 => {
+                    let mut moves = Vec::new();
+                    self.heaps.compact(|number, it| moves.push((number, it.from, it.to, it.size)));
+                    format!("{moves:?}")
+                }
                 _ => format!("{:?}", self.heaps.totals()),
             },
         }
