@@ -119,8 +119,8 @@ oah_read oah_read_state(const oa_state *state, uint32_t most_heaps, uint32_t mos
 /* Makes the space of each heap free. No earlier place is live then. All heaps stay, for oah_drop_empty. */
 void oah_reset(oah_heaps *heaps);
 
-/* Grants `size` units of the first heap, by number, that has room; where none has, of a new heap: of the usual size if a
- * fresh one has room, else of exactly `size` units. Where it is refused, nothing changes.
+/* Grants `size` units of the first heap, by number, that has room; where none has, of a new heap: a usual one if the
+ * last of these has room when fresh, else one of exactly `size` units. Where it is refused, nothing changes.
  * Cost: that of oag_allocate, and some steps for each bit of the numbers. */
 oah_granted oah_allocate(oah_heaps *heaps, uint32_t size);
 
@@ -221,7 +221,7 @@ oah_refusal oah_why_tight(const oah_heaps *heaps, uint32_t size);
 oah_refusal oah_why_tight_aligned(const oah_heaps *heaps, uint32_t size, uint32_t align);
 
 /* As oag_extend, of the heap of a number, whose buffer became larger in place: true if done. Every place keeps its range. A
- * heap of the usual size that has fewer than five unused nodes, and may have more, gets them first, as before a grant. False,
+ * usual heap that has fewer than five unused nodes, and may have more, gets them first, as before a grant. False,
  * and nothing changes, also where the number has no heap, or the memory for these was refused. */
 bool oah_extend_heap(oah_heaps *heaps, uint32_t number, uint32_t more);
 

@@ -40,12 +40,12 @@ pub(crate) fn extend_in<T: Tables>(
 
 impl<T: Tables> HeapsOf<T> {
     /// Adds `more` units at the end of the heap of a number, as `GuardedOf::extend` does, and returns whether it
-    /// did: for a buffer that became larger in place. Every place keeps its range. A heap of the usual size may
-    /// have more units than `Limits::size` then; once it is dropped, one of the usual size has its number.
+    /// did: for a buffer that became larger in place. Every place keeps its range. A usual heap may have
+    /// more units than `Limits` say then; once it is dropped, its number has the units of the limits again.
     ///
     /// `false` is returned where the number has no heap, where the heap would have more than 4294967295 units,
     /// or where its last block is used and no further block may exist; then all is as it was. With 0 units it is
-    /// `true` where the number has a heap. A heap of the usual size that has fewer than five unused nodes, and a
+    /// `true` where the number has a heap. A usual heap that has fewer than five unused nodes, and a
     /// node limit below `max_allocs`, first has that doubled, as before a grant.
     ///
     /// # Errors
@@ -55,7 +55,7 @@ impl<T: Tables> HeapsOf<T> {
     /// ```
     /// # use offset_allocator_heaps::*;
     /// # let alloc = Global;
-    /// let limits = Limits { size: 1000, max_allocs: 100, first_allocs: 8, most: 2, most_larger: 1 };
+    /// let limits = Limits { size: 1000, first_size: 1000, max_allocs: 100, first_allocs: 8, most: 2, most_larger: 1 };
     /// let mut heaps = Heaps::<u32>::new(alloc, limits, 1)?;
     /// heaps.allocate(900).unwrap();
     /// assert!(heaps.extend_heap(0, 500)?);

@@ -85,7 +85,7 @@ impl<T: Tables> HeapsOf<T> {
     /// ```
     /// # use offset_allocator_heaps::*;
     /// # let alloc = Global;
-    /// let limits = Limits { size: 1000, max_allocs: 100, first_allocs: 8, most: 2, most_larger: 1 };
+    /// let limits = Limits { size: 1000, first_size: 1000, max_allocs: 100, first_allocs: 8, most: 2, most_larger: 1 };
     /// let mut heaps = Heaps::<u32>::new(alloc, limits, 1)?;
     /// heaps.allocate(300).unwrap();
     /// let rest = heaps.allocate_tight(700).unwrap();
@@ -103,8 +103,9 @@ impl<T: Tables> HeapsOf<T> {
     /// The heap is the first one, by number, that has a free block which holds the request where it begins, and
     /// unused nodes for it: what `GuardedOf::allocate_tight_aligned` grants there, as it grants it. So a heap that
     /// has room for the same request of `allocate_aligned` grants this one, and others may. Where none holds it,
-    /// another heap is made, exactly as by `allocate_aligned`: of the usual size where a fresh one has room for
-    /// `size` units, else of exactly `size` units. A heap that has to grow for a grant grows before, as there.
+    /// another heap is made, exactly as by `allocate_aligned`: a usual one where the last of these has room for
+    /// `size` units when it is fresh, else one of exactly `size` units. A heap that has to grow for a grant grows
+    /// before, as there.
     ///
     /// Where the request is refused, all is as it was, and the `Refusal` says why.
     ///
@@ -120,7 +121,7 @@ impl<T: Tables> HeapsOf<T> {
     /// ```
     /// # use offset_allocator_heaps::*;
     /// # let alloc = Global;
-    /// let limits = Limits { size: 1000, max_allocs: 100, first_allocs: 8, most: 2, most_larger: 1 };
+    /// let limits = Limits { size: 1000, first_size: 1000, max_allocs: 100, first_allocs: 8, most: 2, most_larger: 1 };
     /// let mut heaps = Heaps::<u32>::new(alloc, limits, 1)?;
     /// heaps.allocate(256).unwrap();
     /// let uniforms = heaps.allocate_tight_aligned(700, 256).unwrap();
@@ -139,7 +140,7 @@ impl<T: Tables> HeapsOf<T> {
     /// ```
     /// # use offset_allocator_heaps::*;
     /// # let alloc = Global;
-    /// let limits = Limits { size: 1000, max_allocs: 100, first_allocs: 8, most: 2, most_larger: 1 };
+    /// let limits = Limits { size: 1000, first_size: 1000, max_allocs: 100, first_allocs: 8, most: 2, most_larger: 1 };
     /// let mut heaps = Heaps::<u32>::new(alloc, limits, 1)?;
     /// assert_eq!(heaps.refusal_tight(300), None);
     /// assert_eq!(heaps.refusal_tight(0), Some(Refusal::Empty));
@@ -160,7 +161,7 @@ impl<T: Tables> HeapsOf<T> {
     /// ```
     /// # use offset_allocator_heaps::*;
     /// # let alloc = Global;
-    /// let limits = Limits { size: 1000, max_allocs: 100, first_allocs: 8, most: 2, most_larger: 1 };
+    /// let limits = Limits { size: 1000, first_size: 1000, max_allocs: 100, first_allocs: 8, most: 2, most_larger: 1 };
     /// let mut heaps = Heaps::<u32>::new(alloc, limits, 1)?;
     /// assert_eq!(heaps.refusal_tight_aligned(900, 256), None);
     /// # Ok::<(), AllocError>(())

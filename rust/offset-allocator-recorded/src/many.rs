@@ -322,7 +322,7 @@ impl<T: Tables, W: Write> RecordedHeaps<T, W> {
     /// ```
     /// # use offset_allocator_recorded::*;
     /// # use offset_allocator_heaps::{Heaps, Limits};
-    /// let limits = Limits { size: 1000, max_allocs: 16, first_allocs: 16, most: 2, most_larger: 1 };
+    /// let limits = Limits { size: 1000, first_size: 1000, max_allocs: 16, first_allocs: 16, most: 2, most_larger: 1 };
     /// let mut heaps = RecordedHeaps::new(Heaps::<u32>::new(Global, limits, 1).unwrap(), Vec::new()).unwrap();
     /// let mut meshes = Beside::new(Global);
     /// let rock = heaps.allocate(300).unwrap().place;

@@ -40,7 +40,7 @@ fn ranges_of_heaps_change_in_place() {
 
 #[test]
 fn heaps_become_larger_and_are_filled() {
-    let limits = Limits { size: 100, max_allocs: 16, first_allocs: 16, most: 2, most_larger: 0 };
+    let limits = Limits { size: 100, first_size: 100, max_allocs: 16, first_allocs: 16, most: 2, most_larger: 0 };
     let mut heaps = RecordedHeaps::new(Heaps::<u16>::new(Global, limits, 1).unwrap(), Vec::new()).unwrap();
     let [hole, rock] = [21, 70].map(|size| heaps.allocate(size).unwrap().place);
     // a request of 21 units is rounded up to 22, and of the last 9 units 4 begin at a multiple of 16
