@@ -221,6 +221,8 @@ REQUIRES = [
     ("max_allocs + 1 < T.Index.MAX", "max_allocs < T::Index::MAX - 1", "max_allocs must be at most NI::MAX - 2"),
     ("self.now.max_allocs ≤ max_allocs", "self.max_allocs <= max_allocs", "max_allocs must be at least the limit that there is"),
     ("self.now.space.max_allocs ≤ max_allocs", "self.space.max_allocs() <= max_allocs", "max_allocs must be at least the limit that there is"),
+    ("min 1 limits.size ≤ limits.first_size", "limits.size.min(1) <= limits.first_size", "first_size must be at least 1, or size"),
+    ("limits.first_size ≤ limits.size", "limits.first_size <= limits.size", "first_size must be at most size"),
     ("4 ≤ limits.max_allocs", "4 <= limits.max_allocs", "max_allocs must be at least 4"),
     ("limits.max_allocs + 1 < T.Index.MAX", "limits.max_allocs < <T::Index as offset_allocator::NodeIndex>::MAX - 1", "max_allocs must be at most NI::MAX - 2"),
     ("min 8 limits.max_allocs ≤ limits.first_allocs", "limits.max_allocs.min(8) <= limits.first_allocs", "first_allocs must be at least 8, or max_allocs"),
@@ -310,7 +312,7 @@ EXAMPLES = {
         ["use offset_allocator_heaps::*;", "let alloc = Global;"],
         ["# Ok::<(), AllocError>(())"],
         {
-            "heaps": "let limits = Limits { size: 1000, max_allocs: 100, first_allocs: 8, most: 2, most_larger: 1 };\n"
+            "heaps": "let limits = Limits { size: 1000, first_size: 1000, max_allocs: 100, first_allocs: 8, most: 2, most_larger: 1 };\n"
             "let mut heaps = Heaps::<u32>::new(alloc, limits, 1)?;",
         },
     ),

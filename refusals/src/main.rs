@@ -283,15 +283,15 @@ impl Check<'_> {
         let what = format!("{found:?}, {requested:?}, not {wanted:?}");
         self.must(is_right, call, header, what);
         self.fail_each_as_by_node(HEAPS_CALLS, layout, header, 0);
-        self.heaps_grown(layout, header, nodes, bits);
+        self.heaps_grown(HEAPS_GROW.on(layout), layout, header, nodes, bits);
+        self.heaps_grown(HEAPS_EXTEND.on(layout), layout, header, nodes, bits);
         self.heaps_stored(layout, header, nodes, bits);
     }
 
-    /// A heap that begins with 8 nodes, under doubled limits up to its largest: room for seven heaps, and then
-    /// what a guarded allocator requests under each limit. The numbers are its limit, and how often one unit
-    /// was granted.
-    fn heaps_grown(&mut self, layout: Layout, header: &str, nodes: usize, bits: usize) {
-        let call = HEAPS_GROW.on(layout);
+    /// A heap that begins with 8 nodes, under doubled limits up to its largest, for grants or for a unit more before
+    /// each: room for seven heaps, and then what a guarded allocator requests under each limit. The numbers are its
+    /// limit, and how often one unit was granted.
+    fn heaps_grown(&mut self, call: Call, layout: Layout, header: &str, nodes: usize, bits: usize) {
         let (_, room) = self.with_ample_memory(HEAPS.on(layout), header);
         let doubled = std::iter::successors(Some(8), |it| (*it < nodes).then(|| nodes.min(2 * it)));
         let grown = doubled.flat_map(|limit| guarded_requests(layout, limit, bits));

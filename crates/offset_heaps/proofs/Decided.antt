@@ -11,9 +11,10 @@ use Rattle.offset_heaps.specs.declared.place.Granted.{Granted}
 use Rattle.offset_heaps.specs.declared.place.Place.{Place}
 use Rattle.offset_heaps.specs.declared.refusal.Refusal.{Refusal}
 use Rattle.offset_heaps.specs.declared.refusal.Refusal.TheVariants.{Empty, TooLarge, Full, Memory}
-use Rattle.offset_heaps.specs.Heaps.{Heaps, Grants, IsBefore, IsFirstFit, IsGrown, IsNew, IsNext, IsSpareLarger, IsSpareUsual, IsUsual, IsWhy, MayEverFit, MustGrow, MustGrowIn, NoneFits, grown_limit, heap_at, larger_limit, room_of, slot}
+use Rattle.offset_heaps.specs.Heaps.{Heaps, Grants, IsBefore, IsFirstFit, IsGrown, IsNew, IsNext, IsSame, IsSpareLarger, IsSpareUsual, IsUsual, IsWhy, MayEverFit, MustGrow, MustGrowIn, NoneFits, Puts, grown_limit, heap_at, larger_limit, room_of, slot, usual_room, usual_size}
 use Rattle.offset_heaps.specs.State as state
 use Rattle.offset_heaps.specs.Twins.{AreTwins, IsTwin, IsTwinIn}
+use Rattle.offset_heaps.proofs.Doubling.{size_low}
 use Rattle.offset_heaps.proofs.Growing.{grown_formed}
 use Rattle.offset_heaps.proofs.Twins.{as_twin, grant_twins, none_twins, own_twin, put_twins, room_twins, same_ticket, some_twin, twin_sym, twins_sym}
 
@@ -22,11 +23,15 @@ module _ (hs ks : Heaps) (t : AreTwins hs ks) where
   usual_twins : (units : ℕ) → IsUsual units hs → IsUsual units ks
   usual_twins units u = subst (λ (l : Limits). IsUsual units (record hs { limits = l })) (sym t.limits) u
 
-  may_twins : (units : ℕ) → MayEverFit units hs → MayEverFit units ks
+  pub may_twins : (units : ℕ) → MayEverFit units hs → MayEverFit units ks
   may_twins units m = subst (λ (l : Limits). MayEverFit units (record hs { limits = l })) (sym t.limits) m
 
-  spare_usual_twins : (k : ℕ) → IsSpareUsual k hs → IsSpareUsual k ks
-  spare_usual_twins k s = (subst (λ (l : Limits). k < l.most) (sym t.limits) s.0, none_twins hs ks t k s.1)
+  spare_usual_twins : (units k : ℕ) → IsSpareUsual units k hs → IsSpareUsual units k ks
+  spare_usual_twins units k s = (
+    subst (λ (l : Limits). k < l.most) (sym t.limits) s.0,
+    none_twins hs ks t k s.1,
+    subst (λ (l : Limits). units ≤ usual_room l k) (sym t.limits) s.2,
+  )
 
   spare_larger_twins : (k : ℕ) → IsSpareLarger k hs → IsSpareLarger k ks
   spare_larger_twins k s = (
@@ -65,7 +70,7 @@ raised_twin limit limit' g h same t = record {
   realm = t.realm;
 }
 
-grown_twin : (limits : Limits) (k : ℕ) (g g' h h' : Guard) → IsTwin g g' → (IsTwin g' g) → IsGrown limits k g h → IsGrown limits k g' h' → IsTwin h h'
+pub grown_twin : (limits : Limits) (k : ℕ) (g g' h h' : Guard) → IsTwin g g' → (IsTwin g' g) → IsGrown limits k g h → IsGrown limits k g' h' → IsTwin h h'
 grown_twin limits k g g' h h' t s (inl a) (inl b) =
     subst₂ IsTwin (sym a.1) (sym b.1) (raised_twin (grown_limit limits g) (grown_limit limits g') g g' (ap (grown_limit limits) (as_twin g g' t)) t)
 grown_twin limits k g g' h h' t s (inl a) (inr b) = absurd (b.0 (must_twin limits k g g' t a.0))
@@ -77,7 +82,7 @@ next_twins hs ks t units k n =
     let s = twins_sym hs ks t in (
       omega (arith, n.0, t.made),
       elim n.1 [
-        | inl u ↦ inl (usual_twins hs ks t units u.0, spare_usual_twins hs ks t k u.1, λ j l a. u.2 j l (spare_usual_twins ks hs s j a))
+        | inl u ↦ inl (usual_twins hs ks t units u.0, spare_usual_twins hs ks t units k u.1, λ j l a. u.2 j l (spare_usual_twins ks hs s units j a))
         | inr u ↦ inr (λ a. u.0 (usual_twins ks hs s units a), spare_larger_twins hs ks t k u.1, λ j l a. u.2 j l (spare_larger_twins ks hs s j a))
       ],
     )
@@ -115,10 +120,10 @@ one_fit blocks units k j hs a b = one_first (λ i. units ≤ room_of blocks (hea
 pub one_next : (units k j : ℕ) (hs : Heaps) → IsNext units k hs → IsNext units j hs → k ≡ j
 one_next units k j hs a b = go a.1 b.1
   where
-    go : ((IsUsual units hs × IsSpareUsual k hs × ((i : ℕ) → i < k → IsSpareUsual i hs → ⊥)) ⊎ ((IsUsual units hs → ⊥) × IsSpareLarger k hs × ((i : ℕ) → i < k → IsSpareLarger i hs → ⊥)))
-        → ((IsUsual units hs × IsSpareUsual j hs × ((i : ℕ) → i < j → IsSpareUsual i hs → ⊥)) ⊎ ((IsUsual units hs → ⊥) × IsSpareLarger j hs × ((i : ℕ) → i < j → IsSpareLarger i hs → ⊥)))
+    go : ((IsUsual units hs × IsSpareUsual units k hs × ((i : ℕ) → i < k → IsSpareUsual units i hs → ⊥)) ⊎ ((IsUsual units hs → ⊥) × IsSpareLarger k hs × ((i : ℕ) → i < k → IsSpareLarger i hs → ⊥)))
+        → ((IsUsual units hs × IsSpareUsual units j hs × ((i : ℕ) → i < j → IsSpareUsual units i hs → ⊥)) ⊎ ((IsUsual units hs → ⊥) × IsSpareLarger j hs × ((i : ℕ) → i < j → IsSpareLarger i hs → ⊥)))
         → k ≡ j
-    go (inl a) (inl b) = one_first (λ i. IsSpareUsual i hs) k j a.1 a.2 b.1 b.2
+    go (inl a) (inl b) = one_first (λ i. IsSpareUsual units i hs) k j a.1 a.2 b.1 b.2
     go (inl a) (inr b) = absurd (b.0 a.0)
     go (inr a) (inl b) = absurd (a.0 b.0)
     go (inr a) (inr b) = one_first (λ i. IsSpareLarger i hs) k j a.1 a.2 b.1 b.2
@@ -157,19 +162,28 @@ module _ (size align : ℕ) (hs hs' ks ks' : Heaps) (grant grant' : Granted) (sm
     (new : grant.is_new ≡ grant'.is_new) (s : Grants size align hs ks grant) (s' : Grants size align hs' ks' grant') where
   -- the two kinds of new heaps
   abbrev New : Heaps → Guard → Type 0
-  New hs g = (IsUsual size hs × IsNew hs.limits.size hs.limits.first_allocs (hs.made + 1) g)
+  New hs g = (IsUsual size hs × IsNew (usual_size hs.limits grant.place.heap) hs.limits.first_allocs (hs.made + 1) g)
       ⊎ ((IsUsual size hs → ⊥) × IsNew size larger_limit (hs.made + 1) g)
+
+  new_there : (g : Guard) → ((IsUsual size hs' × IsNew (usual_size hs'.limits grant'.place.heap) hs'.limits.first_allocs (hs'.made + 1) g)
+      ⊎ ((IsUsual size hs' → ⊥) × IsNew size larger_limit (hs'.made + 1) g)) → New hs' g
+  new_there g n = subst (λ k. (IsUsual size hs' × IsNew (usual_size hs'.limits k) hs'.limits.first_allocs (hs'.made + 1) g)
+      ⊎ ((IsUsual size hs' → ⊥) × IsNew size larger_limit (hs'.made + 1) g)) (sym number) n
 
   new_back : (g : Guard) → New hs' g → New hs g
   new_back g (inl n) =
       inl (
         usual_twins hs' hs (twins_sym hs hs' t) size n.0,
-        subst₂ (λ (l : Limits) (m : ℕ). IsNew l.size l.first_allocs (m + 1) g) t.limits t.made n.1,
+        subst₂ (λ (l : Limits) (m : ℕ). IsNew (usual_size l grant.place.heap) l.first_allocs (m + 1) g) t.limits t.made n.1,
       )
   new_back g (inr n) = inr (λ u. n.0 (usual_twins hs hs' t size u), subst (λ (m : ℕ). IsNew size larger_limit (m + 1) g) t.made n.1)
 
   one_kind : (g h : Guard) → size ≤ 4294967295 → New hs g → New hs h → (g ≡ h) × IsWellFormed g.space
-  one_kind g h fits (inl a) (inl b) = (one_new hs.limits.size hs.limits.first_allocs (hs.made + 1) g h a.1 b.1, new_formed hs.limits.size hs.limits.first_allocs (hs.made + 1) g a.1 is.limit is.size)
+  one_kind g h fits (inl a) (inl b) =
+      let units : ℕ = usual_size hs.limits grant.place.heap in (
+        one_new units hs.limits.first_allocs (hs.made + 1) g h a.1 b.1,
+        new_formed units hs.limits.first_allocs (hs.made + 1) g a.1 is.limit (omega (arith, size_low hs.limits grant.place.heap, is.size)),
+      )
   one_kind g h fits (inl a) (inr b) = absurd (b.0 a.0)
   one_kind g h fits (inr a) (inl b) = absurd (a.0 b.0)
   one_kind g h fits (inr a) (inr b) = (one_new size larger_limit (hs.made + 1) g h a.1 b.1, new_formed size larger_limit (hs.made + 1) g a.1 (omega arith) fits)
@@ -184,7 +198,7 @@ module _ (size align : ℕ) (hs hs' ks ks' : Heaps) (grant grant' : Granted) (sm
   befores g h (inl a) (inr b) = absurd (let e = sym a.0 ∙ new ∙ b.0 in cc)
   befores g h (inr a) (inl b) = absurd (let e = sym b.0 ∙ sym new ∙ a.0 in cc)
   befores g h (inr a) (inr b) =
-      let one = one_kind g h (small a.0) a.2 (new_back h b.2) in
+      let one = one_kind g h (small a.0) a.2 (new_back h (new_there h b.2)) in
       (subst (IsTwin g) one.0 (own_twin g), one.1)
 
   before : IsTwin s.before s'.before × IsWellFormed s.before.space
@@ -236,3 +250,15 @@ module _ (size align : ℕ) (hs hs' ks ks' : Heaps) (grant grant' : Granted) (sm
           (put_twins grant.place.heap hs.slots hs'.slots (Some s.after) (Some s'.after) s.number there (s'.after, refl, after) t.heaps j);
     },
   )
+
+-- ---- what calls leave
+pub same_twins : (hs hs' ks ks' : Heaps) → AreTwins hs hs' → IsSame hs ks → IsSame hs' ks' → AreTwins ks ks'
+same_twins hs hs' ks ks' t e f = subst₂ AreTwins (sym e) (sym f) (record { limits = t.limits; made = t.made; realm = t.realm; heaps = t.heaps })
+
+pub puts_twins : (k : ℕ) (o o' : Option Guard) (hs hs' ks ks' : Heaps) → AreTwins hs hs' → k < length hs.slots → k < length hs'.slots → IsTwinIn o o' → Puts k o hs ks → Puts k o' hs' ks' → AreTwins ks ks'
+puts_twins k o o' hs hs' ks ks' t there there' now e f = subst₂ AreTwins (sym e) (sym f) (record {
+  limits = t.limits;
+  made = t.made;
+  realm = t.realm;
+  heaps = put_twins k hs.slots hs'.slots o o' there there' now t.heaps;
+})

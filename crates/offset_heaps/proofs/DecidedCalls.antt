@@ -1,38 +1,30 @@
 -- Each call on heaps that no answer tells apart has the same result, and leaves such heaps.
 use Rattle.std.proofs.Common.{[], ◌∷◌, map, suc}
-use Rattle.std.proofs.Common.{◌≡◌, ℕ, ◌+◌, ◌<◌, ◌≤◌, Bool, true, false, length, List, Option, Some, None, MatchOption, Result, Ok, Err, is_some, if◌then◌else◌, nat_eq, refl, sym, ap, ap₂, subst, subst₂, ◌∙◌, inl, inr, arith}
+use Rattle.std.proofs.Common.{◌≡◌, ℕ, ◌+◌, ◌<◌, ◌≤◌, Bool, true, false, List, Option, Some, None, MatchOption, Result, Ok, Err, IsSome, is_some, if◌then◌else◌, nat_eq, refl, sym, ap, ap₂, subst, subst₂, ◌∙◌, inl, inr, arith}
 use Rattle.std.proofs.lemmas.Bool.{cases_Bool, cases_eq, cases_lt}
 use Rattle.offset_allocator.specs.{Classes.up, Classes.value, Relations.SameState, Requests.blocks_needed, Requests.units_needed, View.IsWellFormed, View.View, View.used_of}
 use Rattle.offset_allocator.specs.declared.moves.room.RoomCost.{RoomCost}
-use Rattle.offset_allocator.proofs.{DecidedChanges.compacts_decided, DecidedChanges.grows_decided, DecidedChanges.shrinks_decided, Moving.DecidedRooms.noted_decided}
+use Rattle.offset_allocator.proofs.{DecidedChanges.compacts_decided, DecidedChanges.extends_decided, DecidedChanges.grows_decided, DecidedChanges.shrinks_decided, Moving.DecidedRooms.noted_decided}
 use Rattle.offset_guarded.specs.Guard.{Guard, serial_of}
+use Rattle.std.specs.declared.alloc.AllocError.{AllocError}
 use Rattle.offset_heaps.specs.declared.limits.Limits.{Limits}
 use Rattle.offset_heaps.specs.declared.place.Granted.{Granted}
 use Rattle.offset_heaps.specs.declared.place.Place.{Place}
 use Rattle.offset_heaps.specs.declared.refusal.Refusal.{Refusal}
 use Rattle.offset_heaps.specs.declared.refusal.Refusal.TheVariants.{Memory}
-use Rattle.offset_heaps.specs.Changing.{CanResizeAt, CanResizeIn, ResizesAt, Wanted, Less, More, Alters, CompactsIn, MakesRoomIn, Resizes, ResizesSpace}
-use Rattle.offset_heaps.specs.Heaps.{Heaps, Grants, IsFirstFit, IsNext, IsSame, IsWhy, NoneFits, Puts, heap_at, is_empty, empties, live_of, numbers, part, slot, AreTotals, free_of, largest_room}
+use Rattle.offset_heaps.specs.Changing.{CanResizeAt, CanResizeIn, ResizesAt, Wanted, Less, More, Alters, CompactsAll, CompactsIn, PacksIn, MakesRoomIn, Resizes, ResizesSpace}
+use Rattle.offset_heaps.specs.Extending.{CanExtendIn, ExtendsIf}
+use Rattle.offset_heaps.specs.Heaps.{Heaps, Grants, IsFirstFit, IsGrown, IsNext, IsWhy, NoneFits, Puts, heap_at, is_empty, empties, live_of, numbers, part, slot, AreTotals, free_of, largest_room}
 use Rattle.offset_heaps.specs.{Heaps.room_of, Heaps.size_of, Heaps.total, Histories.ResetsAll, State.quiet, Twins.AreTwins, Twins.IsTwin, Twins.IsTwinIn}
 use Rattle.offset_heaps.specs.declared.totals.Totals.{Totals}
 use Rattle.offset_heaps.specs.Relocating.{HasLive, IsEmptiest, NoneLive, TakesRange, granted, live_at, units_in, units_of}
 use Rattle.offset_heaps.specs.State as state
 use Rattle.offset_heaps.proofs.{States.slot_quiet, Empties.empty_there, Grants.memory_alone, Grants.none_found, Grants.one_reason, Numbers.slot_there}
-use Rattle.offset_heaps.specs.Calls.{Allocates, TakesAll, Call, Allocate, Free, Relocate, Drop_empty, Drop_heap, Give_up, Reset, Resize, Compact_heap, Make_room, Drops, DropsEmpty, Frees, GivesUp, IsStarved, Relocates, Reply, Requested, Second, Dropped, Was_done, Resized, Room_made, Takes, TakesRoom, TakesSize, Packs, Notes}
-use Rattle.offset_heaps.proofs.Decided.{first_twins, grants_decided, known, known_at, must_in_twins, next_twins, none_fit_twins, one_first, one_fit, one_next, why_twins}
-use Rattle.offset_heaps.proofs.Twins.{as_twin, free_twins, kept_twins, none_twins, option_twin, put_twins, range_twins, reset_twins, room_twins, slid_twins, some_twin, total_twins, twins_sym}
-
--- ---- what calls leave
-same_twins : (hs hs' ks ks' : Heaps) → AreTwins hs hs' → IsSame hs ks → IsSame hs' ks' → AreTwins ks ks'
-same_twins hs hs' ks ks' t e f = subst₂ AreTwins (sym e) (sym f) (record { limits = t.limits; made = t.made; realm = t.realm; heaps = t.heaps })
-
-puts_twins : (k : ℕ) (o o' : Option Guard) (hs hs' ks ks' : Heaps) → AreTwins hs hs' → k < length hs.slots → k < length hs'.slots → IsTwinIn o o' → Puts k o hs ks → Puts k o' hs' ks' → AreTwins ks ks'
-puts_twins k o o' hs hs' ks ks' t there there' now e f = subst₂ AreTwins (sym e) (sym f) (record {
-  limits = t.limits;
-  made = t.made;
-  realm = t.realm;
-  heaps = put_twins k hs.slots hs'.slots o o' there there' now t.heaps;
-})
+use Rattle.offset_heaps.specs.Calls.{Allocates, TakesAll, Call, Allocate, Allocate_tight, Free, Relocate, Drop_empty, Drop_heap, Give_up, Reset, Resize, Extend_heap, Compact_heap, Compact_all, Make_room, Drops, DropsEmpty, Frees, GivesUp, IsStarved, Lengthens, Relocates, Reply, Requested, Second, Dropped, Was_done, Resized, Extended, Room_made, Takes, TakesRoom, TakesSize, Packs, Notes}
+use Rattle.offset_heaps.proofs.Decided.{first_twins, grants_decided, grown_twin, known, known_at, must_in_twins, next_twins, none_fit_twins, one_first, one_fit, one_next, puts_twins, same_twins, why_twins}
+use Rattle.offset_heaps.proofs.DecidedTight.{tights_decided}
+use Rattle.offset_heaps.proofs.Growing.{grown_formed}
+use Rattle.offset_heaps.proofs.Twins.{as_twin, free_twins, kept_twins, none_twins, option_twin, range_twins, reset_twins, room_twins, slid_twins, some_twin, total_twins, twin_some, twin_sym, twins_sym, twins_trans}
 
 -- ---- requests
 pub refused : (size align : ℕ) (hs : Heaps) (why : Refusal) (g : Granted) → (size ≡ 0 → ⊥) → IsWhy size align hs why → (why ≡ Memory → ⊥)
@@ -140,6 +132,36 @@ size_decided how p hs hs' ks ks' is t (Some false) (Some true) x y = absurd (let
 size_decided how p hs hs' ks ks' is t (Some true) (Some true) x y = (refl, size_same how p true hs hs' ks ks' is t x.step y.step)
 size_decided how p hs hs' ks ks' is t (Some false) (Some false) x y = (refl, size_same how p false hs hs' ks ks' is t x.step y.step)
 
+can_extend_twin : (more : ℕ) (o p : Option Guard) → IsTwinIn o p → CanExtendIn more o → CanExtendIn more p
+can_extend_twin more None p u can = absurd can
+can_extend_twin more (Some g) p u can = subst (CanExtendIn more) (sym u.1) (subst (λ (z : Guard). CanExtendIn more (Some z)) (sym (as_twin g u.0 u.2)) can)
+
+can_there : (more : ℕ) (o : Option Guard) → CanExtendIn more o → IsSome o
+can_there more None can = absurd can
+can_there more (Some g) can = refl
+
+pub lengthens_decided : (k more : ℕ) (hs hs' ks ks' : Heaps) → state.IsWellFormed hs → AreTwins hs hs' → (r r' : Result Bool AllocError) → Lengthens k more hs ks r → Lengthens k more hs' ks' r'
+    → ((e : AllocError) → r ≡ Err e → ⊥) → ((e : AllocError) → r' ≡ Err e → ⊥) → (r ≡ r') × AreTwins ks ks'
+lengthens_decided k more hs hs' ks ks' is t (Err e) r' x y m n = absurd (m e refl)
+lengthens_decided k more hs hs' ks ks' is t (Ok d) (Err e) x y m n = absurd (n e refl)
+lengthens_decided k more hs hs' ks ks' is t (Ok true) (Ok false) x y m n =
+    absurd (let e : false ≡ true = y.done.1 (can_extend_twin more (heap_at k hs) (heap_at k hs') (t.heaps k) (x.done.0 refl)) in cc)
+lengthens_decided k more hs hs' ks ks' is t (Ok false) (Ok true) x y m n =
+    absurd (let e : false ≡ true = x.done.1 (can_extend_twin more (heap_at k hs') (heap_at k hs) ((twins_sym hs hs' t).heaps k) (y.done.0 refl)) in cc)
+lengthens_decided k more hs hs' ks ks' is t (Ok false) (Ok false) x y m n =
+    (refl, twins_trans ks hs ks' (twins_sym hs ks (x.refused refl)) (twins_trans hs hs' ks' t (y.refused refl)))
+lengthens_decided k more hs hs' ks ks' is t (Ok true) (Ok true) x y m n =
+    let P = ExtendsIf hs.limits k more true in
+    let Q = ExtendsIf hs'.limits k more true in
+    let a = x.step (can_there more (heap_at k hs) (x.done.0 refl)) in
+    let b = y.step (can_there more (heap_at k hs') (y.done.0 refl)) in
+    let before = before_twins k P Q hs hs' ks ks' t a b in
+    let well = known_at hs (known hs is) k a.before a.heap in
+    let between = grown_twin hs.limits k a.before b.before a.by.between b.by.between before (twin_sym a.before b.before before) a.by.grown
+    (subst (λ (l : Limits). IsGrown l k b.before b.by.between) t.limits b.by.grown) in
+    let one = extends_decided more a.by.between.space b.by.between.space a.after.space b.after.space (grown_formed hs.limits k a.before a.by.between a.by.grown well) between.space true true a.by.step b.by.step in
+    (refl, alters_twins k P Q hs hs' ks ks' t a b (kept_twins a.before b.before a.after b.after before a.by.serials b.by.serials (λ u. ap is_some (a.by.kept u)) one.1))
+
 pub packs_decided : (k : ℕ) (hs hs' ks ks' : Heaps) → AreTwins hs hs' → (r r' : Bool) → Packs k hs ks r → Packs k hs' ks' r' → (r ≡ r') × AreTwins ks ks'
 packs_decided k hs hs' ks ks' t false false x y = (refl, same_twins hs hs' ks ks' t (x.same refl) (y.same refl))
 packs_decided k hs hs' ks ks' t true false x y = absurd (let e : false ≡ true = y.done.1 (some_twins hs hs' t k ∙ x.done.0 refl) in cc)
@@ -150,6 +172,23 @@ packs_decided k hs hs' ks ks' t true true x y =
     let before = before_twins k CompactsIn CompactsIn hs hs' ks ks' t a b in
     let after = compacts_decided a.before.space b.before.space a.after.space b.after.space before.space a.by.step b.by.step in
     (refl, alters_twins k CompactsIn CompactsIn hs hs' ks ks' t a b (slid_twins a.before b.before a.after b.after before a.by.serials b.by.serials a.by.sizes after))
+
+packed_twins : (o o' p p' : Option Guard) → IsTwinIn o o' → PacksIn o p → PacksIn o' p' → IsTwinIn p p'
+packed_twins None o' p p' twin f f' =
+    let none : p' ≡ None = subst (λ o. PacksIn o p') twin f' in
+    subst (λ p. IsTwinIn p p') (sym f) none
+packed_twins (Some g) o' p p' twin f f' =
+    let k : PacksIn (Some twin.0) p' = subst (λ o. PacksIn o p') twin.1 f' in
+    let after = compacts_decided g.space twin.0.space f.0.space k.0.space twin.2.space f.2.step k.2.step in
+    twin_some f.0 k.0 p p' f.1 k.1 (slid_twins g twin.0 f.0 k.0 twin.2 f.2.serials k.2.serials f.2.sizes after)
+
+pub compacts_all_decided : (hs hs' ks ks' : Heaps) → AreTwins hs hs' → CompactsAll hs ks → CompactsAll hs' ks' → AreTwins ks ks'
+compacts_all_decided hs hs' ks ks' t x y = record {
+  limits = ap (λ (h : Heaps). h.limits) y.rest ∙ t.limits ∙ sym (ap (λ (h : Heaps). h.limits) x.rest);
+  made = ap (λ (h : Heaps). h.made) y.rest ∙ t.made ∙ sym (ap (λ (h : Heaps). h.made) x.rest);
+  realm = ap (λ (h : Heaps). h.realm) y.rest ∙ t.realm ∙ sym (ap (λ (h : Heaps). h.realm) x.rest);
+  heaps = λ k. packed_twins (heap_at k hs) (heap_at k hs') (heap_at k ks) (heap_at k ks') (t.heaps k) (x.heaps k) (y.heaps k);
+}
 
 pub room_decided : (k size : ℕ) (hs hs' ks ks' : Heaps) → state.IsWellFormed hs → AreTwins hs hs' → (r r' : Option RoomCost) → TakesRoom k size hs ks r → TakesRoom k size hs' ks' r' → (r ≡ r') × AreTwins ks ks'
 room_decided k size hs hs' ks ks' is t r r' x y = go (heap_at k hs) refl
@@ -313,7 +352,10 @@ totals_decided hs hs' t r r' x y =
 takes_decided : (c : Call) (hs hs' ks ks' : Heaps) → state.IsWellFormed hs → AreTwins hs hs' → (r r' : Reply) → Takes c hs ks r → Takes c hs' ks' r' → (IsStarved r → ⊥) → (IsStarved r' → ⊥)
     → (r ≡ r') × AreTwins ks ks'
 takes_decided (Allocate size align) hs hs' ks ks' is t r r' x y m n =
-    let e = allocates_decided size align hs hs' ks ks' x.2 is t x.0 y.0 x.3 y.3 (λ q. m (x.1 ∙ ap Requested q)) (λ q. n (y.1 ∙ ap Requested q)) in
+    let e = allocates_decided size align hs hs' ks ks' x.2 is t x.0 y.0 x.3 y.3 (λ q. m (inl (x.1 ∙ ap Requested q))) (λ q. n (inl (y.1 ∙ ap Requested q))) in
+    (x.1 ∙ ap Requested e.0 ∙ sym y.1, e.1)
+takes_decided (Allocate_tight size align) hs hs' ks ks' is t r r' x y m n =
+    let e = tights_decided size align hs hs' ks ks' x.2 is t x.0 y.0 x.3 y.3 (λ q. m (inl (x.1 ∙ ap Requested q))) (λ q. n (inl (y.1 ∙ ap Requested q))) in
     (x.1 ∙ ap Requested e.0 ∙ sym y.1, e.1)
 takes_decided (Free p) hs hs' ks ks' is t r r' x y m n = let e = free_decided p hs hs' ks ks' is t x.0 y.0 x.2 y.2 in (x.1 ∙ ap Was_done e.0 ∙ sym y.1, e.1)
 takes_decided (Relocate p align) hs hs' ks ks' is t r r' x y m n = let e = relocates_decided p align hs hs' ks ks' is t x.0 y.0 x.2 y.2 in (x.1 ∙ ap Second e.0 ∙ sym y.1, e.1)
@@ -322,7 +364,11 @@ takes_decided (Drop_heap k) hs hs' ks ks' is t r r' x y m n = let e = drops_deci
 takes_decided (Give_up k) hs hs' ks ks' is t r r' x y m n = let e = gives_up_decided k hs hs' ks ks' t x.0 y.0 x.2 y.2 in (x.1 ∙ ap Was_done e.0 ∙ sym y.1, e.1)
 takes_decided Reset hs hs' ks ks' is t r r' x y m n = (x.0 ∙ sym y.0, resets_decided hs hs' ks ks' is t x.1 y.1)
 takes_decided (Resize how p) hs hs' ks ks' is t r r' x y m n = let e = size_decided how p hs hs' ks ks' is t x.0 y.0 x.2 y.2 in (x.1 ∙ ap Resized e.0 ∙ sym y.1, e.1)
+takes_decided (Extend_heap k more) hs hs' ks ks' is t r r' x y m n =
+    let e = lengthens_decided k more hs hs' ks ks' is t x.0 y.0 x.2 y.2 (λ e q. m (inr (e, x.1 ∙ ap Extended q))) (λ e q. n (inr (e, y.1 ∙ ap Extended q))) in
+    (x.1 ∙ ap Extended e.0 ∙ sym y.1, e.1)
 takes_decided (Compact_heap k) hs hs' ks ks' is t r r' x y m n = let e = packs_decided k hs hs' ks ks' t x.0 y.0 x.2 y.2 in (x.1 ∙ ap Was_done e.0 ∙ sym y.1, e.1)
+takes_decided Compact_all hs hs' ks ks' is t r r' x y m n = (x.0 ∙ sym y.0, compacts_all_decided hs hs' ks ks' t x.1 y.1)
 takes_decided (Make_room k size) hs hs' ks ks' is t r r' x y m n = let e = room_decided k size hs hs' ks ks' is t x.0 y.0 x.2 y.2 in (x.1 ∙ ap Room_made e.0 ∙ sym y.1, e.1)
 
 pub taken_decided : (cs : List Call) (hs hs' ks ks' : Heaps) → state.IsWellFormed hs → AreTwins hs hs' → (rs rs' : List Reply) → TakesAll hs cs rs ks → TakesAll hs' cs rs' ks' → (rs ≡ rs') × AreTwins ks ks'

@@ -10,8 +10,8 @@ use Rattle.offset_heaps.specs.declared.limits.Limits.{Limits}
 use Rattle.offset_heaps.specs.declared.place.Granted.{Granted}
 use Rattle.offset_heaps.specs.declared.refusal.Refusal.{Refusal}
 use Rattle.offset_heaps.specs.declared.refusal.Refusal.TheVariants.{Empty, TooLarge, Full, Memory}
-use Rattle.offset_heaps.specs.Heaps.{Heaps, Adds, Grants, IsBefore, IsFirstFit, IsForRoom, IsNext, IsWhy, MayEverFit, NoneFits, IsNew, IsSame, IsSpareLarger, IsSpareUsual, IsUsual, KeepsOthers, IsGrown, MustGrowIn, heap_at}
-use Rattle.offset_heaps.specs.{Heaps.larger_limit, Heaps.last_realm, Heaps.range_in, Heaps.range_of, Heaps.room_of, Heaps.slot, Slots.Changes, Slots.GrowsIn, Slots.KeepsOthersIn, Slots.Serves, Slots.ServesTight}
+use Rattle.offset_heaps.specs.Heaps.{Heaps, Adds, Grants, IsBefore, IsFirstFit, IsForRoom, IsNext, IsWhy, MayEverFit, NoneFits, IsNew, IsSame, IsSpareLarger, IsSpareUsual, IsUsual, KeepsOthers, IsGrown, MustGrowIn, heap_at, usual_size}
+use Rattle.offset_heaps.specs.{Heaps.larger_limit, Heaps.last_realm, Heaps.range_in, Heaps.range_of, Heaps.slot, Slots.Changes, Slots.GrowsIn, Slots.KeepsOthersIn, Slots.Serves, Slots.ServesTight}
 use Rattle.offset_heaps.proofs.{Growing.grown_range, Growing.must_in, Growing.set_twice}
 use Rattle.offset_heaps.proofs.{Numbers.slot_same, Places.none_if, Places.put_keeps, Places.same_realm, Places.shown, Rooms.fresh_none, Rooms.some_same}
 
@@ -40,13 +40,13 @@ module _ (hs ks : Heaps) (number size align : ℕ) (o : Option Guard) (ticket : 
   abbrev grant : Granted
   grant = record { place = record { heap = number; realm = hs.realm; ticket = ticket }; is_new = true }
 
-  pub granted_usual : (g : Guard) → IsSpareUsual number hs → IsUsual size hs → IsNew hs.limits.size hs.limits.first_allocs (hs.made + 1) g
+  pub granted_usual : (g : Guard) → IsSpareUsual size number hs → IsUsual size hs → IsNew (usual_size hs.limits number) hs.limits.first_allocs (hs.made + 1) g
       → Serves size 1 (Some g) o ticket → Grants size align hs ks grant
   granted_usual g spare usual new by =
       record {
         before = by.before;
         after = by.after;
-        heap = inr (refl, spare.1, inl (usual, subst (IsNew hs.limits.size hs.limits.first_allocs (hs.made + 1)) (some_same g by.before by.was) new));
+        heap = inr (refl, spare.1, inl (usual, subst (IsNew (usual_size hs.limits number) hs.limits.first_allocs (hs.made + 1)) (some_same g by.before by.was) new));
         step = inl (λ new. usual, by.step, by.accesses);
         grants = by.grants;
         realm = refl;
@@ -68,20 +68,21 @@ module _ (hs ks : Heaps) (number size align : ℕ) (o : Option Guard) (ticket : 
         heaps = subst (λ o. Adds number o hs ks) by.is adds;
       }
 
+-- a heap that grew, and need not grow again, is one that was there
+pub grown_once : (limits : Limits) (number : ℕ) (o now : Option Guard) → GrowsIn limits number o now → (g h : Guard) → now ≡ Some g → IsGrown limits number g h → (MustGrowIn limits number now → ⊥)
+    → (b : Guard) × (o ≡ Some b) × IsGrown limits number b h
+grown_once limits number None now grows g h e grown stays = absurd (let none = sym grows ∙ e in cc)
+grown_once limits number (Some b) now grows g h e (inl up) stays = absurd (stays (must_in limits number now g e up.0))
+grown_once limits number (Some b) now grows g h e (inr kept) stays =
+    let same : grows.0 ≡ g = some_same grows.0 g (sym grows.1 ∙ e) in
+    (b, refl, subst (IsGrown limits number b) (same ∙ sym kept.1) grows.2)
+
 -- a grant in a heap that grew before, is one of the heap that was there
 module _ (hs between ks : Heaps) (size align number : ℕ) (grant : Granted) (there : number < length hs.slots) (change : Changes number (GrowsIn hs.limits number) hs.slots between.slots)
     (rest : between ≡ record hs { slots = between.slots; accesses = between.accesses }) (none : MustGrowIn hs.limits number (slot number between.slots) → ⊥) (old : grant.is_new ≡ false)
     (at : grant.place.heap ≡ number) where
   found : slot number between.slots ≡ change.now
   found = ap (slot number) change.slots ∙ slot_same hs.slots number change.now there
-
-  was : (o now : Option Guard) → GrowsIn hs.limits number o now → (g h : Guard) → now ≡ Some g → IsGrown hs.limits number g h → (MustGrowIn hs.limits number now → ⊥)
-      → (b : Guard) × (o ≡ Some b) × IsGrown hs.limits number b h
-  was None now grows g h e grown stays = absurd (let none = sym grows ∙ e in cc)
-  was (Some b) now grows g h e (inl up) stays = absurd (stays (must_in hs.limits number now g e up.0))
-  was (Some b) now grows g h e (inr kept) stays =
-      let same : grows.0 ≡ g = some_same grows.0 g (sym grows.1 ∙ e) in
-      (b, refl, subst (IsGrown hs.limits number b) (same ∙ sym kept.1) grows.2)
 
   pub granted_grown : Grants size align between ks grant → Grants size align hs ks grant
   granted_grown given =
@@ -107,7 +108,7 @@ module _ (hs between ks : Heaps) (size align number : ℕ) (grant : Granted) (th
         | inr new ↦ absurd (let e = sym old ∙ new.0 in cc)
         | inl is ↦
             let e : change.now ≡ Some is.1.0 = sym found ∙ ap (λ k. slot k between.slots) (sym at) ∙ is.1.1 in
-            let w = was (slot number hs.slots) change.now change.by is.1.0 g.before e (subst (λ k. IsGrown hs.limits k is.1.0 g.before) at is.1.2)
+            let w = grown_once hs.limits number (slot number hs.slots) change.now change.by is.1.0 g.before e (subst (λ k. IsGrown hs.limits k is.1.0 g.before) at is.1.2)
             (λ must. none (subst (MustGrowIn hs.limits number) (sym found) must)) in
             inl (is.0, (w.0, ap (λ k. slot k hs.slots) at ∙ w.1, subst (λ k. IsGrown hs.limits k w.0 g.before) (sym at) w.2))
       ]
@@ -123,7 +124,7 @@ granted_if_since size align hs ks ls (Ok grant) same g = granted_since size alig
 granted_if_since size align hs ks ls (Err why) same g = g
 
 -- the first spare number for a heap of the usual size is the next one for a request that is usual
-pub next_usual : (units k : ℕ) (hs ks : Heaps) (r : Result Granted Refusal) → IsSame hs ks → IsUsual units hs → IsSpareUsual k hs → ((j : ℕ) → j < k → IsSpareUsual j hs → ⊥)
+pub next_usual : (units k : ℕ) (hs ks : Heaps) (r : Result Granted Refusal) → IsSame hs ks → IsUsual units hs → IsSpareUsual units k hs → ((j : ℕ) → j < k → IsSpareUsual units j hs → ⊥)
     → IfOk r (λ g. (g.is_new ≡ true) × (g.place.heap ≡ k) × (ks.made < last_realm)) → IfOk r (λ g. (g.is_new ≡ true) × IsNext units g.place.heap hs)
 next_usual units k hs ks (Ok g) same usual spare first made =
     let now = ap (λ (h : Heaps). h.made) same in
@@ -162,9 +163,9 @@ module _ (size align : ℕ) (hs ks : Heaps) (grant : Granted) (g : Grants size a
   pub others_kept : KeepsOthers grant.place hs ks
   others_kept = put_keeps hs ks grant.place.heap (Some g.after) slots realms g.number grant.place refl g.realm (kept g.heap)
     where
-      fresh : (t : Ticket) → ((IsUsual size hs × IsNew hs.limits.size hs.limits.first_allocs (hs.made + 1) g.before)
+      fresh : (t : Ticket) → ((IsUsual size hs × IsNew (usual_size hs.limits grant.place.heap) hs.limits.first_allocs (hs.made + 1) g.before)
           ⊎ ((IsUsual size hs → ⊥) × IsNew size larger_limit (hs.made + 1) g.before)) → guarded.range_of t g.before ≡ None
-      fresh t (inl usual) = fresh_none hs.limits.size hs.limits.first_allocs (hs.made + 1) g.before t usual.1
+      fresh t (inl usual) = fresh_none (usual_size hs.limits grant.place.heap) hs.limits.first_allocs (hs.made + 1) g.before t usual.1
       fresh t (inr larger) = fresh_none size larger_limit (hs.made + 1) g.before t larger.1
 
       kept : IsBefore size hs grant g.before → KeepsOthersIn grant.place.ticket (slot grant.place.heap hs.slots) (Some g.after)

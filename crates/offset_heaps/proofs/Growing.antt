@@ -1,6 +1,6 @@
 -- The node limit of a heap grows before a grant: what it has room for and what is live in it stay, and after the grant it
 -- has as many unused nodes as between two calls.
-use Rattle.std.proofs.Common.{◌≡◌, ℕ, zero, suc, ◌+◌, ◌*◌, ◌<◌, ◌≤◌, ◌⊎◌, min, true, false, List, [], ◌∷◌, ◌++◌, Option, Some, None, IfSome, Result, Ok, Err, IfOk, IsErr, length, length-append, slice_set, refl, sym, ap, ◌∙◌, subst, inl, inr, arith}
+use Rattle.std.proofs.Common.{◌≡◌, ℕ, zero, suc, ◌+◌, ◌*◌, ◌<◌, ◌≤◌, ◌⊎◌, min, true, List, [], ◌∷◌, ◌++◌, Option, Some, None, IfSome, Result, Ok, Err, IfOk, IsErr, length, length-append, slice_set, refl, sym, ap, ◌∙◌, subst, inl, inr, arith}
 use Rattle.std.proofs.lemmas.Bool.{cases_lt, lt-ltb}
 use Rattle.offset_allocator.specs.{Relations.Frees, Relations.Resets, Relations.Splits, View.Block, View.Handle, View.IsWellFormed, View.View, View.free_block, View.free_part, View.units}
 use Rattle.offset_allocator.proofs.Raised.{well_under}
@@ -9,7 +9,7 @@ use Rattle.offset_guarded.specs.Guard as guarded
 use Rattle.offset_guarded.specs.declared.ticket.Ticket.{Ticket}
 use Rattle.offset_heaps.specs.declared.index.Index.{Index}
 use Rattle.offset_heaps.specs.declared.limits.Limits.{Limits}
-use Rattle.offset_heaps.specs.Heaps.{HasNodesLeft, IsFirstLimit, IsGrown, IsOfKind, MustGrow, MustGrowIn, grown_limit, room, room_of, slot}
+use Rattle.offset_heaps.specs.Heaps.{HasNodesLeft, IsFirstLimit, IsGrown, IsOfKind, MustGrow, MustGrowIn, grown_limit, room, room_of, slot, usual_size}
 use Rattle.offset_heaps.specs.{Slots.Changes, Slots.GrowsIn, Soundness.IsNoted, Soundness.IsSound, Soundness.empty_key, Soundness.spare_of}
 use Rattle.offset_heaps.proofs.{Numbers.slot_same, Sound.sound_put, Sound.wide_put}
 
@@ -102,7 +102,8 @@ module _ (limits : Limits) (k : ℕ) where
   grown_same f same g h (inr kept) = ap f kept.1
 
   pub grown_kind : (g h : Guard) → IsFirstLimit limits → IsGrown limits k g h → IsOfKind limits k g → IsOfKind limits k h
-  grown_kind g h first grown (inl usual) = inl (usual.0, grown_same (λ (z : Guard). z.space.size) (λ limit g. refl) g h grown ∙ usual.1, grown_left g h first usual.0 usual.2 grown)
+  grown_kind g h first grown (inl usual) =
+      inl (usual.0, subst (λ n. usual_size limits k ≤ n) (sym (grown_same (λ (z : Guard). z.space.size) (λ limit g. refl) g h grown)) usual.1, grown_left g h first usual.0 usual.2 grown)
   grown_kind g h first (inl up) (inr larger) = absurd (omega (arith, up.0.0, larger.0))
   grown_kind g h first (inr kept) (inr larger) = subst (IsOfKind limits k) (sym kept.1) (inr larger)
 
@@ -155,7 +156,7 @@ room_grown limits k blocks g h few (inl usual) (inl up) = room_under (grown_limi
 pub must_in : (limits : Limits) (k : ℕ) (o : Option Guard) (g : Guard) → o ≡ Some g → MustGrow limits k g → MustGrowIn limits k o
 must_in limits k o g e must = subst (MustGrowIn limits k) (sym e) must
 
-usual_left : (limits : Limits) (k : ℕ) (g : Guard) → IsOfKind limits k g → k < limits.most → HasNodesLeft limits g
+pub usual_left : (limits : Limits) (k : ℕ) (g : Guard) → IsOfKind limits k g → k < limits.most → HasNodesLeft limits g
 usual_left limits k g (inl usual) l = usual.2
 usual_left limits k g (inr larger) l = absurd (omega (arith, larger.0, l))
 

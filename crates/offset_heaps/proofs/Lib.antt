@@ -3,7 +3,9 @@ pub mod Changes
 pub mod Counting
 pub mod Decided
 pub mod DecidedCalls
+pub mod DecidedTight
 pub mod DecidedWalks
+pub mod Doubling
 pub mod EachOnce
 pub mod Empties
 pub mod Emptiest
@@ -13,7 +15,11 @@ pub mod Foretold
 pub mod Grants
 pub mod Growing
 pub mod Histories
+pub mod Holders
+pub mod Longer
 pub mod Numbers
+pub mod OneHeap
+pub mod Packing
 pub mod Places
 pub mod Refusals
 pub mod Rooms

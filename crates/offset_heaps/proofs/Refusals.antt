@@ -4,11 +4,11 @@ use Rattle.offset_allocator.specs.Requests.{blocks_needed, units_needed}
 use Rattle.offset_heaps.specs.declared.refusal.Refusal.{Refusal}
 use Rattle.offset_heaps.specs.declared.refusal.Refusal.TheVariants.{Empty, TooLarge, Full, Memory}
 use Rattle.offset_heaps.specs.Asking.{IsRefusedFor, IsServed, IsWhyNone}
-use Rattle.offset_heaps.specs.Heaps.{Heaps, IsFirstFit, IsNext, IsSpareLarger, IsSpareUsual, IsUsual, NoneFits, last_realm}
+use Rattle.offset_heaps.specs.Heaps.{Heaps, IsFirstFit, IsSpareLarger, IsSpareUsual, IsUsual, NoneFits, last_realm}
 
 module _ (size : ℕ) (hs : Heaps) where
   pub why_usual : (s : Option ℕ) (r : Option Refusal) → IsUsual size hs
-      → MatchOption s ((k : ℕ) → IsSpareUsual k hs → ⊥) (λ k. IsSpareUsual k hs × ((j : ℕ) → j < k → IsSpareUsual j hs → ⊥))
+      → MatchOption s ((k : ℕ) → IsSpareUsual size k hs → ⊥) (λ k. IsSpareUsual size k hs × ((j : ℕ) → j < k → IsSpareUsual size j hs → ⊥))
       → IfSome r (λ why. (why ≡ Full) × (IsSome s → hs.made ≡ last_realm)) → (r ≡ None → IsSome s × (hs.made < last_realm)) → IsWhyNone size hs r
   why_usual None None usual first full left = absurd (let no = (left refl).0 in cc)
   why_usual None (Some why) usual first full left =

@@ -46,7 +46,7 @@ room_grants blocks units g known some = (
 )
 
 -- a fresh heap of the size of a request has a block for it
-pub new_holds : (size : ℕ) (g : Guard) → IsFresh size 4 g.space → g.given ≡ 0 → CanHoldIn size (Some g)
+pub new_holds : (size : ℕ) (g : Guard) → IsFresh size 4 g.space → g.given ≡ 0 → CanHoldIn size 1 (Some g)
 new_holds size g f none =
     let blocks : g.space.blocks ≡ free_block f.name size ∷ [] = ap (λ (v : View). v.blocks) f.view in
     let limit : g.space.max_allocs ≡ 4 = ap (λ (v : View). v.max_allocs) f.view in

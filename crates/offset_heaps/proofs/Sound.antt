@@ -6,7 +6,7 @@ use Rattle.offset_allocator.specs.View.{View}
 use Rattle.offset_guarded.specs.Guard.{Guard}
 use Rattle.offset_heaps.specs.declared.limits.Limits.{Limits}
 use Rattle.offset_heaps.specs.declared.index.Index.{Index}
-use Rattle.offset_heaps.specs.{Heaps.HasNodesLeft, Heaps.IsFirstLimit, Heaps.IsOfKind, Heaps.slot, Heaps.room_of, Slots.Changes, Slots.ResetsIn, Soundness.IsNoted, Soundness.IsSound, Soundness.IsWide, Soundness.empty_key, Soundness.spare_of, Maxima.cell}
+use Rattle.offset_heaps.specs.{Heaps.HasNodesLeft, Heaps.IsFirstLimit, Heaps.IsOfKind, Heaps.slot, Heaps.room_of, Heaps.usual_size, Slots.Changes, Slots.ResetsIn, Soundness.IsNoted, Soundness.IsSound, Soundness.IsWide, Soundness.empty_key, Soundness.spare_of, Maxima.cell}
 use Rattle.offset_heaps.proofs.Numbers.{slot_other, slot_same}
 
 pub wide_put : (slots : List (Option Guard)) (index : Index) (k : ℕ) (o : Option Guard) → IsWide slots index → IsWide (slice_set slots k o) index
@@ -71,6 +71,7 @@ module _ (max : ℕ) (slots : List (Option Guard)) (limits : Limits) (made then 
         limit_min = is.limit_min;
         limit_max = is.limit_max;
         limit_first = is.limit_first;
+        size_first = is.size_first;
         realms = realms_put below l;
         kinds = kinds_put kind l;
       }
@@ -88,7 +89,7 @@ pub kind_kept : (limits : Limits) (k : ℕ) (old new : Option Guard) (before aft
 kind_kept limits k old new before after was is size limit left kind = rw is (same (subst (λ o. IfSome o (IsOfKind limits k)) was kind))
   where
     same : IsOfKind limits k before → IsOfKind limits k after
-    same (inl u) = inl (u.0, size ∙ u.1, (omega (arith, limit, u.2.0), omega (arith, limit, u.2.1), left u.0 u.2))
+    same (inl u) = inl (u.0, subst (λ n. usual_size limits k ≤ n) (sym size) u.1, (omega (arith, limit, u.2.0), omega (arith, limit, u.2.1), left u.0 u.2))
     same (inr l) = let some = l.1 in inr (l.0, omega (arith, size, some), limit ∙ l.2)
 
 -- with no heap and keys of 0, what is behind the last number is noted
@@ -155,21 +156,21 @@ pub realm_new : (made : ℕ) (o : Option Guard) → IfSome o (λ g. g.realm ≡ 
 realm_new made None h = tt
 realm_new made (Some g) h = omega (arith, h)
 
--- one more heap is reset
-pub resets_more : (first slots now : List (Option Guard)) (n : ℕ) → n < length slots → Changes n ResetsIn slots now → ((k : ℕ) → k < n → ResetsIn (slot k first) (slot k slots))
+-- one more heap is changed, as each is
+pub changes_more : (P : Option Guard → Option Guard → Type 0) (first slots now : List (Option Guard)) (n : ℕ) → n < length slots → Changes n P slots now → ((k : ℕ) → k < n → P (slot k first) (slot k slots))
     → ((k : ℕ) → n ≤ k → slot k slots ≡ slot k first)
-    → ((k : ℕ) → k < n + 1 → ResetsIn (slot k first) (slot k now)) × ((k : ℕ) → n + 1 ≤ k → slot k now ≡ slot k first)
-resets_more first slots now n l change done left = (
+    → ((k : ℕ) → k < n + 1 → P (slot k first) (slot k now)) × ((k : ℕ) → n + 1 ≤ k → slot k now ≡ slot k first)
+changes_more P first slots now n l change done left = (
   λ k below. elim (cases_eq k n) [
-    | inl e ↦ rw (e, change.slots, slot_same slots n change.now l) (subst (λ o. ResetsIn o change.now) (left n (omega arith)) change.by)
+    | inl e ↦ rw (e, change.slots, slot_same slots n change.now l) (subst (λ o. P o change.now) (left n (omega arith)) change.by)
     | inr d ↦ rw (change.slots, slot_other slots n k change.now d) (done k (omega arith))
   ],
   λ k past. rw change.slots (slot_other slots n k change.now (λ e. omega arith) ∙ left k (omega arith)),
 )
 
-pub noted_reset : (limits : Limits) (slots now : List (Option Guard)) (n : ℕ) (old new : Index) → Changes n ResetsIn slots now → ((k : ℕ) → IsNoted limits slots old k)
+pub noted_changed : (P : Option Guard → Option Guard → Type 0) (limits : Limits) (slots now : List (Option Guard)) (n : ℕ) (old new : Index) → Changes n P slots now → ((k : ℕ) → IsNoted limits slots old k)
     → IsNoted limits now new n → ((k : ℕ) → (k ≡ n → ⊥) → IsNoted limits now old k → IsNoted limits now new k) → (k : ℕ) → IsNoted limits now new k
-noted_reset limits slots now n old new change noted here others k = elim (cases_eq k n) [
+noted_changed P limits slots now n old new change noted here others k = elim (cases_eq k n) [
   | inl e ↦ rw e here
   | inr d ↦ others k d (rw change.slots (noted_other limits slots old n k change.now d (noted k)))
 ]

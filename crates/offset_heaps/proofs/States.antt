@@ -95,6 +95,7 @@ copied_sound max slots copies limits made old new is same wide noted low =
       limit_min = is.limit_min;
       limit_max = is.limit_max;
       limit_first = is.limit_first;
+      size_first = is.size_first;
       realms = λ k. rw (same, slot_quiet k slots) (realm_quiet made (slot k slots) (is.realms k));
       kinds = λ k. rw (same, slot_quiet k slots) (kind_quiet limits k (slot k slots) (is.kinds k));
     }
@@ -157,14 +158,15 @@ pub record HasParts (hs : Heaps) (ps bs : List ℕ) : Type 0 where
   pub form : number_at bs 0 ≡ state_form
   pub version : number_at bs 1 ≡ state_version
   pub size : number_at bs 2 ≡ hs.limits.size
-  pub limit : number_at bs 3 ≡ hs.limits.max_allocs
-  pub first : number_at bs 4 ≡ hs.limits.first_allocs
-  pub most : number_at bs 5 ≡ hs.limits.most
-  pub larger : number_at bs 6 ≡ hs.limits.most_larger
-  pub made : number_at bs 7 ≡ hs.made
-  pub realm : number_at bs 8 ≡ hs.realm
-  pub places : (i : ℕ) → i < length hs.slots + 1 → number_at bs (9 + i) ≡ cell i ps
-  pub sum : number_at bs (10 + length hs.slots) ≡ checksum_from 0 (words.numbers (10 + length hs.slots) bs)
+  pub first_size : number_at bs 3 ≡ hs.limits.first_size
+  pub limit : number_at bs 4 ≡ hs.limits.max_allocs
+  pub first : number_at bs 5 ≡ hs.limits.first_allocs
+  pub most : number_at bs 6 ≡ hs.limits.most
+  pub larger : number_at bs 7 ≡ hs.limits.most_larger
+  pub made : number_at bs 8 ≡ hs.made
+  pub realm : number_at bs 9 ≡ hs.realm
+  pub places : (i : ℕ) → i < length hs.slots + 1 → number_at bs (10 + i) ≡ cell i ps
+  pub sum : number_at bs (11 + length hs.slots) ≡ checksum_from 0 (words.numbers (11 + length hs.slots) bs)
 
 pub parts : (hs : Heaps) (bs : List ℕ) (st : IsStateOf hs bs) → HasParts hs st.places bs
 parts hs bs st =
@@ -172,37 +174,38 @@ parts hs bs st =
     let p : List ℕ = st.places in
     let s : ℕ = checksum_from 0 (heaps_numbers hs p) in
     let count : length p ≡ n + 1 = st.heaps.count in
-    let at : (i : ℕ) → i < 11 + n → number_at bs i ≡ get_or (heaps_numbers hs p ++ s ∷ []) i 0 = λ i l. sym (number_in (11 + n) i bs l) ∙ ap (λ l. get_or l i 0) st.head in
-    let long : length (words.numbers (10 + n) bs) ≡ length (heaps_numbers hs p) = length-numbers (10 + n) bs ∙ omega (arith, count) in
-    let seam : words.numbers (10 + n) bs ++ number_at bs (10 + n) ∷ [] ≡ heaps_numbers hs p ++ s ∷ [] =
-    sym (numbers_more (10 + n) bs) ∙ ap (λ m. words.numbers m bs) {x = 10 + n + 1} {y = 11 + n} (omega arith) ∙ st.head in
-    let first : words.numbers (10 + n) bs ≡ heaps_numbers hs p =
-    sym (take-append_seam (words.numbers (10 + n) bs) (number_at bs (10 + n) ∷ [])) ∙ ap₂ (λ (k : ℕ) (l : List ℕ). take k l) long seam ∙ take-append_seam (heaps_numbers hs p) (s ∷ []) in
+    let at : (i : ℕ) → i < 12 + n → number_at bs i ≡ get_or (heaps_numbers hs p ++ s ∷ []) i 0 = λ i l. sym (number_in (12 + n) i bs l) ∙ ap (λ l. get_or l i 0) st.head in
+    let long : length (words.numbers (11 + n) bs) ≡ length (heaps_numbers hs p) = length-numbers (11 + n) bs ∙ omega (arith, count) in
+    let seam : words.numbers (11 + n) bs ++ number_at bs (11 + n) ∷ [] ≡ heaps_numbers hs p ++ s ∷ [] =
+    sym (numbers_more (11 + n) bs) ∙ ap (λ m. words.numbers m bs) {x = 11 + n + 1} {y = 12 + n} (omega arith) ∙ st.head in
+    let first : words.numbers (11 + n) bs ≡ heaps_numbers hs p =
+    sym (take-append_seam (words.numbers (11 + n) bs) (number_at bs (11 + n) ∷ [])) ∙ ap₂ (λ (k : ℕ) (l : List ℕ). take k l) long seam ∙ take-append_seam (heaps_numbers hs p) (s ∷ []) in
     record {
       form = at 0 (omega arith);
       version = at 1 (omega arith);
       size = at 2 (omega arith);
-      limit = at 3 (omega arith);
-      first = at 4 (omega arith);
-      most = at 5 (omega arith);
-      larger = at 6 (omega arith);
-      made = at 7 (omega arith);
-      realm = at 8 (omega arith);
+      first_size = at 3 (omega arith);
+      limit = at 4 (omega arith);
+      first = at 5 (omega arith);
+      most = at 6 (omega arith);
+      larger = at 7 (omega arith);
+      made = at 8 (omega arith);
+      realm = at 9 (omega arith);
       places = λ i l.
-          at (9 + i) (omega (arith, l)) ∙ get_or_append_left (heaps_numbers hs p) (s ∷ []) 0 (9 + i) (omega (arith, l, count))
-          ∙ get_or-append-add (state_form ∷ state_version ∷ hs.limits.size ∷ hs.limits.max_allocs ∷ hs.limits.first_allocs ∷ hs.limits.most ∷ hs.limits.most_larger ∷ hs.made ∷ hs.realm ∷ []) p i 0;
-      sum = at (10 + n) (omega arith) ∙ get_or_push (heaps_numbers hs p) s 0 (10 + n) (omega (arith, count)) ∙ ap (checksum_from 0) (sym first);
+          at (10 + i) (omega (arith, l)) ∙ get_or_append_left (heaps_numbers hs p) (s ∷ []) 0 (10 + i) (omega (arith, l, count))
+          ∙ get_or-append-add (state_form ∷ state_version ∷ hs.limits.size ∷ hs.limits.first_size ∷ hs.limits.max_allocs ∷ hs.limits.first_allocs ∷ hs.limits.most ∷ hs.limits.most_larger ∷ hs.made ∷ hs.realm ∷ []) p i 0;
+      sum = at (11 + n) (omega arith) ∙ get_or_push (heaps_numbers hs p) s 0 (11 + n) (omega (arith, count)) ∙ ap (checksum_from 0) (sym first);
     }
 
 -- the heap of each number is between two of the places
 pub heap_between : (hs : Heaps) (bs : List ℕ) → IsStateOf hs bs → (k : ℕ) → k < length hs.slots
-    → IsHeapAt (slot k hs.slots) (number_at bs (9 + k)) (number_at bs (10 + k)) (drop (88 + 8 * length hs.slots) bs)
+    → IsHeapAt (slot k hs.slots) (number_at bs (10 + k)) (number_at bs (11 + k)) (drop (96 + 8 * length hs.slots) bs)
 heap_between hs bs st k l =
     let p = parts hs bs st in
-    let from : number_at bs (9 + k) ≡ cell k st.places = p.places k (omega (arith, l)) in
-    let to : number_at bs (10 + k) ≡ cell (k + 1) st.places = ap (number_at bs) {x = 10 + k} {y = 9 + (k + 1)} (omega arith) ∙ p.places (k + 1) (omega (arith, l)) in
-    subst (λ a. IsHeapAt (slot k hs.slots) a (number_at bs (10 + k)) (drop (88 + 8 * length hs.slots) bs)) (sym from)
-    (subst (λ b. IsHeapAt (slot k hs.slots) (cell k st.places) b (drop (88 + 8 * length hs.slots) bs)) (sym to) (st.heaps.heaps k l))
+    let from : number_at bs (10 + k) ≡ cell k st.places = p.places k (omega (arith, l)) in
+    let to : number_at bs (11 + k) ≡ cell (k + 1) st.places = ap (number_at bs) {x = 11 + k} {y = 10 + (k + 1)} (omega arith) ∙ p.places (k + 1) (omega (arith, l)) in
+    subst (λ a. IsHeapAt (slot k hs.slots) a (number_at bs (11 + k)) (drop (96 + 8 * length hs.slots) bs)) (sym from)
+    (subst (λ b. IsHeapAt (slot k hs.slots) (cell k st.places) b (drop (96 + 8 * length hs.slots) bs)) (sym to) (st.heaps.heaps k l))
 
 -- bytes are of one heap
 heap_formed : (limits : Limits) (made k : ℕ) (o : Option Guard) → IsHeapFormed limits made k o → IfSome o (λ g. guarded.IsWellFormed g)
@@ -223,6 +226,7 @@ one_of_many hs ks bs w v s t =
     let p = parts hs bs s in
     let q = parts ks bs t in
     let size : ks.limits.size ≡ hs.limits.size = sym q.size ∙ p.size in
+    let first_size : ks.limits.first_size ≡ hs.limits.first_size = sym q.first_size ∙ p.first_size in
     let limit : ks.limits.max_allocs ≡ hs.limits.max_allocs = sym q.limit ∙ p.limit in
     let first : ks.limits.first_allocs ≡ hs.limits.first_allocs = sym q.first ∙ p.first in
     let most : ks.limits.most ≡ hs.limits.most = sym q.most ∙ p.most in
@@ -232,33 +236,34 @@ one_of_many hs ks bs w v s t =
     let long : length ks.slots ≡ length hs.slots = t.count ∙ ap₂ (λ a b. a + b) most larger ∙ sym s.count in
     let each : (k : ℕ) → k < length hs.slots → quiet (slot k ks.slots) ≡ quiet (slot k hs.slots) = λ k l.
     same_heap (slot k hs.slots) (slot k ks.slots) _ (heap_formed hs.limits hs.made k (slot k hs.slots) (w.heaps k)) (heap_formed ks.limits ks.made k (slot k ks.slots) (v.heaps k)) (heap_between hs bs s k l).state
-    (subst (λ n. IsHeapState (slot k ks.slots) (take (number_at bs (10 + k) - number_at bs (9 + k)) (drop (number_at bs (9 + k)) (drop (88 + 8 * n) bs)))) long
+    (subst (λ n. IsHeapState (slot k ks.slots) (take (number_at bs (11 + k) - number_at bs (10 + k)) (drop (number_at bs (10 + k)) (drop (96 + 8 * n) bs)))) long
     (heap_between ks bs t k (omega (arith, l, long))).state) in
     let slots : map quiet ks.slots ≡ map quiet hs.slots =
     ext_get_or None (map quiet ks.slots) (map quiet hs.slots) (length-map ks.slots quiet ∙ long ∙ sym (length-map hs.slots quiet))
     (λ k l. slot_quiet k ks.slots ∙ each k (omega (arith, l, long, length-map ks.slots quiet)) ∙ sym (slot_quiet k hs.slots)) in
     λ i. record {
       slots = slots i;
-      limits = record { size = size i; max_allocs = limit i; first_allocs = first i; most = most i; most_larger = larger i };
+      limits = record { size = size i; first_size = first_size i; max_allocs = limit i; first_allocs = first i; most = most i; most_larger = larger i };
       made = made i;
       realm = realm i;
       accesses = 0;
     }
 
 -- the numbers before the places
-nine : (bs : List ℕ) → words.numbers 9 bs
-    ≡ number_at bs 0 ∷ number_at bs 1 ∷ number_at bs 2 ∷ number_at bs 3 ∷ number_at bs 4 ∷ number_at bs 5 ∷ number_at bs 6 ∷ number_at bs 7 ∷ number_at bs 8 ∷ []
-nine bs =
-    let a = number_in 9 0 bs (omega arith) in
-    let b = number_in 9 1 bs (omega arith) in
-    let c = number_in 9 2 bs (omega arith) in
-    let d = number_in 9 3 bs (omega arith) in
-    let e = number_in 9 4 bs (omega arith) in
-    let f = number_in 9 5 bs (omega arith) in
-    let g = number_in 9 6 bs (omega arith) in
-    let h = number_in 9 7 bs (omega arith) in
-    let j = number_in 9 8 bs (omega arith) in
-    λ i. a i ∷ b i ∷ c i ∷ d i ∷ e i ∷ f i ∷ g i ∷ h i ∷ j i ∷ []
+ten : (bs : List ℕ) → words.numbers 10 bs
+    ≡ number_at bs 0 ∷ number_at bs 1 ∷ number_at bs 2 ∷ number_at bs 3 ∷ number_at bs 4 ∷ number_at bs 5 ∷ number_at bs 6 ∷ number_at bs 7 ∷ number_at bs 8 ∷ number_at bs 9 ∷ []
+ten bs =
+    let a = number_in 10 0 bs (omega arith) in
+    let b = number_in 10 1 bs (omega arith) in
+    let c = number_in 10 2 bs (omega arith) in
+    let d = number_in 10 3 bs (omega arith) in
+    let e = number_in 10 4 bs (omega arith) in
+    let f = number_in 10 5 bs (omega arith) in
+    let g = number_in 10 6 bs (omega arith) in
+    let h = number_in 10 7 bs (omega arith) in
+    let j = number_in 10 8 bs (omega arith) in
+    let k = number_in 10 9 bs (omega arith) in
+    λ i. a i ∷ b i ∷ c i ∷ d i ∷ e i ∷ f i ∷ g i ∷ h i ∷ j i ∷ k i ∷ []
 
 -- what is true of the heaps of all numbers, is true of no heap behind them
 past_too : (P : ℕ → Option Guard → Type 0) (slots : List (Option Guard)) → ((k : ℕ) → P k None) → ((k : ℕ) → k < length slots → P k (slot k slots)) → (k : ℕ) → P k (slot k slots)
@@ -266,8 +271,8 @@ past_too P slots none each k = elim (cases_lt k (length slots)) [ inl l ↦ each
 
 -- what was read is of these bytes
 module _ (max mh ma : ℕ) (bs : List ℕ) (h : Header) (slots : List (Option Guard)) (accesses : ℕ) (hd : IsHeader max mh ma bs h)
-    (start : number_at bs 9 ≡ 0) (end : number_at bs (9 + (h.limits.most + h.limits.most_larger)) ≡ length (drop (88 + 8 * (h.limits.most + h.limits.most_larger)) bs))
-    (are : AreRead h.limits max h.made ma (h.limits.most + h.limits.most_larger) bs (drop (88 + 8 * (h.limits.most + h.limits.most_larger)) bs) slots) (none : accesses ≡ 0) where
+    (start : number_at bs 10 ≡ 0) (end : number_at bs (10 + (h.limits.most + h.limits.most_larger)) ≡ length (drop (96 + 8 * (h.limits.most + h.limits.most_larger)) bs))
+    (are : AreRead h.limits max h.made ma (h.limits.most + h.limits.most_larger) bs (drop (96 + 8 * (h.limits.most + h.limits.most_larger)) bs) slots) (none : accesses ≡ 0) where
   abbrev pub m : ℕ
   m = h.limits.most + h.limits.most_larger
 
@@ -275,25 +280,26 @@ module _ (max mh ma : ℕ) (bs : List ℕ) (h : Header) (slots : List (Option Gu
   v = shown slots h.limits h.made h.realm accesses
 
   abbrev pub places : List ℕ
-  places = words.numbers (m + 1) (drop 72 bs)
+  places = words.numbers (m + 1) (drop 80 bs)
 
-  place : (k : ℕ) → k < m + 1 → cell k places ≡ number_at bs (9 + k)
-  place k l = number_in (m + 1) k (drop 72 bs) l ∙ ap (λ (b : List ℕ). from_le_bytes w64 (take 8 b)) (drop-drop (8 * k) 72 bs ∙ ap (λ i. drop i bs) (omega arith))
+  place : (k : ℕ) → k < m + 1 → cell k places ≡ number_at bs (10 + k)
+  place k l = number_in (m + 1) k (drop 80 bs) l ∙ ap (λ (b : List ℕ). from_le_bytes w64 (take 8 b)) (drop-drop (8 * k) 80 bs ∙ ap (λ i. drop i bs) (omega arith))
 
   -- all numbers but the checksum
-  all : words.numbers (10 + m) bs ≡ heaps_numbers v places
+  all : words.numbers (11 + m) bs ≡ heaps_numbers v places
   all =
       let a = hd.form in
       let b = hd.version in
       let c = hd.size in
+      let s = hd.first_size in
       let d = hd.limit in
       let first = hd.first in
       let e = hd.most in
       let f = hd.larger in
       let g = hd.made in
       let r = hd.realm in
-      ap (λ i. words.numbers i bs) {x = 10 + m} {y = 9 + (m + 1)} (omega arith) ∙ numbers-add 9 (m + 1) bs ∙ ap (λ l. l ++ places) (nine bs)
-      ∙ (λ i. a i ∷ b i ∷ c i ∷ d i ∷ first i ∷ e i ∷ f i ∷ g i ∷ r i ∷ places)
+      ap (λ i. words.numbers i bs) {x = 11 + m} {y = 10 + (m + 1)} (omega arith) ∙ numbers-add 10 (m + 1) bs ∙ ap (λ l. l ++ places) (ten bs)
+      ∙ (λ i. a i ∷ b i ∷ c i ∷ s i ∷ d i ∷ first i ∷ e i ∷ f i ∷ g i ∷ r i ∷ places)
 
   pub read_state_of : IsStateOf v bs
   read_state_of =
@@ -302,15 +308,15 @@ module _ (max mh ma : ℕ) (bs : List ℕ) (h : Header) (slots : List (Option Gu
         places = places;
         count = many;
         long = omega (arith, hd.long, many);
-        head = ap (λ i. words.numbers i bs) {x = 11 + length slots} {y = 10 + m + 1} (omega (arith, many)) ∙ numbers_more (10 + m) bs
+        head = ap (λ i. words.numbers i bs) {x = 12 + length slots} {y = 11 + m + 1} (omega (arith, many)) ∙ numbers_more (11 + m) bs
             ∙ ap₂ (λ (l : List ℕ) (i : ℕ). l ++ i ∷ []) all (hd.sum ∙ ap (checksum_from 0) all);
-        heaps = subst (λ n. AreStatesOf slots places (drop (88 + 8 * n) bs)) (sym many) record {
-          count = length-numbers (m + 1) (drop 72 bs) ∙ omega (arith, many);
+        heaps = subst (λ n. AreStatesOf slots places (drop (96 + 8 * n) bs)) (sym many) record {
+          count = length-numbers (m + 1) (drop 80 bs) ∙ omega (arith, many);
           first = place 0 (omega arith) ∙ start;
           heaps = λ k l.
-              subst (λ a. IsHeapAt (slot k slots) a (cell (k + 1) places) (drop (88 + 8 * m) bs)) (sym (place k (omega (arith, l, many))))
-              (subst (λ b. IsHeapAt (slot k slots) (number_at bs (9 + k)) b (drop (88 + 8 * m) bs))
-              (ap (number_at bs) {x = 10 + k} {y = 9 + (k + 1)} (omega arith) ∙ sym (place (k + 1) (omega (arith, l, many)))) (are.heaps k (omega (arith, l, many))).state);
+              subst (λ a. IsHeapAt (slot k slots) a (cell (k + 1) places) (drop (96 + 8 * m) bs)) (sym (place k (omega (arith, l, many))))
+              (subst (λ b. IsHeapAt (slot k slots) (number_at bs (10 + k)) b (drop (96 + 8 * m) bs))
+              (ap (number_at bs) {x = 11 + k} {y = 10 + (k + 1)} (omega arith) ∙ sym (place (k + 1) (omega (arith, l, many)))) (are.heaps k (omega (arith, l, many))).state);
           last = ap (λ k. cell k places) many ∙ place m (omega arith) ∙ end;
         };
       }
@@ -337,6 +343,7 @@ module _ (max mh ma : ℕ) (bs : List ℕ) (h : Header) (slots : List (Option Gu
     count = are.many;
     few = omega (arith, are.many, hd.few, few);
     size = hd.fits.0;
+    first_size = hd.size_first;
     limit = hd.limit_min;
     first = hd.limit_first;
     made = hd.fits.1;
@@ -363,6 +370,7 @@ module _ (max mh ma : ℕ) (bs : List ℕ) (h : Header) (slots : List (Option Gu
     limit_min = hd.limit_min;
     limit_max = hd.limit_max.0;
     limit_first = hd.limit_first;
+    size_first = hd.size_first;
     realms = λ k. realm_formed k (slot k slots) (read_formed k);
     kinds = λ k. kind_formed k (slot k slots) (read_formed k);
   }
@@ -375,6 +383,7 @@ formed max slots limits made realm accesses index is each size few small = recor
   count = is.numbers;
   few = omega (arith, is.few);
   size = size;
+  first_size = is.size_first;
   limit = is.limit_min;
   first = is.limit_first;
   made = few;
@@ -417,7 +426,7 @@ states_same slots ps qs ks bs small few s t (suc n) l =
 pub text_of_many : (hs : Heaps) (ks bs : List ℕ) → AllByRecursion (λ x. x < 256) ks → AllByRecursion (λ x. x < 256) bs → IsStateOf hs ks → IsStateOf hs bs → ks ≡ bs
 text_of_many hs ks bs small few s t =
     let n : ℕ = length hs.slots in
-    let m : ℕ = 88 + 8 * n in
+    let m : ℕ = 96 + 8 * n in
     let ls : List ℕ = drop m ks in
     let rs : List ℕ = drop m bs in
     let all = states_same hs.slots s.places t.places ls rs (all_drop m ks small) (all_drop m bs few) s.heaps t.heaps in
@@ -425,7 +434,7 @@ text_of_many hs ks bs small few s t =
     let rest : ls ≡ rs =
     sym (take_all (cell n s.places) ls (omega (arith, s.heaps.last))) ∙ end.3 ∙ take_all (cell n s.places) rs (omega (arith, end.0, t.heaps.last)) in
     let places : s.places ≡ t.places = ext_get_or 0 s.places t.places (s.heaps.count ∙ sym t.heaps.count) (λ k l. (all k (omega (arith, l, s.heaps.count))).0) in
-    let numbers : words.numbers (11 + n) ks ≡ words.numbers (11 + n) bs = s.head ∙ ap (λ ps. heaps_numbers hs ps ++ checksum_from 0 (heaps_numbers hs ps) ∷ []) places ∙ sym t.head in
-    let front : take (8 * (11 + n)) ks ≡ take (8 * (11 + n)) bs = same_front (11 + n) ks bs (omega (arith, s.long)) (omega (arith, t.long)) small few numbers in
-    let at : 8 * (11 + n) ≡ m = omega arith in
+    let numbers : words.numbers (12 + n) ks ≡ words.numbers (12 + n) bs = s.head ∙ ap (λ ps. heaps_numbers hs ps ++ checksum_from 0 (heaps_numbers hs ps) ∷ []) places ∙ sym t.head in
+    let front : take (8 * (12 + n)) ks ≡ take (8 * (12 + n)) bs = same_front (12 + n) ks bs (omega (arith, s.long)) (omega (arith, t.long)) small few numbers in
+    let at : 8 * (12 + n) ≡ m = omega arith in
     sym (take-append-drop m ks) ∙ ap₂ (λ (l r : List ℕ). l ++ r) (subst (λ k. take k ks ≡ take k bs) at front) rest ∙ take-append-drop m bs

@@ -212,6 +212,29 @@ module _ (hs ks : Heaps) (t : AreTwins hs ks) where
   range_twins p = ap₂ (λ (r : ℕ) (o : Option Range). if nat_eq p.realm r then o else None) t.realm
       (option_twin (range_in p.ticket) (heap_at p.heap hs) (heap_at p.heap ks) (range_twin p.ticket) (t.heaps p.heap))
 
+-- ---- a twin of a twin
+twin_trans : (g h i : Guard) → IsTwin g h → IsTwin h i → IsTwin g i
+twin_trans g h i t u = record {
+  space = u.space ∙ ap (λ (v : View). record v { accesses = i.space.accesses }) t.space;
+  serials = λ x live. u.serials x (subst IsSome (sym (ap (λ (z : View). named.range_of x z) t.space)) live) ∙ t.serials x live;
+  given = u.given ∙ t.given;
+  realm = u.realm ∙ t.realm;
+}
+
+twin_in_trans : (o p q : Option Guard) → IsTwinIn o p → IsTwinIn p q → IsTwinIn o q
+twin_in_trans None p q t u = subst (λ p. IsTwinIn p q) t u
+twin_in_trans (Some g) p q t u =
+    let v : IsTwinIn (Some t.0) q = subst (λ p. IsTwinIn p q) t.1 u in
+    (v.0, v.1, twin_trans g t.0 v.0 t.2 v.2)
+
+pub twins_trans : (hs ks ls : Heaps) → AreTwins hs ks → AreTwins ks ls → AreTwins hs ls
+twins_trans hs ks ls t u = record {
+  limits = u.limits ∙ t.limits;
+  made = u.made ∙ t.made;
+  realm = u.realm ∙ t.realm;
+  heaps = λ k. twin_in_trans (heap_at k hs) (heap_at k ks) (heap_at k ls) (t.heaps k) (u.heaps k);
+}
+
 -- sums over heaps
 pub total_twins : (f : Guard → ℕ) (xs bs : List (Option Guard)) → ((k : ℕ) → part f (slot k xs) ≡ part f (slot k bs)) → total f xs ≡ total f bs
 total_twins f [] [] e = refl

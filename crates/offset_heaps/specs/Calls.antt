@@ -1,9 +1,11 @@
 -- Calls, their results and what they leave: of the contract of each call the clauses of the same names.
-use Rattle.std.specs.Prelude.{◌≡◌, ◌↔◌, ℕ, ◌<◌, ◌≤◌, Bool, true, false, List, [], ◌∷◌, ◌++◌, Option, None, Some, IfSome, IsSome, IsTrue, Result, Err, IfOk, IfErr, OnErr}
+use Rattle.std.specs.Prelude.{◌≡◌, ◌↔◌, ℕ, ◌<◌, ◌≤◌, ◌⊎◌, Bool, true, false, List, [], ◌∷◌, ◌++◌, Option, None, Some, IfSome, IsSome, IsTrue, Result, Ok, Err, IfOk, IfErr, OnErr}
+use Rattle.std.specs.declared.alloc.AllocError.{AllocError}
 use Rattle.offset_allocator.specs.Moving.Compacting.{Move}
 use Rattle.offset_allocator.specs.Requests.{blocks_needed, units_needed}
 use Rattle.offset_allocator.specs.declared.moves.room.RoomCost.{RoomCost}
-use Rattle.offset_heaps.specs.Changing.{CanResizeAt, CompactsHeap, MakesRoomAt, ResizesAt, Wanted}
+use Rattle.offset_heaps.specs.Changing.{CanResizeAt, CompactsAll, CompactsHeap, MakesRoomAt, ResizesAt, Wanted}
+use Rattle.offset_heaps.specs.Extending.{CanExtendIn, ExtendsHeap}
 use Rattle.offset_heaps.specs.declared.place.Granted.{Granted}
 use Rattle.offset_heaps.specs.declared.place.Place.{Place}
 use Rattle.offset_heaps.specs.declared.refusal.Refusal.{Refusal}
@@ -12,6 +14,8 @@ use Rattle.offset_heaps.specs.Heaps.{Heaps, FreesIn, Grants, IsFirstFit, IsLive,
 use Rattle.offset_heaps.specs.Histories.{ResetsAll}
 use Rattle.offset_heaps.specs.Relocating.{IsTaker, NoneTakes, granted, units_of}
 use Rattle.offset_heaps.specs.State.{IsWellFormed}
+use Rattle.offset_heaps.specs.Tight.{GrantsTight, IsFirstHolding, IsWhyTight, NoneHolds}
+use Rattle.offset_heaps.specs.Twins.{AreTwins}
 
 -- `allocate_aligned`, and with the alignment 1 `allocate`
 pub record Allocates (size align : ℕ) (hs ks : Heaps) (r : Result Granted Refusal) : Type 0 where
@@ -22,6 +26,16 @@ pub record Allocates (size align : ℕ) (hs ks : Heaps) (r : Result Granted Refu
   pub made : IfOk r (λ g. g.is_new ≡ true
       → NoneFits (blocks_needed align) (units_needed size align) hs × IsNext size g.place.heap hs)
   pub grants : IfOk r (Grants size align hs ks)
+
+-- `allocate_tight_aligned`, and with the alignment 1 `allocate_tight`
+pub record AllocatesTight (size align : ℕ) (hs ks : Heaps) (r : Result Granted Refusal) : Type 0 where
+  pub empty : size ≡ 0 → r ≡ Err Empty
+  pub why : IfErr r (IsWhyTight size align hs)
+  pub same : OnErr r (IsSame hs ks)
+  pub found : IfOk r (λ g. g.is_new ≡ false → IsFirstHolding size align g.place.heap hs)
+  pub made : IfOk r (λ g. g.is_new ≡ true → NoneHolds size align hs × IsNext size g.place.heap hs)
+  pub fills : IfOk r (λ g. g.is_new ≡ false → GrantsTight size align hs ks g.place)
+  pub grants : IfOk r (λ g. g.is_new ≡ true → Grants size align hs ks g)
 
 -- `free`
 pub record Frees (p : Place) (hs ks : Heaps) (r : Bool) : Type 0 where
@@ -75,6 +89,14 @@ pub record TakesSize (how : Wanted) (p : Place) (hs ks : Heaps) (r : Option Bool
   pub gone : r ≡ None → IsSame hs ks
   pub step : IfSome r (ResizesAt how p hs ks)
 
+-- `extend_heap`
+pub record Lengthens (k more : ℕ) (hs ks : Heaps) (r : Result Bool AllocError) : Type 0 where
+  pub done : IfOk r (λ d. IsTrue d ↔ CanExtendIn more (heap_at k hs))
+  pub none : heap_at k hs ≡ None → IsSame hs ks
+  pub refused : r ≡ Ok false → AreTwins hs ks
+  pub same : OnErr r (IsSame hs ks)
+  pub step : IfOk r (λ d. IsSome (heap_at k hs) → ExtendsHeap k more d hs ks)
+
 -- `compact_heap`
 pub record Packs (k : ℕ) (hs ks : Heaps) (r : Bool) : Type 0 where
   pub done : IsTrue r ↔ IsSome (heap_at k hs)
@@ -94,6 +116,7 @@ pub record TakesRoom (k size : ℕ) (hs ks : Heaps) (r : Option RoomCost) : Type
 pub data Call : Type 0 where
   -- a request, by its size and alignment
   Allocate : ℕ → ℕ → Call
+  Allocate_tight : ℕ → ℕ → Call
   Free : Place → Call
   Relocate : Place → ℕ → Call
   Drop_empty : ℕ → Call
@@ -101,7 +124,10 @@ pub data Call : Type 0 where
   Give_up : ℕ → Call
   Reset : Call
   Resize : Wanted → Place → Call
+  -- so many units more for the heap of a number
+  Extend_heap : ℕ → ℕ → Call
   Compact_heap : ℕ → Call
+  Compact_all : Call
   -- room for so many units in the heap of a number
   Make_room : ℕ → ℕ → Call
 
@@ -113,11 +139,13 @@ pub data Reply : Type 0 where
   Was_done : Bool → Reply
   Nothing : Reply
   Resized : Option Bool → Reply
+  Extended : Result Bool AllocError → Reply
   Room_made : Option RoomCost → Reply
 
 -- a call is taken: what it leaves, and its result. The units of a request have 32 bits
 abbrev pub Takes : Call → Heaps → Heaps → Reply → Type 0
 Takes (Allocate size align) hs ks reply = (r : Result Granted Refusal) × (reply ≡ Requested r) × (size ≤ 4294967295) × Allocates size align hs ks r
+Takes (Allocate_tight size align) hs ks reply = (r : Result Granted Refusal) × (reply ≡ Requested r) × (size ≤ 4294967295) × AllocatesTight size align hs ks r
 Takes (Free p) hs ks reply = (r : Bool) × (reply ≡ Was_done r) × Frees p hs ks r
 Takes (Relocate p align) hs ks reply = (r : Option Place) × (reply ≡ Second r) × Relocates p align hs ks r
 Takes (Drop_empty keep) hs ks reply = (r : Option ℕ) × (reply ≡ Dropped r) × DropsEmpty keep hs ks r
@@ -125,12 +153,14 @@ Takes (Drop_heap k) hs ks reply = (r : Bool) × (reply ≡ Was_done r) × Drops 
 Takes (Give_up k) hs ks reply = (r : Bool) × (reply ≡ Was_done r) × GivesUp k hs ks r
 Takes Reset hs ks reply = (reply ≡ Nothing) × ResetsAll hs ks
 Takes (Resize how p) hs ks reply = (r : Option Bool) × (reply ≡ Resized r) × TakesSize how p hs ks r
+Takes (Extend_heap k more) hs ks reply = (r : Result Bool AllocError) × (reply ≡ Extended r) × Lengthens k more hs ks r
 Takes (Compact_heap k) hs ks reply = (r : Bool) × (reply ≡ Was_done r) × Packs k hs ks r
+Takes Compact_all hs ks reply = (reply ≡ Nothing) × CompactsAll hs ks
 Takes (Make_room k size) hs ks reply = (r : Option RoomCost) × (reply ≡ Room_made r) × TakesRoom k size hs ks r
 
--- a request was refused for want of memory
+-- a request, or more units for a heap, were refused for want of memory
 abbrev pub IsStarved : Reply → Type 0
-IsStarved reply = reply ≡ Requested (Err Memory)
+IsStarved reply = (reply ≡ Requested (Err Memory)) ⊎ ((e : AllocError) × (reply ≡ Extended (Err e)))
 
 -- calls are taken, one after another, none of which is refused for want of memory
 abbrev pub TakesAll : Heaps → List Call → List Reply → Heaps → Type 0

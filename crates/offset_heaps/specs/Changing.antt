@@ -1,7 +1,8 @@
 -- What a call changes of one heap alone, in place: its ranges keep their places.
-use Rattle.std.specs.Prelude.{◌≡◌, ℕ, ◌+◌, ◌*◌, ◌<◌, ◌≤◌, Bool, true, false, List, [], Option, None, Some, IfSome, is_some, length, option_map}
+use Rattle.std.specs.Prelude.{◌≡◌, ℕ, ◌+◌, ◌*◌, ◌<◌, ◌≤◌, Bool, true, false, List, [], ◌∷◌, ◌++◌, Option, None, Some, IfSome, is_some, length, map, option_map}
 use Rattle.offset_allocator.specs.Classes.{up, value}
-use Rattle.offset_allocator.specs.Moving.Compacting.{Compacts, Move, moves}
+use Rattle.offset_allocator.specs.Moving.Compacting.{Compacts, IsCalledWith, Move, moves}
+use Rattle.offset_allocator.specs.declared.moves.one_move.Move.{Move as Moved}
 use Rattle.offset_allocator.specs.Moving.Room.{IsLeastCost, MakesRoom, ranges_of}
 use Rattle.offset_allocator.specs.Ranges.{Range}
 use Rattle.offset_allocator.specs.Requests.{CanGrant}
@@ -72,7 +73,7 @@ abbrev pub is_less : Wanted → Bool
 is_less (Less n) = true
 is_less (More n) = false
 
--- few nodes of a heap of the usual size are unused: fewer than four, where its node limit is below the largest one
+-- few nodes of a usual heap are unused: fewer than four, where its node limit is below the largest one
 abbrev pub IsNear : Limits → ℕ → Guard → Type 0
 IsNear limits k g = (k < limits.most) × (g.space.max_allocs < limits.max_allocs) × (g.space.max_allocs < length g.space.blocks + 4)
 
@@ -128,6 +129,29 @@ pub record CompactsIn (g h : Guard) : Type 0 where
 
 abbrev pub CompactsHeap : ℕ → Heaps → Heaps → Type 0
 CompactsHeap k hs ks = Alters k CompactsIn hs ks
+
+-- moves, each with the number of their heap
+abbrev pub numbered : ℕ → List Move → List (ℕ × Move)
+numbered k ms = map (λ m. (k, m)) ms
+
+-- the moves of these heaps, whose numbers are k and those after it, where each is compacted
+abbrev pub moves_from : ℕ → List (Option Guard) → List (ℕ × Move)
+moves_from k [] = []
+moves_from k (o ∷ slots) = numbered k (moves_in o) ++ moves_from (k + 1) slots
+
+-- a step of a closure is a call with this number and this move
+abbrev pub IsCalledAt : {A N F : Type 0} → (N → ℕ) → (F → ℕ → Moved A N → F → Type 0) → F → ℕ × Move → F → Type 0
+IsCalledAt number step f x g = IsCalledWith number (λ p m q. step p x.0 m q) f x.1 g
+
+-- a heap is compacted, where there is one
+abbrev pub PacksIn : Option Guard → Option Guard → Type 0
+PacksIn None new = new ≡ None
+PacksIn (Some g) new = (h : Guard) × (new ≡ Some h) × CompactsIn g h
+
+-- all heaps are compacted, and nothing else changes
+pub record CompactsAll (hs ks : Heaps) : Type 0 where
+  pub heaps : (k : ℕ) → PacksIn (heap_at k hs) (heap_at k ks)
+  pub rest : ks ≡ record hs { slots = ks.slots; accesses = ks.accesses }
 
 -- room for a request is made in a heap, at a cost: a closure is called with the moves
 pub record MakesRoomIn {F : Type 0} (R : F → Move → F → Type 0) (size : ℕ) (f : F) (c : Option RoomCost) (f' : F) (g h : Guard) : Type 0 where

@@ -1,5 +1,5 @@
 -- What contracts see of many heaps, and what each call leaves of them.
-use Rattle.std.specs.Prelude.{codes, ◌≡◌, ℕ, ◌+◌, ◌*◌, ◌^◌, ◌<◌, ◌≤◌, ◌⊎◌, Bool, true, false, ◌&&◌, List, [], ◌∷◌, Option, Some, None, IsSome, Result, Err, length, nat_eq, nat_lt}
+use Rattle.std.specs.Prelude.{codes, ◌≡◌, ℕ, ◌+◌, ◌-◌, ◌*◌, ◌^◌, ◌<◌, ◌≤◌, ◌⊎◌, Bool, true, false, ◌&&◌, List, [], ◌∷◌, Option, Some, None, IsSome, Result, Err, length, nat_eq, nat_lt}
 use Rattle.std.specs.Prelude.{slice_index_or, slice_set, max, min, sum, if◌then◌else◌}
 use Rattle.offset_allocator.specs.Classes.{value, down}
 use Rattle.offset_allocator.specs.Ranges.{Range}
@@ -28,7 +28,7 @@ larger_limit = 4
 
 -- what contracts see of many heaps
 pub record Heaps : Type 0 where
-  -- the heap that has each number, where there is one: those of the usual size, then the larger ones
+  -- the heap that has each number, where there is one: the usual ones, then the larger ones
   pub slots : List (Option Guard)
   pub limits : Limits
   -- how many heaps were made so far: their realms are 1, 2, ..
@@ -69,13 +69,23 @@ NoneFits blocks units hs = (k : ℕ) → room_of blocks (heap_at k hs) < units
 abbrev pub IsFirstFit : ℕ → ℕ → ℕ → Heaps → Type 0
 IsFirstFit blocks units k hs = (units ≤ room_of blocks (heap_at k hs)) × ((j : ℕ) → j < k → room_of blocks (heap_at j hs) < units)
 
--- a fresh heap of the usual size grants that many units. They begin at 0, which is a multiple of every alignment
-abbrev pub IsUsual : ℕ → Heaps → Type 0
-IsUsual size hs = size ≤ value (down hs.limits.size)
+-- the units of the usual heap of a number: the first size, doubled that many times, and at most the largest one
+abbrev pub usual_size : Limits → ℕ → ℕ
+usual_size limits k = min (limits.first_size * 2 ^ k) limits.size
 
--- a number that no heap has: one below most for a heap of the usual size, and one of the others for a larger heap
-abbrev pub IsSpareUsual : ℕ → Heaps → Type 0
-IsSpareUsual k hs = (k < hs.limits.most) × (heap_at k hs ≡ None)
+-- the largest request that it grants when it is fresh
+abbrev pub usual_room : Limits → ℕ → ℕ
+usual_room limits k = value (down (usual_size limits k))
+
+-- a request is usual: the last usual heap, which is the largest, grants that many units when it is fresh. They begin at 0,
+-- which is a multiple of every alignment
+abbrev pub IsUsual : ℕ → Heaps → Type 0
+IsUsual size hs = size ≤ usual_room hs.limits (hs.limits.most - 1)
+
+-- a number that no heap has: one below most, whose usual heap has room for a request; and one of the others, for a larger
+-- heap
+abbrev pub IsSpareUsual : ℕ → ℕ → Heaps → Type 0
+IsSpareUsual size k hs = (k < hs.limits.most) × (heap_at k hs ≡ None) × (size ≤ usual_room hs.limits k)
 
 abbrev pub IsSpareLarger : ℕ → Heaps → Type 0
 IsSpareLarger k hs = (hs.limits.most ≤ k) × (k < numbers hs) × (heap_at k hs ≡ None)
@@ -83,10 +93,10 @@ IsSpareLarger k hs = (hs.limits.most ≤ k) × (k < numbers hs) × (heap_at k hs
 -- the number of a new heap for a request: the first spare one of its kind, while realms are left
 abbrev pub IsNext : ℕ → ℕ → Heaps → Type 0
 IsNext size k hs = (hs.made < last_realm)
-    × ((IsUsual size hs × IsSpareUsual k hs × ((j : ℕ) → j < k → IsSpareUsual j hs → ⊥))
+    × ((IsUsual size hs × IsSpareUsual size k hs × ((j : ℕ) → j < k → IsSpareUsual size j hs → ⊥))
     ⊎ ((IsUsual size hs → ⊥) × IsSpareLarger k hs × ((j : ℕ) → j < k → IsSpareLarger j hs → ⊥)))
 
--- the node limit of a heap of the usual size has to grow before a grant: it is below the largest one, and fewer than five
+-- the node limit of a usual heap has to grow before a grant: it is below the largest one, and fewer than five
 -- nodes are unused
 abbrev pub MustGrow : Limits → ℕ → Guard → Type 0
 MustGrow limits k g = (k < limits.most) × (g.space.max_allocs < limits.max_allocs) × (g.space.max_allocs < length g.space.blocks + 5)
@@ -109,7 +119,7 @@ IsGrown limits k g h = (MustGrow limits k g × guarded.IsRaised (grown_limit lim
 abbrev pub IsUnmet : ℕ → ℕ → Heaps → Type 0
 IsUnmet size align hs = (1 ≤ size) × NoneFits (blocks_needed align) (units_needed size align) hs
 
--- some heap may ever have that many units: a fresh one of the usual size, or a larger one, where there may be any
+-- some heap may ever have that many units: a usual one, or a larger one, where there may be any
 abbrev pub MayEverFit : ℕ → Heaps → Type 0
 MayEverFit size hs = IsUsual size hs ⊎ (1 ≤ hs.limits.most_larger)
 
@@ -139,7 +149,7 @@ pub record IsNew (size max_allocs number : ℕ) (g : Guard) : Type 0 where
   pub serials : (g.given ≡ 0) × (g.serials ≡ [])
   pub realm : g.realm ≡ number
 
--- the node limit that a heap of the usual size begins with: the largest one, or at least 8
+-- the node limit that a usual heap begins with: the largest one, or at least 8
 abbrev pub IsFirstLimit : Limits → Type 0
 IsFirstLimit limits = (min 8 limits.max_allocs ≤ limits.first_allocs) × (limits.first_allocs ≤ limits.max_allocs)
 
@@ -149,19 +159,23 @@ abbrev pub HasNodesLeft : Limits → Guard → Type 0
 HasNodesLeft limits g = (limits.first_allocs ≤ g.space.max_allocs) × (g.space.max_allocs ≤ limits.max_allocs)
     × (min limits.max_allocs (length g.space.blocks + 3) ≤ g.space.max_allocs)
 
--- the heap of a number has the size and a node limit of its kind: those that the limits say of a heap of the usual size,
--- where the number is below most, and else those of a larger one, which has the units of some request
+-- the size that usual heaps begin with: at most the largest one, and at least 1 unless that is 0
+abbrev pub IsFirstSize : Limits → Type 0
+IsFirstSize limits = (min 1 limits.size ≤ limits.first_size) × (limits.first_size ≤ limits.size)
+
+-- the heap of a number has a size and a node limit of its kind: where the number is below most, at least the units of the
+-- usual heap of that number, and the limit of such a heap; else those of a larger one, which has the units of some request
 abbrev pub IsOfKind : Limits → ℕ → Guard → Type 0
-IsOfKind limits k g = ((k < limits.most) × (g.space.size ≡ limits.size) × HasNodesLeft limits g)
+IsOfKind limits k g = ((k < limits.most) × (usual_size limits k ≤ g.space.size) × HasNodesLeft limits g)
     ⊎ ((limits.most ≤ k) × (1 ≤ g.space.size) × (g.space.max_allocs ≡ larger_limit))
 
--- the heap of a grant, as it was before: one that was there, grown where it has to; a new one of the usual size, or one of
+-- the heap of a grant, as it was before: one that was there, grown where it has to; a new usual one of its number, or one of
 -- the request's own size
 abbrev pub IsBefore : ℕ → Heaps → Granted → Guard → Type 0
 IsBefore size hs grant g = ((grant.is_new ≡ false)
     × ((was : Guard) × (heap_at grant.place.heap hs ≡ Some was) × IsGrown hs.limits grant.place.heap was g))
     ⊎ ((grant.is_new ≡ true) × (heap_at grant.place.heap hs ≡ None)
-    × ((IsUsual size hs × IsNew hs.limits.size hs.limits.first_allocs (hs.made + 1) g)
+    × ((IsUsual size hs × IsNew (usual_size hs.limits grant.place.heap) hs.limits.first_allocs (hs.made + 1) g)
     ⊎ ((IsUsual size hs → ⊥) × IsNew size larger_limit (hs.made + 1) g)))
 
 -- a grant: a step of one heap, which all others do not see

@@ -2,7 +2,7 @@
 use Rattle.std.specs.Prelude.{◌≡◌, ◌≢◌, ℕ, ◌≤◌, ◌⊎◌, List, [], ◌∷◌, None, IfSome}
 use Rattle.offset_heaps.specs.declared.place.Granted.{Granted}
 use Rattle.offset_heaps.specs.declared.place.Place.{Place}
-use Rattle.offset_heaps.specs.Changing.{Alters}
+use Rattle.offset_heaps.specs.Changing.{Alters, CompactsAll}
 use Rattle.offset_heaps.specs.Heaps.{Heaps, FreesIn, Grants, IsSame, Puts, heap_at}
 use Rattle.offset_heaps.specs.Slots.{ResetsIn}
 
@@ -15,7 +15,8 @@ pub record ResetsAll (hs ks : Heaps) : Type 0 where
 abbrev pub Keeps : ℕ → Heaps → Heaps → Type 0
 Keeps k hs ks = Alters k (λ g h. h.realm ≡ g.realm) hs ks
 
--- what one call leaves: all as it was, a grant, a range freed, a heap dropped, all reset, or a heap changed in place
+-- what one call leaves: all as it was, a grant, a range freed, a heap dropped, all reset, a heap changed in place, or all
+-- compacted
 abbrev pub IsStep : Heaps → Heaps → Type 0
 IsStep hs ks = IsSame hs ks
     ⊎ ((size align : ℕ) × (grant : Granted) × Grants size align hs ks grant)
@@ -23,6 +24,7 @@ IsStep hs ks = IsSame hs ks
     ⊎ ((k : ℕ) × Puts k None hs ks)
     ⊎ ResetsAll hs ks
     ⊎ ((k : ℕ) × Keeps k hs ks)
+    ⊎ CompactsAll hs ks
 
 -- what some calls leave, one after another
 abbrev pub AreSteps : Heaps → List Heaps → Type 0

@@ -2,6 +2,7 @@ pub mod Asking
 pub mod Calls
 pub mod Changing
 pub mod Dumping
+pub mod Extending
 pub mod Heaps
 pub mod Histories
 pub mod Maxima
@@ -11,4 +12,5 @@ pub mod Slots
 pub mod Soundness
 pub mod State
 pub mod StateFaults
+pub mod Tight
 pub mod Twins

@@ -2,7 +2,7 @@
 use Rattle.std.specs.Prelude.{◌≡◌, ℕ, ◌+◌, ◌*◌, ◌%◌, ◌<◌, ◌≤◌, ◌⊎◌, List, Option, Some, None, length, nat_lt, slice_set, if◌then◌else◌}
 use Rattle.offset_allocator.specs.Classes.{down}
 use Rattle.offset_allocator.specs.Relations.{Aligns, Frees, Resets}
-use Rattle.offset_allocator.specs.Tight.{AlignsTight, CanHold}
+use Rattle.offset_allocator.specs.Tight.{AlignsTight, CanHold, listed_from}
 use Rattle.offset_allocator.specs.View.{bin_at}
 use Rattle.offset_guarded.specs.Guard.{Guard, HasSerialLeft, handle_in}
 use Rattle.offset_guarded.specs.Guard as guarded
@@ -26,10 +26,10 @@ abbrev pub GrowsIn : Limits → ℕ → Option Guard → Option Guard → Type 0
 GrowsIn limits k None new = new ≡ None
 GrowsIn limits k (Some g) new = (h : Guard) × (new ≡ Some h) × IsGrown limits k g h
 
--- a heap has a free block for a request
-abbrev pub CanHoldIn : ℕ → Option Guard → Type 0
-CanHoldIn size None = ⊥
-CanHoldIn size (Some g) = HasSerialLeft g × CanHold size 1 g.space
+-- a heap has a serial left, and a free block that holds a request, with room for the blocks that it may add
+abbrev pub CanHoldIn : ℕ → ℕ → Option Guard → Type 0
+CanHoldIn size align None = ⊥
+CanHoldIn size align (Some g) = HasSerialLeft g × CanHold size align g.space
 
 -- such a block is granted
 pub record ServesTight (size : ℕ) (old new : Option Guard) (t : Ticket) : Type 0 where
@@ -40,6 +40,17 @@ pub record ServesTight (size : ℕ) (old new : Option Guard) (t : Ticket) : Type
   pub step : AlignsTight size 1 before.space after.space (Some (handle_in t))
   pub grants : guarded.Grants size before after t
   pub accesses : after.space.accesses ≤ before.space.accesses + 140 + 6 * length (bin_at before.space.bins (down size))
+
+-- such a block is granted at a multiple of align
+pub record Fills (size align : ℕ) (old new : Option Guard) (t : Ticket) : Type 0 where
+  pub before : Guard
+  pub after : Guard
+  pub was : old ≡ Some before
+  pub is : new ≡ Some after
+  pub step : AlignsTight size align before.space after.space (Some (handle_in t))
+  pub grants : guarded.Grants size before after t
+  pub accesses : after.space.accesses ≤ before.space.accesses + 140 + 6 * length (listed_from (down size) before.space.bins)
+  pub aligned : t.offset % align ≡ 0
 
 -- every other ticket has the range that it had
 abbrev pub KeepsOthersIn : Ticket → Option Guard → Option Guard → Type 0

@@ -3,12 +3,16 @@ use Rattle.std.specs.Prelude.{◌≡◌, ℕ, ◌+◌, ◌^◌, ◌<◌, ◌≤�
 use Rattle.offset_guarded.specs.Guard.{Guard}
 use Rattle.offset_heaps.specs.declared.limits.Limits.{Limits}
 use Rattle.offset_heaps.specs.declared.index.Index.{Index}
-use Rattle.offset_heaps.specs.Heaps.{IsFirstLimit, IsOfKind, is_empty, room_of, slot}
+use Rattle.offset_heaps.specs.Heaps.{IsFirstLimit, IsFirstSize, IsOfKind, is_empty, room_of, slot, usual_room}
 use Rattle.offset_heaps.specs.Maxima.{cell}
 
--- the key of a number that no heap has: 1 for a heap of the usual size, 2 for a larger one
+-- the key of the numbers of larger heaps: no heap grants that much
+abbrev pub larger_key : ℕ
+larger_key = 4294967295
+
+-- the key of a number that no heap has: the largest request that its usual heap grants when it is fresh; or that key
 abbrev pub spare_of : Limits → ℕ → Option Guard → ℕ
-spare_of limits k None = if nat_lt k limits.most then 1 else (if nat_lt k (limits.most + limits.most_larger) then 2 else 0)
+spare_of limits k None = if nat_lt k limits.most then usual_room limits k else (if nat_lt k (limits.most + limits.most_larger) then larger_key else 0)
 spare_of limits k (Some g) = 0
 
 -- the key of a number whose heap is empty
@@ -43,6 +47,7 @@ pub record IsSound (max : ℕ) (slots : List (Option Guard)) (limits : Limits) (
   pub limit_min : 4 ≤ limits.max_allocs
   pub limit_max : limits.max_allocs + 1 < max
   pub limit_first : IsFirstLimit limits
+  pub size_first : IsFirstSize limits
   -- the realm of a heap is not that of one that is made later
   pub realms : (k : ℕ) → IfSome (slot k slots) (λ g. g.realm ≤ made)
   -- each heap is of the kind of its number

@@ -5,7 +5,7 @@ use Rattle.offset_guarded.specs.Guard.{Guard}
 use Rattle.offset_guarded.specs.Numbers.{checksum_from, number_at}
 use Rattle.offset_guarded.specs.Numbers as words
 use Rattle.offset_guarded.specs.State as guarded
-use Rattle.offset_heaps.specs.Heaps.{Heaps, IsFirstLimit, IsOfKind, heap_at, numbers, slot}
+use Rattle.offset_heaps.specs.Heaps.{Heaps, IsFirstLimit, IsFirstSize, IsOfKind, heap_at, numbers, slot}
 use Rattle.offset_heaps.specs.declared.limits.Limits.{Limits}
 use Rattle.offset_heaps.specs.Maxima.{cell}
 use Rattle.offset_heaps.specs.declared.restoring.Header.{Header}
@@ -35,22 +35,22 @@ abbrev pub state_form : ℕ
 state_form = 1397244239
 
 abbrev pub state_version : ℕ
-state_version = 2
+state_version = 3
 
--- the numbers of many heaps: the form and its version, the five limits, how many heaps were made, the realm, and the places
+-- the numbers of many heaps: the form and its version, the six limits, how many heaps were made, the realm, and the places
 abbrev pub heaps_numbers : Heaps → List ℕ → List ℕ
 heaps_numbers hs places =
-    state_form ∷ state_version ∷ hs.limits.size ∷ hs.limits.max_allocs ∷ hs.limits.first_allocs ∷ hs.limits.most ∷ hs.limits.most_larger ∷ hs.made ∷ hs.realm ∷ places
+    state_form ∷ state_version ∷ hs.limits.size ∷ hs.limits.first_size ∷ hs.limits.max_allocs ∷ hs.limits.first_allocs ∷ hs.limits.most ∷ hs.limits.most_larger ∷ hs.made ∷ hs.realm ∷ places
 
 -- the bytes of a state of many heaps
 pub record IsStateOf (hs : Heaps) (bytes : List ℕ) : Type 0 where
   pub places : List ℕ
   pub count : length hs.slots ≡ numbers hs
   -- they begin with the numbers of many heaps, and their checksum
-  pub long : 88 + 8 * length hs.slots ≤ length bytes
-  pub head : words.numbers (11 + length hs.slots) bytes ≡ heaps_numbers hs places ++ checksum_from 0 (heaps_numbers hs places) ∷ []
+  pub long : 96 + 8 * length hs.slots ≤ length bytes
+  pub head : words.numbers (12 + length hs.slots) bytes ≡ heaps_numbers hs places ++ checksum_from 0 (heaps_numbers hs places) ∷ []
   -- what is behind these are the states of the heaps
-  pub heaps : AreStatesOf hs.slots places (drop (88 + 8 * length hs.slots) bytes)
+  pub heaps : AreStatesOf hs.slots places (drop (96 + 8 * length hs.slots) bytes)
 
 -- a heap of which no access was counted
 abbrev pub quiet : Option Guard → Option Guard
@@ -77,6 +77,7 @@ pub record IsWellFormed (hs : Heaps) : Type 0 where
   pub count : length hs.slots ≡ numbers hs
   pub few : length hs.slots ≤ 4294967295
   pub size : hs.limits.size ≤ 4294967295
+  pub first_size : IsFirstSize hs.limits
   pub limit : 4 ≤ hs.limits.max_allocs
   pub first : IsFirstLimit hs.limits
   pub made : hs.made ≤ 4294967295
@@ -106,18 +107,20 @@ IsNoState max most_heaps most_allocs bytes = (hs : Heaps) → IsWellFormed hs �
 
 -- what the numbers before the places say, where all numbers of many heaps are there, and their checksum is right
 pub record IsHeader (max most_heaps most_allocs : ℕ) (bytes : List ℕ) (h : Header) : Type 0 where
-  pub long : 88 + 8 * (h.limits.most + h.limits.most_larger) ≤ length bytes
+  pub long : 96 + 8 * (h.limits.most + h.limits.most_larger) ≤ length bytes
   pub form : number_at bytes 0 ≡ state_form
   pub version : number_at bytes 1 ≡ state_version
   pub size : number_at bytes 2 ≡ h.limits.size
-  pub limit : number_at bytes 3 ≡ h.limits.max_allocs
-  pub first : number_at bytes 4 ≡ h.limits.first_allocs
-  pub most : number_at bytes 5 ≡ h.limits.most
-  pub larger : number_at bytes 6 ≡ h.limits.most_larger
-  pub made : number_at bytes 7 ≡ h.made
-  pub realm : number_at bytes 8 ≡ h.realm
-  pub sum : number_at bytes (10 + (h.limits.most + h.limits.most_larger)) ≡ checksum_from 0 (words.numbers (10 + (h.limits.most + h.limits.most_larger)) bytes)
+  pub first_size : number_at bytes 3 ≡ h.limits.first_size
+  pub limit : number_at bytes 4 ≡ h.limits.max_allocs
+  pub first : number_at bytes 5 ≡ h.limits.first_allocs
+  pub most : number_at bytes 6 ≡ h.limits.most
+  pub larger : number_at bytes 7 ≡ h.limits.most_larger
+  pub made : number_at bytes 8 ≡ h.made
+  pub realm : number_at bytes 9 ≡ h.realm
+  pub sum : number_at bytes (11 + (h.limits.most + h.limits.most_larger)) ≡ checksum_from 0 (words.numbers (11 + (h.limits.most + h.limits.most_larger)) bytes)
   pub limit_first : IsFirstLimit h.limits
+  pub size_first : IsFirstSize h.limits
   pub limit_min : 4 ≤ h.limits.max_allocs
   pub limit_max : (h.limits.max_allocs + 1 < max) × (h.limits.max_allocs ≤ most_allocs)
   pub few : h.limits.most + h.limits.most_larger ≤ most_heaps
@@ -140,12 +143,12 @@ pub record IsHeapReadAt (limits : Limits) (max made most_allocs k from to : ℕ)
 -- all heaps that were read: the place of each is one of the numbers
 pub record AreRead (limits : Limits) (max made most_allocs count : ℕ) (bytes states : List ℕ) (slots : List (Option Guard)) : Type 0 where
   pub many : length slots ≡ count
-  pub heaps : (k : ℕ) → k < count → IsHeapReadAt limits max made most_allocs k (number_at bytes (9 + k)) (number_at bytes (10 + k)) states (slot k slots)
+  pub heaps : (k : ℕ) → k < count → IsHeapReadAt limits max made most_allocs k (number_at bytes (10 + k)) (number_at bytes (11 + k)) states (slot k slots)
 
 -- no heaps have these bytes
 abbrev pub AreNone : Limits → ℕ → ℕ → ℕ → ℕ → List ℕ → List ℕ → Type 0
 AreNone limits max made most_allocs count bytes states = (slots : List (Option Guard)) → length slots ≡ count
-    → ((k : ℕ) → k < count → IsHeapAt (slot k slots) (number_at bytes (9 + k)) (number_at bytes (10 + k)) states)
+    → ((k : ℕ) → k < count → IsHeapAt (slot k slots) (number_at bytes (10 + k)) (number_at bytes (11 + k)) states)
     → ((k : ℕ) → IsHeapFormed limits made k (slot k slots)) → ((k : ℕ) → IsHeapAdmitted max most_allocs (slot k slots)) → ⊥
 
 -- the texts of what is wrong with the bytes of a state
@@ -157,5 +160,5 @@ fault_words Counts = codes "a realm or a count of more than 32 bits"
 fault_words Checksum = codes "a checksum that is not that of the numbers"
 fault_words Place = codes "the place of a heap that is not behind the one before it, or not in the bytes"
 fault_words Realm = codes "the realm of a heap that was not made"
-fault_words Size = codes "a heap of another size or node limit than the limits say"
+fault_words Size = codes "a heap with fewer units, or another node limit, than the limits say"
 fault_words (Heap kind) = texts.fault_words kind

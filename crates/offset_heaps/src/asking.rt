@@ -5,6 +5,7 @@ ghost use Rattle.offset_heaps.specs.Asking.{IsRefusedFor, IsServed, IsWhyNone};
 
 use crate::HeapsOf;
 use crate::allocate::below;
+use crate::index::LARGER_KEY;
 use crate::refusal::Refusal;
 use offset_allocator::{Accesses, Tables};
 
@@ -48,18 +49,21 @@ impl<T: Tables> HeapsOf<T> {
     }
 
     // Why no heap is made for a request that none has room for.
-    fn why_none(&self, size: u32, count: &mut Accesses) -> Option<Refusal>
+    pub(crate) fn why_none(&self, size: u32, count: &mut Accesses) -> Option<Refusal>
+        requires some { 1 ≤ size }
         ensures why { IsWhyNone size self.now result }
         ensures accesses { (bits : ℕ) → numbers self.now ≤ 2 ^ bits → count.new ≤ count.old + bits + 1 }
     {
         if self.is_usual(size) {
-            let found = self.index.spare.first_at_least(1, count);
+            let found = self.index.spare.first_at_least(size as u64, count);
             return self.why_not_made(below(found, self.limits.most));
         }
-        if self.limits.most_larger == 0 {
+        // what is read recalls that sizes have 32 bits
+        let limits = self.limits;
+        if limits.most_larger == 0 {
             return Some(Refusal::TooLarge);
         }
-        let found = self.index.spare.first_at_least(2, count);
+        let found = self.index.spare.first_at_least(LARGER_KEY as u64, count);
         self.why_not_made(found)
     }
 

@@ -1,12 +1,63 @@
-//! Ranges that slide to the front of their heap, all or to make room. It changes one slot, and notes it in the
-//! index.
-ghost use Rattle.std.specs.Prelude.{◌≡◌, ◌↔◌, ◌≤◌, None, IfSome, IsSome, IsTrue, false, true};
+//! Ranges that slide to the front of their heap, all or to make room. It changes one slot, or all, and notes it
+//! in the index.
+ghost use Rattle.std.specs.Prelude.{ℕ, ◌≡◌, ◌↔◌, ◌+◌, ◌^◌, ◌<◌, ◌≤◌, None, IfSome, IsSome, IsTrue, false, length};
+ghost use Rattle.std.specs.Prelude.{true};
 ghost use Rattle.std.specs.List.{FoldsTo};
-ghost use Rattle.offset_allocator.specs.Moving.Compacting.{IsCalledWith};
-ghost use Rattle.offset_heaps.specs.Changing.{CompactsHeap, KeepsSizes, MakesRoomAt, moves_in};
+ghost use Rattle.offset_allocator.specs.Moving.Compacting.{IsCalledWith, moves};
+ghost use Rattle.offset_heaps.specs.Changing.{CompactsAll, CompactsHeap, CompactsIn, IsCalledAt, KeepsSizes};
+ghost use Rattle.offset_heaps.specs.Changing.{MakesRoomAt, PacksIn, moves_from, moves_in, numbered};
+ghost use Rattle.offset_heaps.specs.Heaps.{slot};
+ghost use Rattle.offset_heaps.specs.Soundness.{IsNoted, IsWide};
 
 use crate::HeapsOf;
-use offset_allocator::{Move, RoomCost, Tables};
+use crate::index::Index;
+use crate::limits::Limits;
+use crate::slots::Slots;
+use offset_allocator::{Accesses, Move, NodeIndex, RoomCost, Tables};
+use offset_guarded::GuardedOf;
+
+// Slides every live range of a heap to the front of its space, and calls the closure with its number too. The
+// index type is a parameter too, which keeps the proof short.
+pub(crate) fn compact_numbered<NI: NodeIndex, T: Tables<Index = NI>, F: FnMut(u32, Move<NI>)>(
+    heap: &mut GuardedOf<T>,
+    number: u32,
+    moved: &mut F,
+)
+    requires callable { F.IsAlwaysCallable moved.old }
+    ensures callable { F.IsAlwaysCallable moved.new }
+    ensures change { CompactsIn heap.old heap.new }
+    ensures moved { FoldsTo (IsCalledAt NI.NonMax.number (λ f k range g. F.step f k range tt g)) moved.old
+        (numbered number (moves 0 0 heap.old.space.blocks)) moved.new }
+{
+    heap.compact(&mut |range: Move<NI>| moved(number, range));
+}
+
+// Slides every live range of each heap to the front of its space.
+fn compact_all<T: Tables, F: FnMut(u32, Move<T::Index>)>(
+    slots: &mut Slots<T>,
+    index: &mut Index,
+    limits: Limits,
+    moved: &mut F,
+    count: &mut Accesses,
+)
+    requires numbers { length slots.old ≡ limits.most + limits.most_larger }
+    requires few { length slots.old < 2 ^ 32 }
+    requires wide { IsWide slots.old index.old }
+    requires noted { (k : ℕ) → IsNoted limits slots.old index.old k }
+    requires callable { F.IsAlwaysCallable moved.old }
+    ensures done { (k : ℕ) → PacksIn (slot k slots.old) (slot k slots.new) }
+    ensures moved { FoldsTo (IsCalledAt T.Index.NonMax.number (λ f k range g. F.step f k range tt g)) moved.old
+        (moves_from 0 slots.old) moved.new }
+    ensures len { length slots.new ≡ length slots.old }
+    ensures wide { IsWide slots.new index.new }
+    ensures noted { (k : ℕ) → IsNoted limits slots.new index.new k }
+    ensures levels { index.new.one.height ≡ index.old.one.height }
+{
+    for number in 0..limits.most + limits.most_larger {
+        slots.pack(number, moved, count);
+        index.note(slots, number, limits, count);
+    }
+}
 
 impl<T: Tables> HeapsOf<T> {
     ghost use Rattle.offset_heaps.specs.Heaps.{IsSame, KeepsOtherHeaps, TakesFewSteps, heap_at};
@@ -43,6 +94,37 @@ impl<T: Tables> HeapsOf<T> {
         self.index
             .note(&self.slots, number, self.limits, &mut self.accesses);
         true
+    }
+
+    /// Slides every live range of each heap to the front of its space, as `compact_heap` of each number that has
+    /// one does, one after another. Every place stays live, with its size; `offset_of` returns where its range
+    /// begins. A moved range keeps no alignment. `moved` is called with the number of the heap and each move: by
+    /// the numbers of the heaps, and in a heap in space order; each move is within the buffer of its number.
+    /// No heap is made or dropped. It reads each slot, and takes the time of `GuardedOf::compact` for each heap.
+    ///
+    /// ```
+    /// let hole = heaps.allocate(300).unwrap().place;
+    /// let mesh = heaps.allocate(100).unwrap().place;
+    /// heaps.free(hole);
+    /// heaps.compact(&mut |number, it| assert_eq!((number, it.from, it.to, it.size), (0, 300, 0, 100)));
+    /// assert_eq!(heaps.offset_of(mesh), Some(0));
+    /// ```
+    pub fn compact<F: FnMut(u32, Move<T::Index>)>(&mut self, moved: &mut F)
+        requires callable { F.IsAlwaysCallable moved.old }
+        ensures sizes { KeepsSizes self.old self.new }
+        // The closure is called with the moves of all heaps, by their numbers, and in a heap in space order.
+        ensures moved { FoldsTo (IsCalledAt T.Index.NonMax.number (λ f k range g. F.step f k range tt g)) moved.old
+            (moves_from 0 self.old.slots) moved.new }
+        // The step of each heap.
+        ensures step { CompactsAll self.old self.new }
+    {
+        compact_all(
+            &mut self.slots,
+            &mut self.index,
+            self.limits,
+            moved,
+            &mut self.accesses,
+        );
     }
 
     /// Makes room for a request of `size` units in the heap of a number, where ranges have to move for it, as

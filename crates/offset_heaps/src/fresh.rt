@@ -1,11 +1,10 @@
 //! Heaps that are made for a request, which they grant at once. It touches nothing else.
 ghost use Rattle.std.specs.Prelude.{◌≡◌, ◌+◌, ◌<◌, ◌≤◌, IfOk, Some};
-ghost use Rattle.offset_allocator.specs.Classes.{down, value};
 ghost use Rattle.offset_guarded.specs.Guard.{Guard};
-ghost use Rattle.offset_heaps.specs.Heaps.{IsNew, larger_limit};
+ghost use Rattle.offset_heaps.specs.Heaps.{IsNew, larger_limit, usual_room, usual_size};
 ghost use Rattle.offset_heaps.specs.Slots.{Serves, ServesTight};
 
-use crate::limits::Limits;
+use crate::limits::{Limits, usual_size};
 use crate::slots;
 use offset_allocator::Tables;
 use offset_guarded::{GuardedOf, Ticket};
@@ -14,24 +13,25 @@ use std::alloc::{AllocError, Global};
 /// The node limit of a larger heap: two ranges may be live in it.
 pub(crate) const LARGER_LIMIT: u32 = 4;
 
-/// A heap of the usual size, and its first grant, which it has room for.
+/// The usual heap of a number, and its first grant, which it has room for.
 pub(crate) fn usual<T: Tables>(
     alloc: Global,
     limits: Limits,
+    number: u32,
     realm: u32,
     size: u32,
 ) -> Result<(Option<GuardedOf<T>>, Ticket), AllocError>
     requires limit_min { 4 ≤ limits.first_allocs }
     requires limit_max { limits.first_allocs + 1 < T.Index.MAX }
     requires some { 1 ≤ size }
-    requires fits { size ≤ value (down limits.size) }
-    ensures grants { IfOk result (λ r. (g : Guard) × IsNew limits.size limits.first_allocs realm g
-        × Serves size 1 (Some g) r.0 r.1) }
+    requires fits { size ≤ usual_room limits number }
+    ensures grants { IfOk result (λ r. (g : Guard)
+        × IsNew (usual_size limits number) limits.first_allocs realm g × Serves size 1 (Some g) r.0 r.1) }
     ensures start { IfOk result (λ r. r.1.offset ≡ 0) }
 {
     let mut slot = Some(GuardedOf::with_max_allocs(
         alloc,
-        limits.size,
+        usual_size(limits, number),
         limits.first_allocs,
         realm,
     )?);

@@ -8,7 +8,7 @@ ghost use Rattle.offset_heaps.specs.Heaps.{is_empty, room_of, slot};
 ghost use Rattle.offset_heaps.specs.Soundness.{spare_of};
 ghost use Rattle.offset_heaps.specs.Maxima.{IsFirst};
 
-use crate::limits::Limits;
+use crate::limits::{Limits, usual_room};
 use crate::marks::Marks;
 use crate::maxima::{Maxima, levels_for};
 use crate::slots::Slots;
@@ -18,7 +18,8 @@ use offset_guarded::GuardedOf;
 use std::alloc::{AllocError, Global};
 
 /// Four keys of each number: the largest requests that its heap grants where it may add one and two blocks,
-/// or 0, whether it has no heap, and whether its heap is empty.
+/// or 0; where it has no heap, the largest request that one made for it would grant; and whether its heap is
+/// empty.
 #[derive(Drop)]
 pub(crate) struct Index {
     pub(crate) one: Maxima,
@@ -52,6 +53,9 @@ pub(crate) fn rooms<T: Tables>(heap: Option<&GuardedOf<T>>) -> (u32, u32)
     (largest, largest)
 }
 
+/// The key of a number for a larger heap that has none: no heap grants that much.
+pub(crate) const LARGER_KEY: u32 = 4294967295;
+
 // The key of a number that has no heap, or 0 where it has one.
 fn spare<T: Tables>(heap: Option<&GuardedOf<T>>, number: u32, limits: Limits) -> u32
     ensures { result ≡ spare_of limits number (option_copied heap.entry) }
@@ -59,9 +63,9 @@ fn spare<T: Tables>(heap: Option<&GuardedOf<T>>, number: u32, limits: Limits) ->
     if heap.is_some() {
         0
     } else if number < limits.most {
-        1
+        usual_room(limits, number)
     } else if (number as u64) < limits.most as u64 + limits.most_larger as u64 {
-        2
+        LARGER_KEY
     } else {
         0
     }

@@ -1,7 +1,8 @@
 //! Laws: what holds of all heaps. Its functions do nothing.
-ghost use Rattle.std.specs.Prelude.{ℕ, List, ◌≡◌, ◌↔◌, ◌+◌, ◌-◌, ◌*◌, ◌<◌, ◌≤◌, ◌∷◌, None, Some, IfSome, length};
-ghost use Rattle.std.specs.Prelude.{Bool, Err, IfErr, MatchOption, Option, Result, option_map, true};
+ghost use Rattle.std.specs.Prelude.{ℕ, List, ◌≡◌, ◌↔◌, ◌+◌, ◌-◌, ◌*◌, ◌^◌, ◌<◌, ◌≤◌, ◌∷◌, None, Some, IfSome};
+ghost use Rattle.std.specs.Prelude.{Bool, Err, IfErr, MatchOption, Option, Result, length, min, option_map, true};
 ghost use Rattle.std.specs.List.{AllByRecursion};
+ghost use Rattle.std.specs.declared.alloc.AllocError.{AllocError};
 ghost use Rattle.offset_allocator.specs.Ranges.{AreDisjoint, Range};
 ghost use Rattle.offset_allocator.specs.Reporting.Reports.{IsReport};
 ghost use Rattle.offset_allocator.specs.Requests.{CanGrant, blocks_needed, units_needed};
@@ -9,18 +10,20 @@ ghost use Rattle.offset_allocator.specs.declared.reports.StorageReport.{StorageR
 ghost use Rattle.offset_guarded.specs.Guard.{Guard, HasSerialLeft, IsRaised};
 ghost use Rattle.offset_heaps.specs.Heaps.{Heaps, room, AreAlike, AreTotals, heap_at, numbers, range_of};
 ghost use Rattle.offset_heaps.specs.Heaps.{Grants, IsFirstFit, IsLive, IsNext, IsUsual, IsWhy, MustGrowIn, Puts};
-ghost use Rattle.offset_heaps.specs.Heaps.{size_of, total};
+ghost use Rattle.offset_heaps.specs.Heaps.{IsFirstSize, size_of, total, usual_room, usual_size};
 ghost use Rattle.offset_heaps.specs.Histories.{AreSteps, IsGone, IsStep, ResetsAll};
 ghost use Rattle.offset_heaps.specs.Numbering.{AreOfLive, MeetsPlaces, first_from, live_places, next_place};
 ghost use Rattle.offset_heaps.specs.State.{IsCopy, IsStateOf, IsWellFormed, SameHeaps};
 ghost use Rattle.offset_heaps.specs.Relocating.{IsEmptiest, NoneLive, last_place, place_before};
 ghost use Rattle.offset_heaps.specs.Relocating.{live_at, squares, units_of};
+ghost use Rattle.offset_heaps.specs.Tight.{IsRefusedForTight, IsServedTight};
 ghost use Rattle.offset_heaps.specs.Twins.{AreTwins};
-ghost use Rattle.offset_heaps.specs.Calls.{Allocates, TakesAll, Call, Drops, DropsEmpty, Frees, GivesUp};
-ghost use Rattle.offset_heaps.specs.Calls.{GoAll, Goes, Packs, Relocates, Reply, TakesRoom, TakesSize};
+ghost use Rattle.offset_heaps.specs.Calls.{Allocates, AllocatesTight, TakesAll, Call, Drops, DropsEmpty, Frees, GivesUp};
+ghost use Rattle.offset_heaps.specs.Calls.{GoAll, Goes, Lengthens, Packs, Relocates, Reply, TakesRoom, TakesSize};
 ghost use Rattle.offset_heaps.specs.Asking.{IsRefusedFor, IsServed};
-ghost use Rattle.offset_heaps.specs.Changing.{Wanted};
+ghost use Rattle.offset_heaps.specs.Changing.{CompactsAll, Wanted};
 ghost use Rattle.offset_allocator.specs.declared.moves.room.RoomCost.{RoomCost};
+ghost use Rattle.offset_heaps.specs.declared.limits.Limits.{Limits};
 ghost use Rattle.offset_heaps.specs.declared.place.Granted.{Granted};
 ghost use Rattle.offset_heaps.specs.declared.place.Place.{Place};
 ghost use Rattle.offset_heaps.specs.declared.refusal.Refusal.{Refusal};
@@ -31,6 +34,7 @@ use crate::HeapsOf;
 pub use crate::asking::refusal_aligned_counted;
 pub use crate::numbering::{first_heap_counted, heap_after_counted};
 pub use crate::relocate::emptiest_counted;
+pub use crate::tight::refusal_tight_aligned_counted;
 use offset_allocator::Tables;
 use offset_allocator::laws::{is_well_formed, ranges_are_disjoint};
 
@@ -93,13 +97,36 @@ pub fn refusals_are_foretold()
         → MatchOption why (IfErr r (λ w. w ≡ Memory)) (λ w. r ≡ Err w) }
 {}
 
-/// A heap that is made for a request has the units of the limits where the request is usual, and else those
-/// of the request: what `units_of_heap` returns after it.
+/// What `refusal_tight_aligned` says is what the same tight request is answered then, as `refusal_aligned` of
+/// other requests. So `refusal_tight` and `allocate_tight`, with the alignment 1.
+pub fn tight_refusals_are_foretold()
+    ensures { (size align : ℕ) (hs ks : Heaps) (why : Option Refusal) (r : Result Granted Refusal)
+        → MatchOption why (IsServedTight size align hs) (IsRefusedForTight size align hs)
+        → AllocatesTight size align hs ks r
+        → MatchOption why (IfErr r (λ w. w ≡ Memory)) (λ w. r ≡ Err w) }
+{}
+
+/// A heap that is made for a request is the usual one of its number where the request is usual, and else has
+/// the units of the request: what `units_of_heap` returns after it.
 pub fn new_heaps_have_their_units()
     ensures usual { (size align : ℕ) (hs ks : Heaps) (g : Granted) → Grants size align hs ks g
-        → g.is_new ≡ true → IsUsual size hs → option_map size_of (heap_at g.place.heap ks) ≡ Some hs.limits.size }
+        → g.is_new ≡ true → IsUsual size hs
+        → option_map size_of (heap_at g.place.heap ks) ≡ Some (usual_size hs.limits g.place.heap) }
     ensures larger { (size align : ℕ) (hs ks : Heaps) (g : Granted) → Grants size align hs ks g
         → g.is_new ≡ true → (IsUsual size hs → ⊥) → option_map size_of (heap_at g.place.heap ks) ≡ Some size }
+{}
+
+/// Usual heaps double: that of number 0 has `first_size` units, and each later one twice as many as the one
+/// before it, up to `size`. Where `first_size` is `size`, all have that size. A request is usual exactly where
+/// the usual heap of some number has room for it when it is fresh.
+pub fn usual_heaps_double()
+    ensures first { (limits : Limits) → IsFirstSize limits → usual_size limits 0 ≡ limits.first_size }
+    ensures next { (limits : Limits) (k : ℕ)
+        → usual_size limits (k + 1) ≡ min (2 * usual_size limits k) limits.size }
+    ensures alike { (limits : Limits) (k : ℕ) → limits.first_size ≡ limits.size
+        → usual_size limits k ≡ limits.size }
+    ensures usual { (size : ℕ) (hs : Heaps) → hs.limits.size < 2 ^ 32 → 1 ≤ hs.limits.most
+        → IsUsual size hs ↔ ((k : ℕ) × (k < hs.limits.most) × (size ≤ usual_room hs.limits k)) }
 {}
 
 /// There is a slot for each number, and no heap has a realm that a later one will have: theirs are above
@@ -180,11 +207,15 @@ pub fn a_state_is_read_back<T: Tables>(heaps: &HeapsOf<T>)
 /// Heaps and a call decide the result, and the heaps that are left. Heaps are twins where their spaces are in
 /// the same state, and live names have the same serials, however many accesses were counted: of twins a call
 /// returns the same, places and tickets included, and leaves twins. Only where memory is refused to a request
-/// of one of them, the other may have a heap or nodes more.
+/// of one of them, or to its `extend_heap`, the other may have a heap or nodes more.
 pub fn a_state_decides_each_step()
     ensures allocate { (size align : ℕ) (hs hs' ks ks' : Heaps) → size ≤ 4294967295 → IsWellFormed hs
         → AreTwins hs hs' → (r r' : Result Granted Refusal) → Allocates size align hs ks r
         → Allocates size align hs' ks' r' → (r ≡ Err Memory → ⊥) → (r' ≡ Err Memory → ⊥)
+        → (r ≡ r') × AreTwins ks ks' }
+    ensures allocate_tight { (size align : ℕ) (hs hs' ks ks' : Heaps) → size ≤ 4294967295 → IsWellFormed hs
+        → AreTwins hs hs' → (r r' : Result Granted Refusal) → AllocatesTight size align hs ks r
+        → AllocatesTight size align hs' ks' r' → (r ≡ Err Memory → ⊥) → (r' ≡ Err Memory → ⊥)
         → (r ≡ r') × AreTwins ks ks' }
     ensures free { (p : Place) (hs hs' ks ks' : Heaps) → IsWellFormed hs → AreTwins hs hs' → (r r' : Bool)
         → Frees p hs ks r → Frees p hs' ks' r' → (r ≡ r') × AreTwins ks ks' }
@@ -202,8 +233,14 @@ pub fn a_state_decides_each_step()
     ensures resize { (how : Wanted) (p : Place) (hs hs' ks ks' : Heaps) → IsWellFormed hs → AreTwins hs hs'
         → (r r' : Option Bool) → TakesSize how p hs ks r → TakesSize how p hs' ks' r'
         → (r ≡ r') × AreTwins ks ks' }
+    ensures extend_heap { (k more : ℕ) (hs hs' ks ks' : Heaps) → IsWellFormed hs → AreTwins hs hs'
+        → (r r' : Result Bool AllocError) → Lengthens k more hs ks r → Lengthens k more hs' ks' r'
+        → ((e : AllocError) → r ≡ Err e → ⊥) → ((e : AllocError) → r' ≡ Err e → ⊥)
+        → (r ≡ r') × AreTwins ks ks' }
     ensures compact_heap { (k : ℕ) (hs hs' ks ks' : Heaps) → AreTwins hs hs' → (r r' : Bool)
         → Packs k hs ks r → Packs k hs' ks' r' → (r ≡ r') × AreTwins ks ks' }
+    ensures compact { (hs hs' ks ks' : Heaps) → AreTwins hs hs' → CompactsAll hs ks → CompactsAll hs' ks'
+        → AreTwins ks ks' }
     ensures make_room { (k size : ℕ) (hs hs' ks ks' : Heaps) → IsWellFormed hs → AreTwins hs hs'
         → (r r' : Option RoomCost) → TakesRoom k size hs ks r → TakesRoom k size hs' ks' r'
         → (r ≡ r') × AreTwins ks ks' }

@@ -1,13 +1,14 @@
 //! Ranges of as many buffers as are needed, each with a heap of its own.
 //!
-//! A `Heaps` holds heaps by number, each a `GuardedOf`: those of the usual size, and larger ones, each of the
-//! size of the request that it was made for. Nothing is known of the buffers: the caller makes the buffer of
+//! A `Heaps` holds heaps by number, each a `GuardedOf`: usual ones, all of one size or each twice as large as
+//! the one before it, and larger ones, each of the size of the request that it was made for. Nothing is known of the buffers: the caller makes the buffer of
 //! a number when he is told that its heap is new, and drops it when he is told that the heap was dropped. A
 //! `Place` is the number of a heap and a ticket there. Every call takes any place, and one that is not live
 //! changes nothing.
 //!
 //! ```
-//! let limits = Limits { size: 1 << 24, max_allocs: 65536, first_allocs: 64, most: 64, most_larger: 16 };
+//! let limits =
+//!     Limits { size: 1 << 24, first_size: 1 << 18, max_allocs: 65536, first_allocs: 64, most: 64, most_larger: 16 };
 //! let mut heaps = Heaps::<u32>::new(alloc, limits, 1)?;
 //! if let Ok(granted) = heaps.allocate(3000) {
 //!     // granted.is_new: make the buffer of number granted.place.heap
@@ -33,6 +34,7 @@ mod compacting;
 mod copying;
 mod drop;
 mod dumping;
+mod extending;
 mod fresh;
 mod index;
 pub mod laws;
@@ -48,6 +50,7 @@ mod restoring;
 mod saving;
 mod slots;
 mod state;
+mod tight;
 mod totals;
 
 pub use dumping::json_of;
@@ -138,11 +141,14 @@ impl<T: Tables> HeapsOf<T> {
     /// An error is returned only where an allocation failed; then nothing is made.
     ///
     /// ```
-    /// let limits = Limits { size: 1 << 24, max_allocs: 65536, first_allocs: 64, most: 64, most_larger: 16 };
+    /// let limits =
+    ///     Limits { size: 1 << 24, first_size: 1 << 18, max_allocs: 65536, first_allocs: 64, most: 64, most_larger: 16 };
     /// let heaps = Heaps::<u32>::new(alloc, limits, 1)?;
     /// assert_eq!(heaps.totals().heaps, 0);
     /// ```
     pub fn new(alloc: Global, limits: Limits, realm: u32) -> Result<Self, AllocError>
+        requires size_min { min 1 limits.size ≤ limits.first_size }
+        requires size_max { limits.first_size ≤ limits.size }
         requires limit_min { 4 ≤ limits.max_allocs }
         requires limit_max { limits.max_allocs + 1 < T.Index.MAX }
         requires first_min { min 8 limits.max_allocs ≤ limits.first_allocs }

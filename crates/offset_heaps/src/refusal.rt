@@ -7,12 +7,13 @@ use std::fmt;
 pub enum Refusal {
     /// It is for no unit.
     Empty,
-    /// No heap has room, and none may ever be large enough: a fresh one of the usual size would not have room
-    /// either, and there may be no larger ones.
+    /// No heap has room, and none may ever be large enough: the last usual one would not have room when it is
+    /// fresh either, and there may be no larger ones.
     TooLarge,
     /// No heap has room, and though one may be large enough, none may be made for it now: each number of its
-    /// kind has a heap, or all 4294967295 realms are given. Its kind is the usual one where a fresh heap of
-    /// the usual size would have room, and else a larger one. Free ranges, or drop empty heaps of that kind.
+    /// kind whose heap would be large enough has one, or all 4294967295 realms are given. Its kind is the usual
+    /// one where the last usual heap would have room when it is fresh, and else a larger one. Free ranges, or
+    /// drop empty heaps of that kind.
     Full,
     /// Memory was refused: where no heap has room, that for another one, which may be made; where one has room,
     /// that for more nodes of the first such, which has fewer than five unused nodes and a node limit below

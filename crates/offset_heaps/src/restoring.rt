@@ -11,7 +11,7 @@ ghost use Rattle.offset_heaps.specs.StateFaults.{IsFault, IsHeapFault, IsHeapsFa
 use crate::HeapsOf;
 use crate::copying::index_of;
 use crate::fresh::LARGER_LIMIT;
-use crate::limits::Limits;
+use crate::limits::{Limits, usual_size};
 use crate::slots::Slots;
 use crate::state::{FORM, StateFault, StateFaultKind, VERSION};
 use offset_allocator::laws::unused_nodes;
@@ -48,7 +48,7 @@ fn header_of<T: Tables>(
     ensures fault { IfErr result (λ f. IsNumbersFault T.Index.MAX most_heaps most_allocs bytes.now f.at f.kind) }
     ensures wrong { IsErr result → IsNoState T.Index.MAX most_heaps most_allocs bytes.now }
 {
-    if bytes.len() < 88 {
+    if bytes.len() < 96 {
         return fault(bytes.len(), StateFaultKind::Length);
     }
     if number(bytes, 0) != FORM || number(bytes, 1) != VERSION {
@@ -58,40 +58,45 @@ fn header_of<T: Tables>(
     if size > u32::MAX as u64 {
         return fault(16, StateFaultKind::Limits);
     }
-    let limit = number(bytes, 3);
-    if limit < 4 || limit > most_allocs as u64 || limit + 1 >= T::Index::MAX as u64 {
+    let first_size = number(bytes, 3);
+    if first_size < size.min(1) || first_size > size {
         return fault(24, StateFaultKind::Limits);
     }
-    let first = number(bytes, 4);
-    if first < limit.min(8) || first > limit {
+    let limit = number(bytes, 4);
+    if limit < 4 || limit > most_allocs as u64 || limit + 1 >= T::Index::MAX as u64 {
         return fault(32, StateFaultKind::Limits);
     }
-    let most = number(bytes, 5);
-    if most > most_heaps as u64 {
+    let first = number(bytes, 5);
+    if first < limit.min(8) || first > limit {
         return fault(40, StateFaultKind::Limits);
     }
-    let larger = number(bytes, 6);
-    if larger > most_heaps as u64 - most {
+    let most = number(bytes, 6);
+    if most > most_heaps as u64 {
         return fault(48, StateFaultKind::Limits);
     }
-    let made = number(bytes, 7);
-    if made > u32::MAX as u64 {
-        return fault(56, StateFaultKind::Counts);
+    let larger = number(bytes, 7);
+    if larger > most_heaps as u64 - most {
+        return fault(56, StateFaultKind::Limits);
     }
-    let realm = number(bytes, 8);
-    if realm > u32::MAX as u64 {
+    let made = number(bytes, 8);
+    if made > u32::MAX as u64 {
         return fault(64, StateFaultKind::Counts);
     }
+    let realm = number(bytes, 9);
+    if realm > u32::MAX as u64 {
+        return fault(72, StateFaultKind::Counts);
+    }
     let count = (most + larger) as usize;
-    if count > (bytes.len() - 88) / 8 {
+    if count > (bytes.len() - 96) / 8 {
         return fault(bytes.len(), StateFaultKind::Length);
     }
-    if checksum(bytes, 10 + count) != number(bytes, 10 + count) {
-        return fault(80 + 8 * count, StateFaultKind::Checksum);
+    if checksum(bytes, 11 + count) != number(bytes, 11 + count) {
+        return fault(88 + 8 * count, StateFaultKind::Checksum);
     }
     Ok(Header {
         limits: Limits {
             size: size as u32,
+            first_size: first_size as u32,
             max_allocs: limit as u32,
             first_allocs: first as u32,
             most: most as u32,
@@ -102,7 +107,7 @@ fn header_of<T: Tables>(
     })
 }
 
-// Whether a heap of the usual size has a node limit that the limits allow, and below the largest one as many unused
+// Whether a usual heap has a node limit that the limits allow, and below the largest one as many unused
 // nodes as it has between two calls.
 fn has_nodes_left<T: Tables>(heap: &GuardedOf<T>, limits: Limits) -> bool
     ensures { IsTrue result ↔ HasNodesLeft limits heap.now }
@@ -121,7 +126,7 @@ fn is_of_kind<T: Tables>(heap: &GuardedOf<T>, number: u32, limits: Limits) -> bo
 {
     let space = heap.allocator();
     if number < limits.most {
-        space.size() == limits.size && has_nodes_left(heap, limits)
+        space.size() >= usual_size(limits, number) && has_nodes_left(heap, limits)
     } else {
         space.size() >= 1 && space.max_allocs() == LARGER_LIMIT
     }
@@ -183,7 +188,7 @@ fn read_slots<T: Tables>(
     made: u32,
     most_allocs: u32,
 ) -> Result<Result<Slots<T>, StateFault>, AllocError>
-    requires long { 88 + 8 * count ≤ length bytes.now }
+    requires long { 96 + 8 * count ≤ length bytes.now }
     ensures read { IfOk result (λ r. IfOk r (λ s. AreRead limits T.Index.MAX made most_allocs count
         bytes.now states.now s)) }
     ensures fault { IfOk result (λ r. IfErr r (λ f. IsHeapsFault limits T.Index.MAX made most_allocs count
@@ -191,14 +196,14 @@ fn read_slots<T: Tables>(
     ensures refused { IfOk result (λ r. IsErr r
         → AreNone limits T.Index.MAX made most_allocs count bytes.now states.now) }
 {
-    let start = 88 + 8 * count as usize;
+    let start = 96 + 8 * count as usize;
     let mut slots = Slots::with_room(alloc, count)?;
     for k in 0..count {
-        let from = number(bytes, 9 + k as usize);
-        let to = number(bytes, 10 + k as usize);
+        let from = number(bytes, 10 + k as usize);
+        let to = number(bytes, 11 + k as usize);
         if from > to || to > states.len() as u64 {
             return Ok(Err(StateFault {
-                at: 80 + 8 * k as usize,
+                at: 88 + 8 * k as usize,
                 kind: StateFaultKind::Place,
             }));
         }
@@ -273,16 +278,16 @@ impl<T: Tables> HeapsOf<T> {
         };
         let limits = header.limits;
         let count = limits.most + limits.most_larger;
-        let states = &bytes[88 + 8 * count as usize..];
-        if number(bytes, 9) != 0 {
+        let states = &bytes[96 + 8 * count as usize..];
+        if number(bytes, 10) != 0 {
             return Err(ReadError::Fault(StateFault {
-                at: 72,
+                at: 80,
                 kind: StateFaultKind::Place,
             }));
         }
-        if number(bytes, 9 + count as usize) != states.len() as u64 {
+        if number(bytes, 10 + count as usize) != states.len() as u64 {
             return Err(ReadError::Fault(StateFault {
-                at: 72 + 8 * count as usize,
+                at: 80 + 8 * count as usize,
                 kind: StateFaultKind::Place,
             }));
         }

@@ -45,9 +45,9 @@ fn states_of<T: Tables>(
 }
 
 impl<T: Tables> HeapsOf<T> {
-    /// The bytes of the state, which `read_state` reads: 88, 8 for each number, and those of
+    /// The bytes of the state, which `read_state` reads: 96, 8 for each number, and those of
     /// `GuardedOf::write_state` for each heap. The first are numbers of 64 bits, the lowest byte of each
-    /// first: the letters OAHS, the version 2, the five limits, how many heaps were made, the realm; where the
+    /// first: the letters OAHS, the version 3, the six limits, how many heaps were made, the realm; where the
     /// state of each number's heap begins behind these numbers, and where the last one ends, so that a number
     /// without a heap has no bytes; and a checksum. The index of the heaps is not stored.
     ///
@@ -72,6 +72,7 @@ impl<T: Tables> HeapsOf<T> {
             FORM,
             VERSION,
             limits.size as u64,
+            limits.first_size as u64,
             limits.max_allocs as u64,
             limits.first_allocs as u64,
             limits.most as u64,

@@ -9,14 +9,17 @@ ghost use Rattle.offset_allocator.specs.Tight.{CanHold};
 ghost use Rattle.offset_guarded.specs.Guard.{Guard, HasSerialLeft, IsLive};
 ghost use Rattle.offset_allocator.specs.Moving.Compacting.{IsCalledWith};
 ghost use Rattle.offset_heaps.specs.Changing.{AltersIn, CanResize, CanResizeIn, CompactsIn, IsNear, MakesRoomIn, Resizes};
-ghost use Rattle.offset_heaps.specs.Changing.{moves_in, wanted};
-ghost use Rattle.offset_heaps.specs.Heaps.{MustGrow, MustGrowIn, is_empty, live_of, part, range_in, room, room_of};
-ghost use Rattle.offset_heaps.specs.Heaps.{slot};
+ghost use Rattle.offset_heaps.specs.Changing.{IsCalledAt, PacksIn, moves_in, numbered, wanted};
+ghost use Rattle.offset_heaps.specs.Extending.{CanExtendIn, ExtendsIf};
+ghost use Rattle.offset_heaps.specs.Heaps.{IsGrown, IsOfKind, MustGrow, MustGrowIn, is_empty, live_of, part};
+ghost use Rattle.offset_heaps.specs.Heaps.{range_in, room, room_of, slot};
 ghost use Rattle.offset_heaps.specs.Numbering.{IsHeapFrom, NoHeapFrom};
 ghost use Rattle.offset_heaps.specs.Relocating.{HasLive, IsEmptiest, NoneLive, TakesUnits, units_in};
-ghost use Rattle.offset_heaps.specs.Slots.{CanHoldIn, Changes, FreesIn, GrowsIn, KeepsOthersIn};
+ghost use Rattle.offset_heaps.specs.Slots.{CanHoldIn, Changes, Fills, FreesIn, GrowsIn, KeepsOthersIn};
 ghost use Rattle.offset_heaps.specs.Slots.{IsMore, ResetsIn, Serves, ServesTight};
 
+use crate::compacting::compact_numbered;
+use crate::extending::extend_in;
 use crate::index::{is_empty_heap, rooms};
 use crate::limits::Limits;
 use crate::resize::Resize;
@@ -59,7 +62,32 @@ fn must_grow<T: Tables>(heap: &GuardedOf<T>, number: u32, limits: Limits) -> boo
     number < limits.most && space.max_allocs() < limits.max_allocs && unused_nodes(space) < 5
 }
 
-// Doubles the node limit of the heap of a number, where it has to grow.
+/// Doubles the node limit of the heap of a number, where it has to grow.
+pub(crate) fn grow_heap<T: Tables>(
+    alloc: Global,
+    heap: &mut GuardedOf<T>,
+    number: u32,
+    limits: Limits,
+) -> Result<(), AllocError>
+    requires limit_max { limits.max_allocs + 1 < T.Index.MAX }
+    ensures grows { IfOk result (λ _. IsGrown limits number heap.old heap.new) }
+    ensures must { IsErr result → MustGrow limits number heap.old }
+    ensures same { IsErr result → heap.new ≡ heap.old }
+{
+    if must_grow(heap, number, limits) {
+        let limit = heap.allocator().max_allocs();
+        let most = limits.max_allocs;
+        let twice = if most - limit < limit {
+            most
+        } else {
+            2 * limit
+        };
+        *heap = heap.raised(alloc, twice)?;
+    }
+    Ok(())
+}
+
+// The same, where the number has a heap.
 fn grow_in<T: Tables>(
     alloc: Global,
     slot: &mut Option<GuardedOf<T>>,
@@ -71,19 +99,10 @@ fn grow_in<T: Tables>(
     ensures must { IsErr result → MustGrowIn limits number slot.old }
     ensures same { IsErr result → slot.new ≡ slot.old }
 {
-    if let Some(heap) = slot {
-        if must_grow(heap, number, limits) {
-            let limit = heap.allocator().max_allocs();
-            let most = limits.max_allocs;
-            let twice = if most - limit < limit {
-                most
-            } else {
-                2 * limit
-            };
-            *heap = heap.raised(alloc, twice)?;
-        }
+    match slot {
+        Some(heap) => grow_heap(alloc, heap, number, limits),
+        None => Ok(()),
     }
-    Ok(())
 }
 
 /// Grants a request in a heap that has room for it.
@@ -107,7 +126,7 @@ pub(crate) fn grant_in<T: Tables>(slot: &mut Option<GuardedOf<T>>, size: u32, al
 
 /// Grants a request in a heap that has a free block for it.
 pub(crate) fn grant_tight_in<T: Tables>(slot: &mut Option<GuardedOf<T>>, size: u32) -> Ticket
-    requires { CanHoldIn size slot.old }
+    requires { CanHoldIn size 1 slot.old }
     ensures { ServesTight size slot.old slot.new result }
 {
     match slot {
@@ -117,6 +136,32 @@ pub(crate) fn grant_tight_in<T: Tables>(slot: &mut Option<GuardedOf<T>>, size: u
         },
         None => unreachable!(),
     }
+}
+
+// Grants a request in a heap, a free block of which holds it.
+fn fill_in<T: Tables>(slot: &mut Option<GuardedOf<T>>, size: u32, align: u32) -> Ticket
+    requires alignment { 1 ≤ align }
+    requires holds { CanHoldIn size align slot.old }
+    ensures { Fills size align slot.old slot.new result }
+{
+    match slot {
+        Some(heap) => match heap.allocate_tight_aligned(size, align) {
+            Some(ticket) => ticket,
+            None => unreachable!(),
+        },
+        None => unreachable!(),
+    }
+}
+
+// Whether a free block of a heap holds a request. Where none does, the heap has no room for it either.
+fn holds<T: Tables>(heap: &GuardedOf<T>, size: u32, align: u32) -> bool
+    requires some { 1 ≤ size }
+    requires alignment { 1 ≤ align }
+    ensures holds { IsTrue result ↔ CanHoldIn size align (Some heap.now) }
+    ensures less { result ≡ false → room (blocks_needed align) heap.now < units_needed size align }
+{
+    is_well_formed(heap.allocator());
+    heap.refusal_tight_aligned(size, align).is_none()
 }
 
 // Frees the range of a ticket, where it is live.
@@ -196,6 +241,24 @@ fn compact_in<T: Tables, F: FnMut(Move<T::Index>)>(slot: &mut Option<GuardedOf<T
     match slot {
         Some(heap) => heap.compact(moved),
         None => unreachable!(),
+    }
+}
+
+// Slides every live range of a heap to the front of its space, where there is one, and calls the closure with its
+// number too.
+fn pack_in<T: Tables, F: FnMut(u32, Move<T::Index>)>(
+    slot: &mut Option<GuardedOf<T>>,
+    number: u32,
+    moved: &mut F,
+)
+    requires callable { F.IsAlwaysCallable moved.old }
+    ensures callable { F.IsAlwaysCallable moved.new }
+    ensures change { PacksIn slot.old slot.new }
+    ensures moved { FoldsTo (IsCalledAt T.Index.NonMax.number (λ f k range g. F.step f k range tt g)) moved.old
+        (numbered number (moves_in slot.old)) moved.new }
+{
+    if let Some(heap) = slot {
+        compact_numbered(heap, number, moved);
     }
 }
 
@@ -328,6 +391,66 @@ impl<T: Tables> Slots<T> {
         grant_in(&mut self.heaps[number as usize], size, align)
     }
 
+    /// Grants a request in the heap of a number, a free block of which holds it.
+    pub(crate) fn fill(
+        &mut self,
+        number: u32,
+        size: u32,
+        align: u32,
+        count: &mut Accesses,
+    ) -> Ticket
+        requires there { number < length self.old }
+        requires alignment { 1 ≤ align }
+        requires holds { CanHoldIn size align (slot number self.old) }
+        ensures grants { Changes number (λ o p. Fills size align o p result) self.old self.new }
+        ensures accesses { count.new ≡ count.old + 1 }
+    {
+        count.tick();
+        fill_in(&mut self.heaps[number as usize], size, align)
+    }
+
+    // Whether a free block of the heap of a number holds a request.
+    fn holds_at(&self, number: u32, size: u32, align: u32, count: &mut Accesses) -> bool
+        requires some { 1 ≤ size }
+        requires alignment { 1 ≤ align }
+        ensures holds { IsTrue result ↔ CanHoldIn size align (slot number self.now) }
+        ensures less { result ≡ false
+            → room_of (blocks_needed align) (slot number self.now) < units_needed size align }
+        ensures accesses { count.new ≡ count.old + 1 }
+    {
+        match self.at(number, count) {
+            None => false,
+            Some(heap) => holds(heap, size, align),
+        }
+    }
+
+    /// The first heap, a free block of which holds a request. Where none does, none has room for it.
+    pub(crate) fn first_holding(
+        &self,
+        numbers: u32,
+        size: u32,
+        align: u32,
+        count: &mut Accesses,
+    ) -> Option<u32>
+        requires some { 1 ≤ size }
+        requires alignment { 1 ≤ align }
+        requires numbers { length self.now ≡ numbers }
+        ensures first { MatchOption result ((k : ℕ) → CanHoldIn size align (slot k self.now) → ⊥)
+            (λ k. CanHoldIn size align (slot k self.now)
+            × ((j : ℕ) → j < k → CanHoldIn size align (slot j self.now) → ⊥)) }
+        ensures less { result ≡ None
+            → (k : ℕ) → room_of (blocks_needed align) (slot k self.now) < units_needed size align }
+        ensures there { IfSome result (λ k. k < numbers) }
+        ensures accesses { count.new ≤ count.old + numbers }
+    {
+        for number in 0..numbers {
+            if self.holds_at(number, size, align, count) {
+                return Some(number);
+            }
+        }
+        None
+    }
+
     /// Frees the range of a ticket in the heap of a number, where it is live.
     pub(crate) fn free(&mut self, number: u32, ticket: Ticket, count: &mut Accesses) -> bool
         ensures done { IsTrue result ↔ IsSome (range_in ticket (slot number self.old)) }
@@ -377,6 +500,37 @@ impl<T: Tables> Slots<T> {
         )
     }
 
+    /// Adds units at the end of the heap of a number, which grows first where it has to for a grant, and returns
+    /// whether it did.
+    pub(crate) fn extend(
+        &mut self,
+        alloc: Global,
+        number: u32,
+        limits: Limits,
+        more: u32,
+        count: &mut Accesses,
+    ) -> Result<bool, AllocError>
+        requires there { IsSome (slot number self.old) }
+        requires limit_max { limits.max_allocs + 1 < T.Index.MAX }
+        requires kind { IfSome (slot number self.old) (IsOfKind limits number) }
+        ensures done { IfOk result (λ done. IsTrue done ↔ CanExtendIn more (slot number self.old)) }
+        ensures change { IfOk result
+            (λ done. Changes number (AltersIn (ExtendsIf limits number more done)) self.old self.new) }
+        ensures must { IsErr result → MustGrowIn limits number (slot number self.old)
+            × CanExtendIn more (slot number self.old) }
+        ensures same { IsErr result → self.new ≡ self.old }
+        ensures accesses { count.new ≡ count.old + 1 }
+    {
+        count.tick();
+        extend_in(
+            alloc,
+            &mut self.heaps[number as usize],
+            number,
+            limits,
+            more,
+        )
+    }
+
     /// Slides every live range of the heap of a number to the front of its space.
     pub(crate) fn compact<F: FnMut(Move<T::Index>)>(
         &mut self,
@@ -393,6 +547,26 @@ impl<T: Tables> Slots<T> {
     {
         count.tick();
         compact_in(&mut self.heaps[number as usize], moved);
+    }
+
+    /// Slides every live range of the heap of a number to the front of its space, where it has one, and calls the
+    /// closure with the number too.
+    pub(crate) fn pack<F: FnMut(u32, Move<T::Index>)>(
+        &mut self,
+        number: u32,
+        moved: &mut F,
+        count: &mut Accesses,
+    )
+        requires there { number < length self.old }
+        requires callable { F.IsAlwaysCallable moved.old }
+        ensures callable { F.IsAlwaysCallable moved.new }
+        ensures change { Changes number PacksIn self.old self.new }
+        ensures moved { FoldsTo (IsCalledAt T.Index.NonMax.number (λ f k range g. F.step f k range tt g)) moved.old
+            (numbered number (moves_in (slot number self.old))) moved.new }
+        ensures accesses { count.new ≡ count.old + 1 }
+    {
+        count.tick();
+        pack_in(&mut self.heaps[number as usize], number, moved);
     }
 
     /// Makes room for a request in the heap of a number.

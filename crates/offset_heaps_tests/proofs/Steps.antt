@@ -1,6 +1,8 @@
 -- What each call leaves is a step of a history.
-use Rattle.std.proofs.Common.{◌≡◌, ℕ, Bool, true, false, Result, Ok, Err, IfOk, Option, Some, None, IfSome, IsSome, is_some, ap, refl, inl, inr}
+use Rattle.std.proofs.Common.{◌≡◌, ℕ, Bool, true, false, Result, Ok, Err, IfOk, Option, Some, None, IfSome, IsSome, is_some, ap, refl, inl, inr, ◌∙◌}
+use Rattle.std.proofs.lemmas.Bool.{cases_Bool}
 use Rattle.std.specs.Prelude.{OnErr}
+use Rattle.std.specs.declared.alloc.AllocError.{AllocError}
 use Rattle.offset_heaps.specs.declared.place.Granted.{Granted}
 use Rattle.offset_heaps.specs.declared.place.Place.{Place}
 use Rattle.offset_heaps.specs.declared.refusal.Refusal.{Refusal}
@@ -9,7 +11,10 @@ use Rattle.offset_allocator.specs.Moving.Compacting.{Move}
 use Rattle.offset_allocator.specs.declared.moves.room.RoomCost.{RoomCost}
 use Rattle.offset_guarded.specs.Guard.{Guard}
 use Rattle.offset_heaps.specs.Changing.{CompactsHeap, MakesRoomAt, ResizesAt, Wanted}
+use Rattle.offset_heaps.specs.Extending.{ExtendsHeap}
 use Rattle.offset_heaps.specs.Histories.{IsStep}
+use Rattle.offset_heaps.specs.Tight.{GrantsTight}
+use Rattle.offset_heaps.proofs.{Growing.grown_realm, Longer.realm_longer}
 use Rattle.offset_heaps.specs.Relocating.{granted}
 
 module _ (hs ks : Heaps) where
@@ -36,13 +41,13 @@ module _ (hs ks : Heaps) where
   pub resizes : (how : Wanted) (p : Place) (r : Option Bool) → (r ≡ None → IsSame hs ks) → IfSome r (ResizesAt how p hs ks) → IsStep hs ks
   resizes how p None same step = inl (same refl)
   resizes how p (Some d) same step =
-      inr (inr (inr (inr (inr (p.heap, record { before = step.before; after = step.after; heap = step.heap; by = step.by.serials.realm; heaps = step.heaps })))))
+      inr (inr (inr (inr (inr (inl (p.heap, record { before = step.before; after = step.after; heap = step.heap; by = step.by.serials.realm; heaps = step.heaps }))))))
 
   pub packs : (k : ℕ) (b : Bool) → (b ≡ false → IsSame hs ks) → (b ≡ true → CompactsHeap k hs ks) → IsStep hs ks
   packs k false same step = inl (same refl)
   packs k true same step =
       let s = step refl in
-      inr (inr (inr (inr (inr (k, record { before = s.before; after = s.after; heap = s.heap; by = ap (λ (g : Guard). g.realm) s.by.serials; heaps = s.heaps })))))
+      inr (inr (inr (inr (inr (inl (k, record { before = s.before; after = s.after; heap = s.heap; by = ap (λ (g : Guard). g.realm) s.by.serials; heaps = s.heaps }))))))
 
   pub rooms : {F : Type 0} (R : F → Move → F → Type 0) (k size : ℕ) (f : F) (c : Option RoomCost) (g : F) → (heap_at k hs ≡ None → IsSame hs ks)
       → (IsSome (heap_at k hs) → MakesRoomAt R k size hs f c ks g) → IsStep hs ks
@@ -52,4 +57,26 @@ module _ (hs ks : Heaps) where
       go None e = inl (none e)
       go (Some b) e =
           let s = step (ap is_some e) in
-          inr (inr (inr (inr (inr (k, record { before = s.before; after = s.after; heap = s.heap; by = ap (λ (g : Guard). g.realm) s.by.serials; heaps = s.heaps })))))
+          inr (inr (inr (inr (inr (inl (k, record { before = s.before; after = s.after; heap = s.heap; by = ap (λ (g : Guard). g.realm) s.by.serials; heaps = s.heaps }))))))
+
+  pub fills : (size align : ℕ) (r : Result Granted Refusal) → OnErr r (IsSame hs ks) → IfOk r (λ g. g.is_new ≡ false → GrantsTight size align hs ks g.place)
+      → IfOk r (λ g. g.is_new ≡ true → Grants size align hs ks g) → IsStep hs ks
+  fills size align (Err e) same old new = inl same
+  fills size align (Ok g) same old new = elim (cases_Bool g.is_new) [
+    | inl e ↦ inr (inl (size, align, g, new e))
+    | inr e ↦
+        let s = old e in
+        let realm : s.after.realm ≡ s.was.realm = s.grants.realm.1 ∙ grown_realm hs.limits g.place.heap s.was s.before s.grown in
+        inr (inr (inr (inr (inr (inl (g.place.heap, record { before = s.was; after = s.after; heap = s.heap; by = realm; heaps = s.heaps }))))))
+  ]
+
+  pub extends : (k more : ℕ) (r : Result Bool AllocError) → OnErr r (IsSame hs ks) → (heap_at k hs ≡ None → IsSame hs ks) → IfOk r (λ d. IsSome (heap_at k hs) → ExtendsHeap k more d hs ks)
+      → IsStep hs ks
+  extends k more (Err e) same none step = inl same
+  extends k more (Ok d) same none step = go (heap_at k hs) refl
+    where
+      go : (o : Option Guard) → heap_at k hs ≡ o → IsStep hs ks
+      go None e = inl (none e)
+      go (Some b) e =
+          let s = step (ap is_some e) in
+          inr (inr (inr (inr (inr (inl (k, record { before = s.before; after = s.after; heap = s.heap; by = realm_longer hs.limits k more d s.before s.after s.by; heaps = s.heaps }))))))

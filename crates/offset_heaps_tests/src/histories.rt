@@ -13,6 +13,8 @@ use offset_heaps::{Heaps, Place};
 pub enum Change {
     Allocate(u32),
     AllocateAligned(u32),
+    AllocateTight(u32),
+    AllocateTightAligned(u32),
     Relocate(Place),
     RelocateAligned(Place),
     Free(Place),
@@ -22,7 +24,9 @@ pub enum Change {
     Reset,
     Shrink(Place, u32),
     GrowInPlace(Place, u32),
+    ExtendHeap(u32, u32),
     CompactHeap(u32),
+    Compact,
     MakeRoom(u32, u32),
 }
 
@@ -36,6 +40,18 @@ fn allocate_aligned(heaps: &mut Heaps, size: u32)
     ensures { IsStep heaps.old heaps.new }
 {
     let _ = heaps.allocate_aligned(size, 256);
+}
+
+fn allocate_tight(heaps: &mut Heaps, size: u32)
+    ensures { IsStep heaps.old heaps.new }
+{
+    let _ = heaps.allocate_tight(size);
+}
+
+fn allocate_tight_aligned(heaps: &mut Heaps, size: u32)
+    ensures { IsStep heaps.old heaps.new }
+{
+    let _ = heaps.allocate_tight_aligned(size, 256);
 }
 
 fn relocate(heaps: &mut Heaps, place: Place)
@@ -92,6 +108,18 @@ fn grow_in_place(heaps: &mut Heaps, place: Place, size: u32)
     let _ = heaps.grow_in_place(place, size);
 }
 
+fn extend_heap(heaps: &mut Heaps, number: u32, more: u32)
+    ensures { IsStep heaps.old heaps.new }
+{
+    let _ = heaps.extend_heap(number, more);
+}
+
+fn compact(heaps: &mut Heaps)
+    ensures { IsStep heaps.old heaps.new }
+{
+    heaps.compact(&mut |_number: u32, _range: Move<u32>| ());
+}
+
 fn compact_heap(heaps: &mut Heaps, number: u32)
     ensures { IsStep heaps.old heaps.new }
 {
@@ -111,6 +139,8 @@ pub fn make(heaps: &mut Heaps, change: Change)
     match change {
         Change::Allocate(size) => allocate(heaps, size),
         Change::AllocateAligned(size) => allocate_aligned(heaps, size),
+        Change::AllocateTight(size) => allocate_tight(heaps, size),
+        Change::AllocateTightAligned(size) => allocate_tight_aligned(heaps, size),
         Change::Relocate(place) => relocate(heaps, place),
         Change::RelocateAligned(place) => relocate_aligned(heaps, place),
         Change::Free(place) => free(heaps, place),
@@ -120,7 +150,9 @@ pub fn make(heaps: &mut Heaps, change: Change)
         Change::Reset => reset(heaps),
         Change::Shrink(place, size) => shrink(heaps, place, size),
         Change::GrowInPlace(place, size) => grow_in_place(heaps, place, size),
+        Change::ExtendHeap(number, more) => extend_heap(heaps, number, more),
         Change::CompactHeap(number) => compact_heap(heaps, number),
+        Change::Compact => compact(heaps),
         Change::MakeRoom(number, size) => make_room(heaps, number, size),
     }
 }

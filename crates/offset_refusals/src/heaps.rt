@@ -18,6 +18,7 @@ fn made_from<T: Tables>(alloc: Global, script: &Script, nodes: u32) -> Result<He
     }
     let limits = Limits {
         size: script.size,
+        first_size: script.size,
         max_allocs: limit,
         first_allocs: limit.min(nodes.max(8)),
         most: 4,
@@ -213,10 +214,25 @@ impl Work for MakeHeapsAndStore {
     }
 }
 
-// Grants one unit, so often that a heap has as many nodes as it may have. Where memory is refused, all is as it
+// Adds one unit to the first heap, where it is there and `extends` is set. Where memory is refused, all is as it
 // was.
-fn grow<T: Tables>(heaps: &mut HeapsOf<T>) -> Result<(), Failure> {
+fn extend<T: Tables>(heaps: &mut HeapsOf<T>, extends: bool) -> Result<(), Failure> {
+    let before = (heaps.totals(), node_limit(heaps));
+    if !extends || before.1 == 0 {
+        return Ok(());
+    }
+    match heaps.extend_heap(0, 1) {
+        Ok(true) => Ok(()),
+        Err(_) if (heaps.totals(), node_limit(heaps)) == before => Err(Failure::OutOfMemory),
+        _ => Err(Failure::Unfit),
+    }
+}
+
+// Grants one unit, so often that a heap has as many nodes as it may have, and before each further one adds a unit
+// to it, where `extends` is set. Where memory is refused, all is as it was.
+fn grow<T: Tables>(heaps: &mut HeapsOf<T>, extends: bool) -> Result<(), Failure> {
     for _ in 0..heaps.limits().max_allocs.saturating_sub(4) {
+        extend(heaps, extends)?;
         let before = (heaps.totals(), node_limit(heaps));
         match heaps.allocate(1) {
             Ok(_) => {}
@@ -237,8 +253,23 @@ fn node_limit<T: Tables>(heaps: &HeapsOf<T>) -> u32 {
     }
 }
 
-/// Makes the heaps, of which each begins with 8 nodes, and lets one grow to all its nodes. It puts its node limit
-/// and the live units into the cells.
+// Makes the heaps, of which each begins with 8 nodes, and lets one grow to all its nodes. It puts its node limit
+// and the live units into the cells.
+fn make_and_grow<T: Tables>(
+    alloc: Global,
+    script: &Script,
+    extends: bool,
+    cells: &mut Cells<'_>,
+) -> Result<(), Failure> {
+    let mut heaps = made_from::<T>(alloc, script, 8)?;
+    grow(&mut heaps, extends)?;
+    put(cells, u64::from(node_limit(&heaps)));
+    put(cells, heaps.totals().live_units);
+    Ok(())
+}
+
+/// Makes the heaps, of which each begins with 8 nodes, and lets one grow to all its nodes by what is granted in
+/// it. It puts its node limit and the live units into the cells.
 pub struct MakeHeapsAndGrow;
 
 impl Work for MakeHeapsAndGrow {
@@ -249,10 +280,21 @@ impl Work for MakeHeapsAndGrow {
         _kept: &mut [Kept<T::Index>],
         cells: &mut Cells<'_>,
     ) -> Result<(), Failure> {
-        let mut heaps = made_from::<T>(alloc, script, 8)?;
-        grow(&mut heaps)?;
-        put(cells, u64::from(node_limit(&heaps)));
-        put(cells, heaps.totals().live_units);
-        Ok(())
+        make_and_grow::<T>(alloc, script, false, cells)
+    }
+}
+
+/// The same of a heap that gets a unit more before each grant, so that it grows for that.
+pub struct MakeHeapsAndExtend;
+
+impl Work for MakeHeapsAndExtend {
+    fn run<T: Tables>(
+        &self,
+        alloc: Global,
+        script: &Script,
+        _kept: &mut [Kept<T::Index>],
+        cells: &mut Cells<'_>,
+    ) -> Result<(), Failure> {
+        make_and_grow::<T>(alloc, script, true, cells)
     }
 }

@@ -22,7 +22,7 @@ mod scripts;
 mod tickets;
 
 use allocators::{MakeAndCall, MakeAndFill, MakeAndStore, MakeDefault, MakeLimited, Play};
-use heaps::{MakeHeaps, MakeHeapsAndCall, MakeHeapsAndGrow, MakeHeapsAndStore};
+use heaps::{MakeHeaps, MakeHeapsAndCall, MakeHeapsAndExtend, MakeHeapsAndGrow, MakeHeapsAndStore};
 use layouts::{Layout, Work, run_on};
 use lists::{PlayList, PlayTickets};
 use outcomes::code;
@@ -70,6 +70,7 @@ fn made_on(
         "heaps" => work_on(layout, &MakeHeaps, alloc, text, cells),
         "heaps_calls" => work_on(layout, &MakeHeapsAndCall, alloc, text, cells),
         "heaps_grow" => work_on(layout, &MakeHeapsAndGrow, alloc, text, cells),
+        "heaps_extend" => work_on(layout, &MakeHeapsAndExtend, alloc, text, cells),
         "heaps_store" => work_on(layout, &MakeHeapsAndStore, alloc, text, cells),
         _ => return None,
     })

@@ -171,10 +171,10 @@ template <class F> struct Calling {
 #ifdef OFFSET_ALLOCATOR_EXCEPTIONS
     std::exception_ptr thrown;
 
-    template <class T> void pass(const T &value) {
+    template <class G, class T> void guard(G &&call, const T &value) {
         if (thrown) return;
         try {
-            called(value);
+            call(value);
         } catch (...) {
             thrown = std::current_exception();
         }
@@ -184,13 +184,21 @@ template <class F> struct Calling {
         if (thrown) std::rethrow_exception(thrown);
     }
 #else
-    template <class T> void pass(const T &value) { called(value); }
+    template <class G, class T> void guard(G &&call, const T &value) { call(value); }
 
     void finish() {}
 #endif
 
+    template <class T> void pass(const T &value) { guard(called, value); }
+
     static void moved(void *user, oa_move range) {
         static_cast<Calling *>(user)->pass(Move{range.from, range.to, range.size, of(range.allocation)});
+    }
+
+    static void movedIn(void *user, uint32_t heap, oa_move range) {
+        Calling &each = *static_cast<Calling *>(user);
+        const auto in = [&](const Move &move) { each.called(heap, move); };
+        each.guard(in, Move{range.from, range.to, range.size, of(range.allocation)});
     }
 
     static void copied(void *user, uint32_t from, uint32_t to, uint32_t size) {

@@ -1,6 +1,9 @@
 // Many heaps as one, over offset_allocator_heaps.h:
 //
-//     OffsetAllocator::Heaps heaps = OffsetAllocator::Heaps::from({1 << 24, 65536, 64, 16}, 64);
+//     OffsetAllocator::HeapLimits limits(1 << 24, 65536, 64, 16);
+//     limits.firstSize = 1 << 18;    // or not: then all heaps begin with 1 << 24 units
+//     limits.firstAllocs = 64;       // or not: then they begin with 65536 nodes
+//     OffsetAllocator::Heaps heaps(limits);
 //     OffsetAllocator::Granted mesh = heaps.allocate(3000);
 //     if (mesh && mesh.isNew) ...    // make the buffer of number mesh.place.heap, or heaps.giveUp
 //     heaps.free(mesh.place);
@@ -15,11 +18,17 @@
 
 namespace OffsetAllocator {
 
+// As oah_limits, where firstSize 0 means size, and firstAllocs 0 means maxAllocs.
 struct HeapLimits {
     uint32 size;
     uint32 maxAllocs;
     uint32 most;
     uint32 mostLarger;
+    uint32 firstSize;
+    uint32 firstAllocs;
+
+    HeapLimits(uint32 units, uint32 nodes, uint32 usual, uint32 larger, uint32 beginUnits = 0, uint32 beginNodes = 0) noexcept
+        : size(units), maxAllocs(nodes), most(usual), mostLarger(larger), firstSize(beginUnits), firstAllocs(beginNodes) {}
 };
 
 // A granted range, for as long as the grant lives.
@@ -55,12 +64,7 @@ class Heaps {
 public:
     // Where memory is out, or a limit is out of range, it has none: every request is refused.
     explicit Heaps(const HeapLimits &limits, uint32 realm = 0) noexcept
-        : heaps(oah_new({limits.size, limits.maxAllocs, limits.most, limits.mostLarger}, realm)) {}
-
-    // As this, but heaps begin with the node limit firstAllocs, which is doubled as requests need, up to limits.maxAllocs.
-    static Heaps from(const HeapLimits &limits, uint32 firstAllocs, uint32 realm = 0) noexcept {
-        return Heaps(oah_new_from({limits.size, limits.maxAllocs, limits.most, limits.mostLarger}, firstAllocs, realm));
-    }
+        : heaps(oah_new({limits.size, limits.maxAllocs, limits.most, limits.mostLarger, limits.firstSize, limits.firstAllocs}, realm)) {}
 
     // What is moved from has none; a move to itself changes nothing.
     Heaps(Heaps &&other) noexcept : heaps(other.heaps) { other.heaps = nullptr; }
@@ -100,6 +104,10 @@ public:
     Granted allocate(uint32 size) { return of(oah_allocate(heaps, size)); }
     Granted allocateAligned(uint32 size, uint32 align) { return of(oah_allocate_aligned(heaps, size, align)); }
 
+    // From any free block that holds the range, in the first heap that has one.
+    Granted allocateTight(uint32 size) { return of(oah_allocate_tight(heaps, size)); }
+    Granted allocateTightAligned(uint32 size, uint32 align) { return of(oah_allocate_tight_aligned(heaps, size, align)); }
+
     // Whether the place was live; if not, nothing changes.
     bool free(const Place &place) { return oah_free(heaps, in(place)); }
 
@@ -130,7 +138,7 @@ public:
 
     HeapLimits limits() const {
         oah_limits are = oah_limits_of(heaps);
-        return {are.size, are.max_allocs, are.most, are.most_larger};
+        return {are.size, are.max_allocs, are.most, are.most_larger, are.first_size, are.first_allocs};
     }
 
     bool shrink(const Place &place, uint32 size) { return oah_shrink(heaps, in(place), size); }
@@ -139,6 +147,19 @@ public:
     // Why a request would be refused now; granted, if memory for another heap is given.
     HeapRefusal why(uint32 size) const { return HeapRefusal(oah_why(heaps, size)); }
     HeapRefusal whyAligned(uint32 size, uint32 align) const { return HeapRefusal(oah_why_aligned(heaps, size, align)); }
+
+    HeapRefusal whyTight(uint32 size) const { return HeapRefusal(oah_why_tight(heaps, size)); }
+    HeapRefusal whyTightAligned(uint32 size, uint32 align) const { return HeapRefusal(oah_why_tight_aligned(heaps, size, align)); }
+
+    // Adds units at the end of the heap of a number, whose buffer became larger in place: whether it did.
+    bool extendHeap(uint32 number, uint32 more) { return oah_extend_heap(heaps, number, more); }
+
+    // As that of GuardedAllocator, of each heap, by number: calls moved(number, Move).
+    template <class F> void compact(F &&moved) {
+        detail::Calling<F> each(moved);
+        oah_compact(heaps, detail::Calling<F>::movedIn, &each);
+        each.finish();
+    }
 
     // As those of GuardedAllocator, in the heap of a number; the first says whether there is one.
     template <class F> bool compactHeap(uint32 number, F &&moved) {

@@ -548,7 +548,7 @@ class RecordedHeaps {
 public:
     explicit RecordedHeaps(std::FILE *file, const HeapLimits &limits, uint32 realm = 0) noexcept : RecordedHeaps(file, Heaps(limits, realm)) {}
     // Heaps that there are, from now on: as Recorded with one allocator.
-    RecordedHeaps(std::FILE *file, Heaps &&made) noexcept : heaps(std::move(made)), tape(file), next(nullptr), usual(0), maxAllocs(0), most(0), all(0) {
+    RecordedHeaps(std::FILE *file, Heaps &&made) noexcept : heaps(std::move(made)), tape(file), next(nullptr), maxAllocs(0), most(0), all(0) {
         detail::Bytes bytes;
         if (!heaps || !heaps.save(bytes) || bytes.size() == 0) {
             tape.fail();
@@ -556,15 +556,15 @@ public:
         }
         // docs/STATES.md has the form
         auto word = [&](size_t i) { return bytes.number(8 * i, 8); };
-        usual = uint32(word(2));
-        maxAllocs = uint32(word(3));
-        most = uint32(word(5));
-        all = most + uint32(word(6));
+        const HeapLimits limits = heaps.limits();
+        maxAllocs = limits.maxAllocs;
+        most = limits.most;
+        all = most + limits.mostLarger;
         bool hasHeaps = false;
         for (uint32 number = 0; number < all && !tape.isFailed(); number++)
-            if (word(9 + number) != word(10 + number)) {
-                size_t state = 8 * (size_t(all) + 11) + size_t(word(9 + number));
-                // who plays it needs the largest limit that a heap of the usual size may grow to
+            if (word(10 + number) != word(11 + number)) {
+                size_t state = 8 * (size_t(all) + 12) + size_t(word(10 + number));
+                // who plays it needs the largest limit that a usual heap may grow to
                 uint32 nodes = number < most ? maxAllocs : 0;
                 if (Grants *of = grants(number)) of->begin(*this, bytes, detail::spaceBehindTickets(bytes, state), nodes);
                 hasHeaps = true;
@@ -606,6 +606,8 @@ public:
     Granted allocate(uint32 size) { return request(heaps.allocate(size), size, 1); }
     // An alignment of 0 is refused, and not written.
     Granted allocateAligned(uint32 size, uint32 align) { return request(heaps.allocateAligned(size, align), size, align); }
+    Granted allocateTight(uint32 size) { return request(heaps.allocateTight(size), size, 1, true); }
+    Granted allocateTightAligned(uint32 size, uint32 align) { return request(heaps.allocateTightAligned(size, align), size, align, true); }
     // For a place that is not live "none free" is written.
     bool free(const Place &place) {
         uint32 number = numberOf(place);
@@ -628,6 +630,17 @@ public:
         bool isDone = heaps.growInPlace(place, size);
         if (isDone) tape.write("heap %u grow %u %u\n", place.heap, number, size);
         return isDone;
+    }
+    // Where it is not done nothing is written.
+    bool extendHeap(uint32 number, uint32 more) {
+        bool isDone = heaps.extendHeap(number, more);
+        if (isDone) tape.write("heap %u extend %u\n", number, more);
+        return isDone;
+    }
+    // A line for each heap that there is.
+    template <class F> void compact(F &&moved) {
+        heaps.compact(std::forward<F>(moved));
+        each("compact");
     }
     // Of a number that has no heap nothing is written.
     template <class F> bool compactHeap(uint32 number, F &&moved) {
@@ -661,15 +674,22 @@ public:
     // A line for each heap that there is.
     void reset() {
         heaps.reset();
+        each("reset");
+    }
+
+private:
+    // Writes a line for each heap that there is.
+    void each(const char *call) {
         uint32 left = heaps.totals().heaps;
         for (uint32 number = 0; number < all && left; number++)
             if (heaps.has(number)) {
-                tape.write("heap %u reset\n", number);
+                char line[64];
+                std::snprintf(line, sizeof line, "heap %u %s\n", static_cast<unsigned>(number), call);
+                tape.write(static_cast<const char *>(line));
                 left--;
             }
     }
 
-private:
     // The numbers of the grants of one heap, and their names.
     struct Grants : detail::Tape {
         detail::Items<char *> names;
@@ -710,8 +730,8 @@ private:
     detail::Items<Grants *> held;
     // the name of the next request
     char *next;
-    // the limits of heaps of the usual size, and how many of all there may be
-    uint32 usual, maxAllocs, most, all;
+    // the limit of usual heaps, and how many of these and of all there may be
+    uint32 maxAllocs, most, all;
 
     static char *copied(const char *text, const char *more = "") {
         if (!text) return nullptr;
@@ -739,7 +759,7 @@ private:
         else if (!of->granted(place.ticket.name, text)) tape.fail();
     }
     // Only a request that is written takes the name.
-    Granted request(const Granted &found, uint32 units, uint32 align) {
+    Granted request(const Granted &found, uint32 units, uint32 align, bool isTight = false) {
         if (found.refusal == HeapRefusal::badCall) {
             std::free(next);
             next = nullptr;
@@ -750,8 +770,9 @@ private:
             tape.comment(next);
             static const char *const words[] = {"", "empty", "larger", "full", "memory"};
             char line[64];
-            if (align == 1) std::snprintf(line, sizeof line, "none alloc %u %s\n", static_cast<unsigned>(units), words[int(found.refusal)]);
-            else std::snprintf(line, sizeof line, "none align %u %u %s\n", static_cast<unsigned>(units), static_cast<unsigned>(align), words[int(found.refusal)]);
+            const char *word = isTight ? "tight" : align == 1 ? "alloc" : "align";
+            if (align == 1) std::snprintf(line, sizeof line, "none %s %u %s\n", word, static_cast<unsigned>(units), words[int(found.refusal)]);
+            else std::snprintf(line, sizeof line, "none %s %u %u %s\n", word, static_cast<unsigned>(units), static_cast<unsigned>(align), words[int(found.refusal)]);
             tape.write(static_cast<const char *>(line));
             std::free(next);
             next = nullptr;
@@ -760,11 +781,12 @@ private:
         bool isLarger = found.isNew && heap >= most;
         if (found.isNew) {
             if (Grants *of = grants(heap)) of->forget();
-            // a larger heap has the units of its request, and may have three blocks
-            tape.write("heap %u space %u nodes %u index 32\n", heap, isLarger ? units : usual, isLarger ? 4 : maxAllocs);
+            // a larger heap may have three blocks
+            tape.write("heap %u space %u nodes %u index 32\n", heap, heaps.unitsOfHeap(heap), isLarger ? 4 : maxAllocs);
         }
         tape.comment(next);
-        if (isLarger) tape.write("heap %u tight %u\n", heap, units);
+        if (isLarger || (isTight && !found.isNew && align == 1)) tape.write("heap %u tight %u\n", heap, units);
+        else if (isTight && !found.isNew) tape.write("heap %u tight %u %u\n", heap, units, align);
         else if (align == 1 || found.isNew) tape.write("heap %u alloc %u\n", heap, units);
         else tape.write("heap %u align %u %u\n", heap, units, align);
         grant(found.place, next);

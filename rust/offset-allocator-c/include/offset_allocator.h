@@ -161,7 +161,7 @@ typedef enum oa_found {
     OA_BAD_REALM = 11,     /* A realm of more than 32 bits. */
     OA_BAD_SERIAL = 12,    /* A serial that is above the number of grants, or none for a live range. */
     OA_BAD_PLACE = 13,     /* Of many heaps: the state of a heap does not begin where the one before it ends. */
-    OA_BAD_SIZE = 14       /* Of many heaps: a heap of another size or node limit than the limits say. */
+    OA_BAD_SIZE = 14       /* Of many heaps: a heap with fewer units, or another node limit, than the limits say. */
 } oa_found;
 
 /* A space that was read, or null, and what is wrong. at: the place of the byte from which on the bytes are wrong, or their

@@ -1,18 +1,21 @@
 /* Many heaps as one: ranges of as many buffers as are needed, each with a heap of its own.
  *
- *     oah_limits limits = {1 << 24, 65536, 64, 16};
- *     oah_heaps *heaps = oah_new_from(limits, 64, 1);
+ *     oah_limits limits = {.size = 1 << 24, .max_allocs = 65536, .most = 64, .most_larger = 16};
+ *     limits.first_size = 1 << 18;          // or not: then all heaps begin with 1 << 24 units
+ *     limits.first_allocs = 64;             // or not: then they begin with 65536 nodes
+ *     oah_heaps *heaps = oah_new(limits, 1);
  *     oah_granted mesh = oah_allocate(heaps, 3000);
  *     if (mesh.is_new) ...                  // make the buffer of number mesh.place.heap, or oah_give_up
  *     oah_offset_of(heaps, mesh.place);     // where the range begins in it
  *     oah_free(heaps, mesh.place);
  *     for (uint32_t n; (n = oah_drop_empty(heaps, 1)) != OA_NO_SPACE;) ...    // drop the buffer of number n
  *
- * Heaps of the usual size have the numbers below most, larger ones those from most on. Nothing is known of the buffers.
+ * Usual heaps have the numbers below most, larger ones those from most on. Nothing is known of the buffers.
  * Every call takes any place: one that is stale, altered, made up, or of other heaps with another realm is refused by the
- * result, and nothing changes. No call takes memory but a request that makes a heap, or for which one grows (oah_new_from), and
- * oah_new, oah_new_from, oah_clone, oah_write_state, oah_read_state and oah_json. Any pointer to heaps may be null. Several threads may read at a time; none may read or write while
- * another writes. */
+ * result, and nothing changes. No call takes memory but a request that makes a heap, or one for which, as for
+ * oah_extend_heap, a heap gets more nodes (first_allocs), and oah_new, oah_clone, oah_write_state, oah_read_state and
+ * oah_json. Any pointer to heaps may be null. Several threads may read at a time; none may read or write while another
+ * writes. */
 #ifndef OFFSET_ALLOCATOR_HEAPS_H
 #define OFFSET_ALLOCATOR_HEAPS_H
 
@@ -25,14 +28,26 @@ extern "C" {
 /* Many heaps. */
 typedef struct oah_heaps oah_heaps;
 
-/* size: the units of a heap of the usual size. max_allocs: its node limit, 4 to 4294967293 (a larger heap has 4), or the
- * largest that it may grow to (oah_new_from). most: how many such heaps there may be at a time. most_larger: how many larger
- * ones, each of the size of the request that it was made for. */
+/* What heaps are, and how many there may be. A field that is left out is 0.
+ *
+ * size: the units of a usual heap. max_allocs: its node limit, 4 to 4294967293 (a larger heap has 4). most: how many usual
+ * heaps there may be at a time. most_larger: how many larger ones, each of the size of the request that it was made for.
+ *
+ * first_size: 0, and all usual heaps have that size; or the units of the usual heap of number 0, at most size: the one of
+ * number 1 has twice as many, that of number 2 four times, and so on, up to size. A heap is made at the first number that
+ * has none and whose heap has room for the request.
+ *
+ * first_allocs: 0, and a usual heap has the node limit max_allocs; or the limit that it begins with, at least 8 and at most
+ * max_allocs: it takes memory for the nodes of its limit, and before a grant that finds fewer than five unused nodes the
+ * limit is doubled, up to max_allocs. Which request is granted, and where, is the same, but oah_relocate takes no memory: a
+ * heap that would have to get nodes takes no range. */
 typedef struct oah_limits {
     uint32_t size;
     uint32_t max_allocs;
     uint32_t most;
     uint32_t most_larger;
+    uint32_t first_size;
+    uint32_t first_allocs;
 } oah_limits;
 
 /* A granted range, of 24 bytes. ticket: its ticket in its heap, whose serial is 0 for a refused request. heap: the number of
@@ -75,12 +90,6 @@ typedef struct oah_all {
  * limit is out of range, there may be more than 4294967295 heaps, or memory is out. */
 oah_heaps *oah_new(oah_limits limits, uint32_t realm);
 
-/* As oah_new, where max_allocs is the largest node limit, and a heap of the usual size begins with the limit first_allocs,
- * max_allocs itself or at least 8 and at most max_allocs: a heap takes memory for the nodes of its limit, and before a grant
- * that finds fewer than five unused nodes the limit is doubled, up to max_allocs. Which request is granted, and where, is as
- * with oah_new, but oah_relocate takes no memory: a heap that would have to grow takes no range. */
-oah_heaps *oah_new_from(oah_limits limits, uint32_t first_allocs, uint32_t realm);
-
 /* Frees the memory of all heaps. A null pointer is allowed. */
 void oah_drop(oah_heaps *heaps);
 
@@ -88,13 +97,13 @@ void oah_drop(oah_heaps *heaps);
  * the one that was copied: later grants of both may have the same place. Null where memory is out, or heaps is null. */
 oah_heaps *oah_clone(const oah_heaps *heaps);
 
-/* The bytes of the state of all heaps: 80, 8 for each number, and those of oag_write_state for each heap. Null where memory
+/* The bytes of the state of all heaps: 96, 8 for each number, and those of oag_write_state for each heap. Null where memory
  * is out, or heaps is null. To be dropped by oa_state_drop. */
 oa_state *oah_write_state(const oah_heaps *heaps);
 
 /* Heaps that were read, or null, and what is wrong, and where: OA_BAD_LIMIT of limits that are not admitted, OA_BAD_COUNTS of
- * a realm or a count of more than 32 bits, OA_BAD_REALM of a heap that was not made, OA_BAD_SIZE of one of another size or
- * node limit than the limits say, too. */
+ * a realm or a count of more than 32 bits, OA_BAD_REALM of a heap that was not made, OA_BAD_SIZE of one of fewer units than
+ * its number has, or of another node limit than the limits say, too. */
 typedef struct oah_read {
     oah_heaps *heaps;
     oa_found found;
@@ -110,14 +119,21 @@ oah_read oah_read_state(const oa_state *state, uint32_t most_heaps, uint32_t mos
 /* Makes the space of each heap free. No earlier place is live then. All heaps stay, for oah_drop_empty. */
 void oah_reset(oah_heaps *heaps);
 
-/* Grants `size` units of the first heap, by number, that has room; where none has, of a new heap: of the usual size if a
- * fresh one has room, else of exactly `size` units. Where it is refused, nothing changes.
+/* Grants `size` units of the first heap, by number, that has room; where none has, of a new heap: a usual one if the
+ * last of these has room when fresh, else one of exactly `size` units. Where it is refused, nothing changes.
  * Cost: that of oag_allocate, and some steps for each bit of the numbers. */
 oah_granted oah_allocate(oah_heaps *heaps, uint32_t size);
 
 /* The same at a multiple of align, which is at least 1, in the heap: one that is there needs room for size + align - 1 units, a
  * new one for size, since its first range begins at 0. */
 oah_granted oah_allocate_aligned(oah_heaps *heaps, uint32_t size, uint32_t align);
+
+/* The same from any free block that holds the range: of the first heap, by number, that has such a block, where the block is,
+ * and unused nodes; where none has, a heap is made as by oah_allocate_aligned. So heaps that are nearly full are filled.
+ * Cost: each number is read up to that of the heap, and in each heap the free blocks of the class of `size` or above, up to
+ * the first that holds the range. */
+oah_granted oah_allocate_tight(oah_heaps *heaps, uint32_t size);
+oah_granted oah_allocate_tight_aligned(oah_heaps *heaps, uint32_t size, uint32_t align);
 
 /* Frees the range of a place. True if it was live; else nothing changes. Its heap stays, for oah_drop_empty. */
 bool oah_free(oah_heaps *heaps, oah_place place);
@@ -186,7 +202,8 @@ uint32_t oah_heap_after(const oah_heaps *heaps, uint32_t number);
 /* The units of the heap of a number: what the buffer of a new heap needs. 0 where the number has none. */
 uint32_t oah_units_of_heap(const oah_heaps *heaps, uint32_t number);
 
-/* The limits, as oah_new was given them, or the heaps had them that were read; all 0 for null. */
+/* The limits, with which oah_new makes heaps that are alike: as it was given them, or the heaps had them that were read, with
+ * size and max_allocs where first_size and first_allocs were 0. All are 0 for null. */
 oah_limits oah_limits_of(const oah_heaps *heaps);
 
 /* As oag_shrink and oag_grow_in_place, in the heap of a place: true if done. False, and nothing changes, also where the place
@@ -199,9 +216,21 @@ bool oah_grow_in_place(oah_heaps *heaps, oah_place place, uint32_t size);
 oah_refusal oah_why(const oah_heaps *heaps, uint32_t size);
 oah_refusal oah_why_aligned(const oah_heaps *heaps, uint32_t size, uint32_t align);
 
+/* The same of oah_allocate_tight and oah_allocate_tight_aligned. Cost: that of these. */
+oah_refusal oah_why_tight(const oah_heaps *heaps, uint32_t size);
+oah_refusal oah_why_tight_aligned(const oah_heaps *heaps, uint32_t size, uint32_t align);
+
+/* As oag_extend, of the heap of a number, whose buffer became larger in place: true if done. Every place keeps its range. A
+ * usual heap that has fewer than five unused nodes, and may have more, gets them first, as before a grant. False,
+ * and nothing changes, also where the number has no heap, or the memory for these was refused. */
+bool oah_extend_heap(oah_heaps *heaps, uint32_t number, uint32_t more);
+
 /* As oag_compact, of the heap of a number: true if there is one. Every place stays live; a range that moves begins at
  * oah_offset_of from then on. The moves are within the buffer of that number. */
 bool oah_compact_heap(oah_heaps *heaps, uint32_t number, void (*moved)(void *user, oa_move range), void *user);
+
+/* The same of each heap, by number: `moved` is called with the number of the heap and each move in it. */
+void oah_compact(oah_heaps *heaps, void (*moved)(void *user, uint32_t heap, oa_move range), void *user);
 
 /* As oag_make_room, in the heap of a number. oah_allocate takes the first heap that has room. */
 oa_room oah_make_room(oah_heaps *heaps, uint32_t number, uint32_t size, void (*moved)(void *user, oa_move range), void *user);

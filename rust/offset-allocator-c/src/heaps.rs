@@ -4,10 +4,11 @@ use core::ffi::c_void;
 use core::ptr::NonNull;
 
 use offset_allocator_heaps::{json_of, Global, Granted, Heaps, Limits, Place, ReadError, Refusal, StateFaultKind, Ticket};
+use offset_allocator_proved::Move;
 
 use crate::{
-    boxed, calls, guarded_fault, room, short, text, totals, Callback, Found, Guard, Report, Room, State, Text, Totals, NO_REPORT, NO_SPACE,
-    NO_TICKET,
+    boxed, calls, guarded_fault, room, seen, short, text, totals, Callback, Found, Guard, Moved, Report, Room, State, Text, Totals, NO_REPORT,
+    NO_SPACE, NO_TICKET,
 };
 
 /// Many heaps, as C holds them.
@@ -21,6 +22,9 @@ pub struct HeapLimits {
     max_allocs: u32,
     most: u32,
     most_larger: u32,
+    // of these 0 means size, and max_allocs
+    first_size: u32,
+    first_allocs: u32,
 }
 
 /// A granted range: its ticket, the number of its heap, and the realm.
@@ -72,9 +76,14 @@ pub struct HeapsRead {
     at: usize,
 }
 
+/// What C passes to be called with the number of a heap and each move in it.
+pub type HeapCallback = extern "C" fn(Option<NonNull<c_void>>, u32, Moved);
+
 const NOWHERE: At = At { ticket: NO_TICKET, heap: NO_SPACE, realm: 0 };
 
 const BAD_CALL: Answer = Answer { place: NOWHERE, is_new: false, refusal: Why::BadCall };
+
+const NO_LIMITS: HeapLimits = HeapLimits { size: 0, max_allocs: 0, most: 0, most_larger: 0, first_size: 0, first_allocs: 0 };
 
 const NOTHING_AT_ALL: All = All { heaps: 0, largest_free_region: 0, units: 0, live_units: 0, free_units: 0 };
 
@@ -108,6 +117,15 @@ fn place(at: At) -> Place {
     Place { heap: at.heap, realm: at.realm, ticket: Ticket { offset: 0, name, serial, realm } }
 }
 
+// Calls C with the number of a heap and each move in it, where it passed a function.
+fn calls_at(moved: Option<HeapCallback>, user: Option<NonNull<c_void>>) -> impl FnMut(u32, Move) {
+    move |heap, range| {
+        if let Some(moved) = moved {
+            moved(user, heap, seen(range));
+        }
+    }
+}
+
 fn fault(kind: StateFaultKind) -> Found {
     match kind {
         StateFaultKind::Length => Found::Length,
@@ -135,22 +153,25 @@ fn read(state: &[u8], most_heaps: u32, most_allocs: u32) -> HeapsRead {
     }
 }
 
-// Heaps that begin with so many nodes, where the library admits these limits.
-fn from(limits: HeapLimits, first_allocs: u32, realm: u32) -> Option<Box<ManyHeaps>> {
-    let HeapLimits { size, max_allocs, most, most_larger } = limits;
-    let begins = (max_allocs.min(8)..=max_allocs).contains(&first_allocs);
+// What is left out is as large as it may be.
+fn or(first: u32, largest: u32) -> u32 {
+    if first == 0 { largest } else { first }
+}
+
+// No heap yet, where the library admits these limits.
+fn made(limits: HeapLimits, realm: u32) -> Option<Box<ManyHeaps>> {
+    let HeapLimits { size, max_allocs, most, most_larger, first_size, first_allocs } = limits;
+    let first_size = or(first_size, size);
+    let first_allocs = or(first_allocs, max_allocs);
+    let begins = first_size <= size && (max_allocs.min(8)..=max_allocs).contains(&first_allocs);
     if !begins || !(4..=u32::MAX - 2).contains(&max_allocs) || most.checked_add(most_larger).is_none() {
         return None;
     }
-    boxed(Heaps::new(Global, Limits { size, max_allocs, first_allocs, most, most_larger }, realm).ok()?)
+    boxed(Heaps::new(Global, Limits { size, first_size, max_allocs, first_allocs, most, most_larger }, realm).ok()?)
 }
 
 exports! {
-    fn oah_new(limits: HeapLimits, realm: u32) -> Option<Box<ManyHeaps>> { from(limits, limits.max_allocs, realm) } else ();
-
-    fn oah_new_from(limits: HeapLimits, first_allocs: u32, realm: u32) -> Option<Box<ManyHeaps>> {
-        from(limits, first_allocs, realm)
-    } else ();
+    fn oah_new(limits: HeapLimits, realm: u32) -> Option<Box<ManyHeaps>> { made(limits, realm) } else ();
 
     fn oah_drop(heaps: Option<Box<ManyHeaps>>) -> () { drop(heaps) } else ();
 
@@ -170,6 +191,14 @@ exports! {
 
     fn oah_allocate_aligned([heaps: &mut ManyHeaps], size: u32, align: u32) -> Answer {
         if align != 0 { answer(heaps.allocate_aligned(size, align)) } else { BAD_CALL }
+    } else BAD_CALL;
+
+    fn oah_allocate_tight([heaps: &mut ManyHeaps], size: u32) -> Answer {
+        answer(heaps.allocate_tight(size))
+    } else BAD_CALL;
+
+    fn oah_allocate_tight_aligned([heaps: &mut ManyHeaps], size: u32, align: u32) -> Answer {
+        if align != 0 { answer(heaps.allocate_tight_aligned(size, align)) } else { BAD_CALL }
     } else BAD_CALL;
 
     fn oah_free([heaps: &mut ManyHeaps], at: At) -> bool { heaps.free(place(at)) } else false;
@@ -211,9 +240,9 @@ exports! {
     fn oah_units_of_heap([heaps: &ManyHeaps], number: u32) -> u32 { heaps.units_of_heap(number).unwrap_or(0) } else 0;
 
     fn oah_limits_of([heaps: &ManyHeaps],) -> HeapLimits {
-        let Limits { size, max_allocs, most, most_larger, .. } = heaps.limits();
-        HeapLimits { size, max_allocs, most, most_larger }
-    } else HeapLimits { size: 0, max_allocs: 0, most: 0, most_larger: 0 };
+        let Limits { size, first_size, max_allocs, first_allocs, most, most_larger } = heaps.limits();
+        HeapLimits { size, max_allocs, most, most_larger, first_size, first_allocs }
+    } else NO_LIMITS;
 
     fn oah_shrink([heaps: &mut ManyHeaps], at: At, size: u32) -> bool {
         heaps.shrink(place(at), size).unwrap_or(false)
@@ -229,6 +258,16 @@ exports! {
         if align != 0 { why(heaps.refusal_aligned(size, align)) } else { Why::BadCall }
     } else Why::BadCall;
 
+    fn oah_why_tight([heaps: &ManyHeaps], size: u32) -> Why { why(heaps.refusal_tight(size)) } else Why::BadCall;
+
+    fn oah_why_tight_aligned([heaps: &ManyHeaps], size: u32, align: u32) -> Why {
+        if align != 0 { why(heaps.refusal_tight_aligned(size, align)) } else { Why::BadCall }
+    } else Why::BadCall;
+
+    fn oah_extend_heap([heaps: &mut ManyHeaps], number: u32, more: u32) -> bool {
+        heaps.extend_heap(number, more).unwrap_or(false)
+    } else false;
+
     fn oah_compact_heap(
         [heaps: &mut ManyHeaps],
         number: u32,
@@ -237,6 +276,14 @@ exports! {
     ) -> bool {
         heaps.compact_heap(number, &mut calls(moved, user))
     } else false;
+
+    fn oah_compact(
+        [heaps: &mut ManyHeaps],
+        moved: Option<HeapCallback>,
+        user: Option<NonNull<c_void>>
+    ) -> () {
+        heaps.compact(calls_at(moved, user))
+    } else ();
 
     fn oah_make_room(
         [heaps: &mut ManyHeaps],

@@ -402,12 +402,16 @@ pub type Callback = extern "C" fn(Option<NonNull<c_void>>, Moved);
 /// What C passes to be called with each piece of a move: from, to and size.
 pub type Copying = extern "C" fn(Option<NonNull<c_void>>, u32, u32, u32);
 
+// A move, as C sees it.
+fn seen(range: Move) -> Moved {
+    Moved { from: range.from, to: range.to, size: range.size, allocation: handle(Some(range.allocation())) }
+}
+
 // Calls C with each move, where it passed a function.
 fn calls(moved: Option<Callback>, user: Option<NonNull<c_void>>) -> impl FnMut(Move) {
     move |range| {
-        let (from, to, size, allocation) = (range.from, range.to, range.size, handle(Some(range.allocation())));
         if let Some(moved) = moved {
-            moved(user, Moved { from, to, size, allocation });
+            moved(user, seen(range));
         }
     }
 }

@@ -64,7 +64,7 @@ static uint8_t *put_tickets(uint8_t *at, uint64_t realm, size_t fault) {
 }
 
 int main(void) {
-    const size_t own = 48 + 8 * 4 + 64, before = 88 + 8 * 2;
+    const size_t own = 48 + 8 * 4 + 64, before = 96 + 8 * 2;
     for (size_t n = 0; n < FAULTS; n++) {
         oa_state *bytes = oa_state_new(64);
         put_space(oa_state_bytes(bytes), n);
@@ -81,8 +81,8 @@ int main(void) {
         oa_state_drop(bytes);
 
         bytes = oa_state_new(before + 2 * own);
-        const uint64_t numbers[] = {1397244239, 2, 100, 6, 6, 2, 0, 2, 9, 0, own, 2 * own};
-        uint8_t *at = put_all(oa_state_bytes(bytes), numbers, 12);
+        const uint64_t numbers[] = {1397244239, 3, 100, 100, 6, 6, 2, 0, 2, 9, 0, own, 2 * own};
+        uint8_t *at = put_all(oa_state_bytes(bytes), numbers, 13);
         put_tickets(put_tickets(at, 1, FAULTS), 2, n);
         oah_read heaps = oah_read_state(bytes, 2, 6);
         CHECK(heaps.found == faults[n].found && heaps.at == before + own + own - 64 + faults[n].at);

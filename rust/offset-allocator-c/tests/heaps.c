@@ -10,7 +10,7 @@ static int checks;
 
 static void grows_and_drops(void) {
     /* 100 units are filed as 96, so of each page 96 units are granted at first, and then the other 4 */
-    oah_limits limits = {100, 8, 2, 2};
+    oah_limits limits = {.size = 100, .max_allocs = 8, .most = 2, .most_larger = 2};
     oah_heaps *heaps = oah_new(limits, 9);
     CHECK(heaps && !oah_has(heaps, 0) && oah_totals(heaps).heaps == 0);
     oah_granted a = oah_allocate(heaps, 60), b = oah_allocate(heaps, 60), c = oah_allocate(heaps, 36);
@@ -60,7 +60,7 @@ static void grows_and_drops(void) {
 
 /* The first range of a heap begins at 0, a multiple of every alignment: a page at an alignment fits a page. */
 static void aligned_pages(void) {
-    oah_limits limits = {1024, 8, 2, 1};
+    oah_limits limits = {.size = 1024, .max_allocs = 8, .most = 2, .most_larger = 1};
     oah_heaps *heaps = oah_new(limits, 9);
     oah_granted a = oah_allocate_aligned(heaps, 1024, 256), b = oah_allocate_aligned(heaps, 1024, 1u << 31);
     CHECK(a.is_new && a.place.heap == 0 && oah_offset_of(heaps, a.place) == 0);
@@ -77,7 +77,7 @@ static int same(oah_place a, oah_place b) {
 
 /* Three heaps of 96 units, of which live ranges of 70, 30 and 50 stay: the second is emptied into the others. */
 static void relocates(void) {
-    oah_limits limits = {96, 8, 3, 0};
+    oah_limits limits = {.size = 96, .max_allocs = 8, .most = 3, .most_larger = 0};
     oah_heaps *heaps = oah_new(limits, 9);
     CHECK(oah_emptiest(heaps) == OA_NO_SPACE && !oah_last_live(heaps, 0).ticket.serial);
     oah_place a = oah_allocate(heaps, 70).place, gone = oah_allocate(heaps, 26).place;
@@ -101,7 +101,7 @@ static void relocates(void) {
 
 /* Two heaps of 96 units: behind 41 live ones a second range of 20 begins at 64, at a multiple of 32, and another at 41. */
 static void relocates_aligned(void) {
-    oah_limits limits = {96, 8, 2, 0};
+    oah_limits limits = {.size = 96, .max_allocs = 8, .most = 2, .most_larger = 0};
     oah_heaps *heaps = oah_new(limits, 9);
     oah_place first = oah_allocate(heaps, 41).place, gone = oah_allocate(heaps, 52).place, c = oah_allocate(heaps, 20).place;
     CHECK(first.heap == 0 && gone.heap == 0 && c.heap == 1 && oah_free(heaps, gone));
@@ -115,7 +115,7 @@ static void relocates_aligned(void) {
     CHECK(!oah_relocate_aligned(NULL, c, 1).ticket.serial && !oah_relocate_aligned(heaps, c, 0).ticket.serial);
     oah_drop(heaps);
     /* behind 5 units, 10 at a multiple of 12, and then 10 at a multiple of 48 */
-    heaps = oah_new((oah_limits){100, 8, 1, 0}, 9);
+    heaps = oah_new((oah_limits){.size = 100, .max_allocs = 8, .most = 1, .most_larger = 0}, 9);
     oah_allocate(heaps, 5);
     CHECK(oah_offset_of(heaps, oah_allocate_aligned(heaps, 10, 12).place) == 12);
     CHECK(oah_offset_of(heaps, oah_allocate_aligned(heaps, 10, 48).place) == 48);
@@ -124,21 +124,21 @@ static void relocates_aligned(void) {
 
 /* Two heaps of 100 units and room for a larger one, of which number 1 was given up: written by hand. */
 static void states(void) {
-    oah_limits limits = {100, 4, 2, 1};
+    oah_limits limits = {.size = 100, .max_allocs = 4, .most = 2, .most_larger = 1};
     oah_heaps *heaps = oah_new(limits, 9);
     oah_place a = oah_allocate(heaps, 60).place;
     CHECK(oah_allocate(heaps, 60).is_new && oah_give_up(heaps, 1));
     oa_state *state = oah_write_state(heaps);
     /* one block is live and one is free, and each of 2 nodes was granted or may be: 48 and at most 16, and 32, 16 and 4 */
-    size_t own = oa_state_size(state) - 88 - 3 * 8;
+    size_t own = oa_state_size(state) - 96 - 3 * 8;
     CHECK(own == 48 + 8 * 2 + 32 + 2 * 8 + 4);
-    uint64_t numbers[] = {1397244239, 2, 100, 4, 4, 2, 1, 2, 9, 0, own, own, own}, sum = 0;
-    for (int i = 0; i < 13; i++) {
+    uint64_t numbers[] = {1397244239, 3, 100, 100, 4, 4, 2, 1, 2, 9, 0, own, own, own}, sum = 0;
+    for (int i = 0; i < 14; i++) {
         sum = sum * 1099511628211u + numbers[i];
         for (int j = 0; j < 8; j++) CHECK(oa_state_bytes(state)[8 * i + j] == (uint8_t) (numbers[i] >> 8 * j));
     }
-    for (int j = 0; j < 8; j++) CHECK(oa_state_bytes(state)[104 + j] == (uint8_t) (sum >> 8 * j));
-    CHECK(memcmp(oa_state_bytes(state) + 112, "OATK", 4) == 0);
+    for (int j = 0; j < 8; j++) CHECK(oa_state_bytes(state)[112 + j] == (uint8_t) (sum >> 8 * j));
+    CHECK(memcmp(oa_state_bytes(state) + 120, "OATK", 4) == 0);
     oah_heaps *copy = oah_clone(heaps);
     CHECK(copy && oah_is_live(copy, a) && oah_free(heaps, a) && oah_is_live(copy, a));
     oah_drop(heaps);
@@ -152,34 +152,35 @@ static void states(void) {
     CHECK(oah_free(read.heaps, a) && !oah_free(read.heaps, a));
     oah_drop(read.heaps);
     read = oah_read_state(state, 2, 4);
-    CHECK(!read.heaps && read.found == OA_BAD_LIMIT && read.at == 48);
+    CHECK(!read.heaps && read.found == OA_BAD_LIMIT && read.at == 56);
     read = oah_read_state(state, 3, 3);
-    CHECK(!read.heaps && read.found == OA_BAD_LIMIT && read.at == 24);
+    CHECK(!read.heaps && read.found == OA_BAD_LIMIT && read.at == 32);
     for (size_t i = 0; i < oa_state_size(state); i++) {
         oa_state_bytes(state)[i] ^= 128;
         read = oah_read_state(state, 1000, 1000);
         CHECK(!read.heaps && read.found != OA_SPACE_READ && read.found != OA_OUT_OF_MEMORY && read.at <= oa_state_size(state));
         oa_state_bytes(state)[i] ^= 128;
     }
-    /* numbers that are wrong, with the checksum of them */
+    /* numbers that are wrong, with the checksum of them; the first size is that of all heaps */
     static const struct { int place; uint64_t number; oa_found found; size_t at; } wrong[] = {
         {0, 1397244240, OA_BAD_FORM, 0}, {1, 1, OA_BAD_FORM, 0}, {2, 1ull << 32, OA_BAD_LIMIT, 16},
-        {2, 99, OA_BAD_SIZE, 112}, {3, 5, OA_BAD_LIMIT, 32}, {3, 3, OA_BAD_LIMIT, 24}, {4, 5, OA_BAD_LIMIT, 32}, {4, 3, OA_BAD_LIMIT, 32},
-        {5, 1ull << 63, OA_BAD_LIMIT, 40}, {6, 1001, OA_BAD_LIMIT, 48},
-        {7, 1ull << 32, OA_BAD_COUNTS, 56}, {7, 0, OA_BAD_REALM, 112 + 32}, {8, 1ull << 32, OA_BAD_COUNTS, 64},
-        {9, 1, OA_BAD_PLACE, 72}, {10, 1000, OA_BAD_PLACE, 80}, {10, 0, OA_BAD_PLACE, 0}, {12, 0, OA_BAD_PLACE, 96},
+        {2, 101, OA_BAD_SIZE, 120}, {3, 0, OA_BAD_LIMIT, 24}, {3, 101, OA_BAD_LIMIT, 24}, {4, 5, OA_BAD_LIMIT, 40}, {4, 3, OA_BAD_LIMIT, 32},
+        {5, 5, OA_BAD_LIMIT, 40}, {5, 3, OA_BAD_LIMIT, 40}, {6, 1ull << 63, OA_BAD_LIMIT, 48}, {7, 1001, OA_BAD_LIMIT, 56},
+        {8, 1ull << 32, OA_BAD_COUNTS, 64}, {8, 0, OA_BAD_REALM, 120 + 32}, {9, 1ull << 32, OA_BAD_COUNTS, 72},
+        {10, 1, OA_BAD_PLACE, 80}, {11, 1000, OA_BAD_PLACE, 88}, {11, 0, OA_BAD_PLACE, 0}, {13, 0, OA_BAD_PLACE, 104},
     };
     for (size_t n = 0; n < sizeof wrong / sizeof *wrong; n++) {
         oa_state *changed = oa_state_new(oa_state_size(state));
         memcpy(oa_state_bytes(changed), oa_state_bytes(state), oa_state_size(state));
         sum = 0;
-        for (int i = 0; i < 14; i++) {
-            uint64_t number = i == 13 ? sum : i == wrong[n].place ? wrong[n].number : numbers[i];
+        for (int i = 0; i < 15; i++) {
+            int is_changed = i == wrong[n].place || (i == 3 && wrong[n].place == 2);
+            uint64_t number = i == 14 ? sum : is_changed ? wrong[n].number : numbers[i];
             sum = sum * 1099511628211u + number;
             for (int j = 0; j < 8; j++) oa_state_bytes(changed)[8 * i + j] = (uint8_t) (number >> 8 * j);
         }
         read = oah_read_state(changed, 1000, 1000);
-        if (wrong[n].place == 10 && wrong[n].number == 0) {
+        if (wrong[n].place == 11 && wrong[n].number == 0) {
             /* the bytes are those of heap 1 then */
             CHECK(read.found == OA_SPACE_READ && !oah_has(read.heaps, 0) && oah_has(read.heaps, 1) && !oah_is_live(read.heaps, a));
             oah_drop(read.heaps);
@@ -192,6 +193,7 @@ static void states(void) {
     /* a state of tickets is none of many heaps */
     oa_state_drop(state);
     oag_allocator *one = oag_new(100, 4, 9);
+    CHECK(oag_allocate(one, 60).serial);
     state = oag_write_state(one);
     CHECK(oah_read_state(state, 3, 4).found == OA_BAD_FORM);
     oa_state_drop(state);
@@ -207,7 +209,7 @@ static void note_move(void *user, oa_move range) {
 
 /* Sizes of ranges, walks, what would be refused, and heaps that are compacted. */
 static void in_place(void) {
-    oah_limits limits = {100, 8, 2, 2};
+    oah_limits limits = {.size = 100, .max_allocs = 8, .most = 2, .most_larger = 2};
     oah_heaps *heaps = oah_new(limits, 9);
     CHECK(oah_first_heap(heaps) == OA_NO_SPACE && !oah_first_place(heaps).ticket.serial);
     oah_place a = oah_allocate(heaps, 60).place, b = oah_allocate(heaps, 30).place;
@@ -229,15 +231,53 @@ static void in_place(void) {
     CHECK(!oah_make_room(heaps, 0, 101, NULL, NULL).possible && !oah_make_room(heaps, 9, 1, NULL, NULL).possible);
     oah_limits same = oah_limits_of(heaps);
     CHECK(same.size == 100 && same.max_allocs == 8 && same.most == 2 && same.most_larger == 2);
+    CHECK(same.first_size == 100 && same.first_allocs == 8);
+    oah_drop(heaps);
+}
+
+static uint32_t moved_in[2];
+
+static void note_move_in(void *user, uint32_t heap, oa_move range) {
+    (void) user;
+    moved_in[heap] += range.size;
+}
+
+/* Heaps that become larger, tight requests, and all heaps compacted. */
+static void filled(void) {
+    oah_limits limits = {100, 8, 2, 0};
+    oah_heaps *heaps = oah_new(limits, 9);
+    oah_place hole = oah_allocate(heaps, 21).place, rest = oah_allocate(heaps, 70).place;
+    /* a request of 21 units is rounded up to 22, and of the last 9 units 4 begin at a multiple of 16 */
+    CHECK(oah_free(heaps, hole) && oah_why_tight(heaps, 21) == OAH_GRANTED && oah_allocate_tight(heaps, 21).place.heap == 0);
+    oah_place last = oah_allocate_tight_aligned(heaps, 4, 16).place;
+    CHECK(last.heap == 0 && oah_offset_of(heaps, last) == 96 && oah_storage_report(heaps, 0).total_free_space == 5);
+    oah_granted other = oah_allocate_tight(heaps, 90);
+    CHECK(other.is_new && other.place.heap == 1 && oah_why_tight(heaps, 11) == OAH_FULL && oah_why_tight_aligned(heaps, 97, 8) == OAH_TOO_LARGE);
+    CHECK(oah_allocate_tight(heaps, 11).refusal == OAH_FULL && oah_allocate_tight_aligned(heaps, 1, 0).refusal == OAH_BAD_CALL);
+    CHECK(oah_extend_heap(heaps, 1, 30) && oah_units_of_heap(heaps, 1) == 130 && !oah_extend_heap(heaps, 2, 1) && !oah_extend_heap(heaps, 1, 4294967295u));
+    CHECK(oah_why_tight_aligned(heaps, 1, 0) == OAH_BAD_CALL && oah_allocate_tight(heaps, 40).place.heap == 1);
+    CHECK(oah_free(heaps, rest) && oah_free(heaps, other.place));
+    oah_compact(heaps, note_move_in, NULL);
+    CHECK(moved_in[0] == 4 && moved_in[1] == 40 && oah_offset_of(heaps, last) == 21);
+    /* a heap that is larger than the limits say is read again */
+    oa_state *state = oah_write_state(heaps);
+    oah_read read = oah_read_state(state, 2, 8);
+    CHECK(read.heaps && oah_units_of_heap(read.heaps, 1) == 130 && oah_offset_of(read.heaps, last) == 21);
+    oa_state_drop(state);
+    oah_drop(read.heaps);
+    /* once it is dropped, its number has the usual size again */
+    CHECK(oah_give_up(heaps, 1) && oah_allocate(heaps, 90).place.heap == 1 && oah_units_of_heap(heaps, 1) == 100);
     oah_drop(heaps);
 }
 
 /* A heap begins with 8 nodes, which are doubled before a grant that finds fewer than five unused, up to 40; a larger heap has 4. */
 static void heaps_grow(void) {
-    oah_limits limits = {200, 40, 2, 1};
-    oah_heaps *heaps = oah_new_from(limits, 8, 9), *whole = oah_new_from(limits, 40, 9), *plain = oah_new(limits, 9);
-    CHECK(heaps && whole && plain);
-    CHECK(!oah_new_from(limits, 7, 9) && !oah_new_from(limits, 41, 9) && !oah_new_from((oah_limits){200, 7, 2, 1}, 6, 9));
+    oah_limits limits = {.size = 200, .max_allocs = 40, .most = 2, .most_larger = 1};
+    oah_limits small = limits, all = limits, less = limits, more = limits, six = {.size = 200, .max_allocs = 7, .most = 2, .first_allocs = 6};
+    small.first_allocs = 8, all.first_allocs = 40, less.first_allocs = 7, more.first_allocs = 41;
+    oah_heaps *heaps = oah_new(small, 9), *whole = oah_new(all, 9), *plain = oah_new(limits, 9);
+    CHECK(heaps && whole && plain && oah_limits_of(heaps).first_allocs == 8 && oah_limits_of(plain).first_allocs == 40);
+    CHECK(!oah_new(less, 9) && !oah_new(more, 9) && !oah_new(six, 9));
     uint32_t limit = 8, grown = 0;
     for (uint32_t live = 1; live <= 38; live++) {
         oah_granted one = oah_allocate(heaps, 1), same = oah_allocate(plain, 1);
@@ -261,6 +301,40 @@ static void heaps_grow(void) {
     oah_drop(plain);
 }
 
+/* The heaps of numbers 0 to 4 have 256, 512 and thrice 1024 units. A heap is made at the first number that has none and whose
+ * heap has room. */
+static void heaps_double(void) {
+    oah_limits limits = {.size = 1024, .max_allocs = 8, .most = 5, .most_larger = 1, .first_size = 256};
+    oah_heaps *heaps = oah_new(limits, 9);
+    static const uint32_t sizes[] = {256, 512, 1024, 1024, 1024};
+    oah_granted all[5];
+    for (uint32_t number = 0; number < 5; number++) {
+        all[number] = oah_allocate(heaps, sizes[number]);
+        CHECK(all[number].is_new && all[number].place.heap == number && oah_units_of_heap(heaps, number) == sizes[number]);
+    }
+    CHECK(oah_allocate(heaps, 1).refusal == OAH_FULL && oah_allocate(heaps, 1025).place.heap == 5);
+    /* a dropped heap is made again with its size, and is passed over where it has too few units */
+    CHECK(oah_free(heaps, all[0].place) && oah_drop_heap(heaps, 0) && oah_free(heaps, all[1].place) && oah_drop_heap(heaps, 1));
+    CHECK(oah_why(heaps, 513) == OAH_FULL);
+    oah_granted large = oah_allocate(heaps, 300), small = oah_allocate(heaps, 256);
+    CHECK(large.is_new && large.place.heap == 1 && oah_units_of_heap(heaps, 1) == 512);
+    CHECK(small.is_new && small.place.heap == 0 && oah_units_of_heap(heaps, 0) == 256);
+    /* heaps with the limits that are said are alike */
+    oah_limits said = oah_limits_of(heaps);
+    oah_heaps *alike = oah_new(said, 9);
+    CHECK(said.first_size == 256 && said.first_allocs == 8 && oah_allocate(alike, 257).place.heap == 1);
+    oah_drop(alike);
+    oah_drop(heaps);
+    /* with two numbers none has 1024 units, so a request for more than 512 is for a larger heap */
+    limits.most = 2;
+    heaps = oah_new(limits, 9);
+    large = oah_allocate(heaps, 513);
+    CHECK(large.is_new && large.place.heap == 2 && oah_units_of_heap(heaps, 2) == 513 && oah_why(heaps, 1024) == OAH_FULL);
+    oah_drop(heaps);
+    limits.first_size = 1025;
+    CHECK(!oah_new(limits, 9));
+}
+
 static bool is_text(oa_text *text, const char *wanted) {
     bool same = text && strcmp(oa_text_bytes(text), wanted) == 0 && oa_text_size(text) == strlen(wanted);
     oa_text_drop(text);
@@ -269,7 +343,7 @@ static bool is_text(oa_text *text, const char *wanted) {
 
 /* Three heaps, of which the second is dropped; the third is a larger one, with 4 nodes. */
 static void dumps(void) {
-    oah_limits limits = {100, 8, 2, 1};
+    oah_limits limits = {.size = 100, .max_allocs = 8, .most = 2, .most_larger = 1};
     oah_heaps *heaps = oah_new(limits, 9);
     CHECK(is_text(oah_json(heaps), "{\"totals\":{\"heaps\":0,\"units\":0,\"live_units\":0,\"free_units\":0,"
                                    "\"largest_free_region\":0},\"heaps\":[]}"));
@@ -289,7 +363,7 @@ static void dumps(void) {
 }
 
 static void nulls(void) {
-    oah_limits few = {100, 3, 1, 0}, many = {100, 4, 4294967295u, 1};
+    oah_limits few = {.size = 100, .max_allocs = 3, .most = 1, .most_larger = 0}, many = {.size = 100, .max_allocs = 4, .most = 4294967295u, .most_larger = 1};
     CHECK(!oah_new(few, 0) && !oah_new(many, 0));
     oah_granted none = oah_allocate(NULL, 1);
     CHECK(none.refusal == OAH_BAD_CALL && none.place.ticket.serial == 0 && oah_allocate_aligned(NULL, 1, 1).refusal == OAH_BAD_CALL);
@@ -301,6 +375,9 @@ static void nulls(void) {
     CHECK(!oah_first_place(NULL).ticket.serial && !oah_place_after(NULL, none.place).ticket.serial && !oah_first_live(NULL, 0).ticket.serial);
     CHECK(!oah_live_after(NULL, none.place).ticket.serial && oah_limits_of(NULL).size == 0 && oah_why(NULL, 1) == OAH_BAD_CALL);
     CHECK(oah_why_aligned(NULL, 1, 1) == OAH_BAD_CALL && !oah_shrink(NULL, none.place, 0) && !oah_grow_in_place(NULL, none.place, 0));
+    CHECK(oah_allocate_tight(NULL, 1).refusal == OAH_BAD_CALL && oah_allocate_tight_aligned(NULL, 1, 1).refusal == OAH_BAD_CALL);
+    CHECK(oah_why_tight(NULL, 1) == OAH_BAD_CALL && oah_why_tight_aligned(NULL, 1, 1) == OAH_BAD_CALL && !oah_extend_heap(NULL, 0, 1));
+    oah_compact(NULL, NULL, NULL);
     CHECK(!oah_compact_heap(NULL, 0, NULL, NULL) && !oah_make_room(NULL, 0, 0, NULL, NULL).possible);
     oah_reset(NULL);
     oah_drop(NULL);
@@ -314,7 +391,9 @@ int main(void) {
     states();
     nulls();
     in_place();
+    filled();
     heaps_grow();
+    heaps_double();
     dumps();
     printf("C: %d checks of heaps pass\n", checks);
     return 0;

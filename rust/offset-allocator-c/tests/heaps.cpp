@@ -55,18 +55,39 @@ int main() {
     CHECK(!Heaps({1, 3, 1, 1}));
     Granted kept = heaps.allocate(7);
     std::vector<unsigned char> bytes;
-    CHECK(kept && heaps.save(bytes) && bytes.size() > 80);
+    CHECK(kept && heaps.save(bytes) && bytes.size() > 96);
     Heaps copy = heaps.clone();
     CHECK(heaps.free(kept.place) && copy.isLive(kept.place));
     Heaps::Loaded loaded = Heaps::load(bytes.data(), bytes.size(), 6, 64);
     CHECK(loaded.found == OA_SPACE_READ && loaded.heaps.sizeOf(kept.place) == 7 && loaded.heaps.totals().heaps == 1);
     Heaps::Loaded lost = Heaps::load(bytes.data(), bytes.size() - 1, 6, 64);
-    CHECK(!lost.heaps && lost.found == OA_BAD_PLACE && lost.at == 72 + 8 * 6);
+    CHECK(!lost.heaps && lost.found == OA_BAD_PLACE && lost.at == 80 + 8 * 6);
     CHECK(Heaps::load(bytes.data(), bytes.size(), 5, 64).found == OA_BAD_LIMIT && !Heaps::load(nullptr, 0, 6, 64).heaps);
     // heaps that begin with few nodes
-    Heaps few = Heaps::from({1024, 64, 4, 2}, 8);
+    HeapLimits small(1024, 64, 4, 2);
+    small.firstAllocs = 8;
+    Heaps few(small);
     for (int i = 0; i < 62; i++) CHECK(few.allocate(1).place.heap == 0);
-    CHECK(few.statistics(0).unusedNodes == 1 && few.allocate(1).isNew && !Heaps::from({1024, 64, 4, 2}, 7));
+    CHECK(few.statistics(0).unusedNodes == 1 && few.allocate(1).isNew && !Heaps({1024, 64, 4, 2, 0, 7}));
+    // and with few units: 256, 512, 1024, 1024
+    small.firstSize = 256;
+    Heaps doubling(small);
+    CHECK(doubling.limits().firstSize == 256 && doubling.limits().firstAllocs == 8 && heaps.limits().firstSize == heaps.limits().size);
+    for (uint32 number = 0; number < 4; number++) {
+        Granted all = doubling.allocate(number == 0 ? 256 : number == 1 ? 512 : 1024);
+        CHECK(all.isNew && all.place.heap == number && doubling.unitsOfHeap(number) == doubling.sizeOf(all.place));
+    }
+    CHECK(!Heaps({1024, 64, 4, 2, 1025}) && bool(Heaps({1024, 64, 4, 2, 1024})));
+    // a heap that becomes larger, a tight request, and all heaps compacted
+    Heaps filled({100, 8, 2, 0});
+    Place early = filled.allocate(21).place, late = filled.allocate(72).place;
+    CHECK(filled.free(early) && filled.whyTight(21) == HeapRefusal::granted && filled.whyTightAligned(22, 8) == HeapRefusal::granted);
+    CHECK(filled.allocateTight(21).place.heap == 0 && filled.extendHeap(0, 20) && filled.unitsOfHeap(0) == 120 && !filled.extendHeap(1, 1));
+    Place behind = filled.allocateTightAligned(16, 8).place;
+    CHECK(behind.heap == 0 && filled.offsetOf(behind) == 96 && filled.free(late));
+    std::vector<std::pair<uint32, uint32>> slid;
+    filled.compact([&](uint32 number, Move it) { slid.push_back({number, it.size}); });
+    CHECK(slid.size() == 1 && slid[0].first == 0 && slid[0].second == 16 && filled.offsetOf(behind) == 21);
     // a page at an alignment fits a page
     Heaps pages({1024, 8, 1, 0});
     Granted page = pages.allocateAligned(1024, 256);

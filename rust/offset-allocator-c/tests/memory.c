@@ -122,7 +122,7 @@ int main(void) {
     oag_drop(with_tickets);
     oa_state_drop(state);
     if (raised < 3 || stored < 4 || read < 4) return printf("no request with tickets failed\n"), 1;
-    oah_limits limits = {100, 8, 2, 0};
+    oah_limits limits = {.size = 100, .max_allocs = 8, .most = 2, .most_larger = 0};
     oah_heaps *heaps = oah_new(limits, 1);
     oah_allocate(heaps, 60);
     oah_allocate(heaps, 60);
@@ -131,7 +131,7 @@ int main(void) {
     CHECK_TEXT(oah_json(heaps));
     oah_drop(heaps);
     /* of a heap with four unused nodes; where memory for more is refused, all is as it was */
-    oah_heaps *growing = oah_new_from((oah_limits){200, 100, 1, 0}, 8, 1);
+    oah_heaps *growing = oah_new((oah_limits){.size = 200, .max_allocs = 100, .most = 1, .first_allocs = 8}, 1);
     for (int i = 0; i < 3; i++) oah_allocate(growing, 10);
     for (left = 0, raised = 0; oah_totals(growing).live_units == 30; raised++) {
         long before = held, next = left;

@@ -273,13 +273,19 @@ static void manyHeaps(const std::string &path) {
     heaps.dropEmpty(0, [&](uint32 number) { dropped += number == 2; });
     check(dropped == 1 && heaps.giveUp(1) && heaps.allocate(900).place.heap == 1, "another heap of the number");
     heaps.reset();
+    heaps.name("all of it");
+    check(heaps.allocateTight(1000).place.heap == 0 && heaps.allocateTightAligned(8, 16).place.heap == 1, "filled");
+    check(heaps.allocateTight(1001).isNew && heaps.allocateTightAligned(5000, 8).refusal == HeapRefusal::full, "a larger heap");
+    check(heaps.extendHeap(1, 24) && !heaps.extendHeap(7, 1) && heaps->unitsOfHeap(1) == 1024, "extended");
+    heaps.compact([](uint32, Move) {});
     heaps.unit(16);
     heaps.mark("end");
     check(!heaps.isFailed(), "to its end");
     check(of(file, path) == "heap 0 space 1000 nodes 16 index 32\n# mesh: rock and moss\nheap 0 alloc 300\nheap 2 space 5001 nodes 4 index 32\n# level\nheap 2 tight 5001\n"
           "#! frame\nnone alloc 0 empty\n# too large\nnone align 5001 8 full\nheap 0 align 24 64\nheap 1 space 1000 nodes 16 index 32\nheap 1 alloc 660\n"
           "none relocate 660 1\n# mesh: rock and moss (of grant 1, heap 0)\nheap 1 align 300 8\nheap 0 free 1\nnone free\nnone relocate\nheap 1 drop\n"
-          "heap 2 free 1\nheap 2 drop\nheap 1 give up\nheap 1 space 1000 nodes 16 index 32\nheap 1 alloc 900\nheap 0 reset\nheap 1 reset\n#! unit 16\n#! mark end\n", "the lines");
+          "heap 2 free 1\nheap 2 drop\nheap 1 give up\nheap 1 space 1000 nodes 16 index 32\nheap 1 alloc 900\nheap 0 reset\nheap 1 reset\n# all of it\nheap 0 tight 1000\nheap 1 tight 8 16\n"
+          "heap 2 space 1001 nodes 4 index 32\nheap 2 tight 1001\nnone tight 5000 8 full\nheap 1 extend 24\nheap 0 compact\nheap 1 compact\nheap 2 compact\n#! unit 16\n#! mark end\n", "the lines");
     RecordedHeaps none(nullptr, {1000, 16, 2, 1});
     check(none.isFailed() && none.allocate(10), "without a file calls go on");
 }
@@ -406,6 +412,8 @@ static void randomHeaps(uint64_t seed, const std::string &path) {
     uint64_t state = seed;
     std::FILE *file = std::fopen((path + ".script").c_str(), "w"), *answers = std::fopen((path + ".answers").c_str(), "w");
     HeapLimits limits = {200 + below(state, 2000), 4 + below(state, 30), below(state, 5), below(state, 4)};
+    // of some the first heaps are small
+    if (seed % 3 == 0) limits.firstSize = 1 + limits.size / 9;
     Heaps made(limits, 3);
     std::vector<Place> places;
     if (seed % 2)

@@ -82,7 +82,7 @@ fn main() {
             _ => {}
         }
     }
-    let limits = Limits { size: page, max_allocs: nodes, first_allocs: nodes, most: 512, most_larger: 1024 };
+    let limits = Limits { size: page, first_size: page, max_allocs: nodes, first_allocs: nodes, most: 512, most_larger: 1024 };
     let mut best = f64::MAX;
     let mut peaks = Peaks::default();
     for _ in 0..runs {

@@ -3,11 +3,12 @@
 //! Requests: which heap grants one, and when another heap is made for it. It changes one slot, and notes it
 //! in the index.
 
+use crate::index::LARGER_KEY;
+use crate::limits::usual_room;
 use crate::place::{Granted, Place};
 use crate::refusal::Refusal;
 use crate::{HeapsOf, fresh};
 use offset_allocator::Tables;
-use offset_allocator::small_float::{uint_to_float_round_down, uint_to_float_round_up};
 use offset_guarded::{GuardedOf, Ticket};
 use crate::memory::AllocError;
 
@@ -30,29 +31,32 @@ impl<T: Tables> HeapsOf<T> {
         self.index.first_fit(units, align, &mut self.accesses)
     }
 
-    // Whether a fresh heap of the usual size has that many units for a request.
+    // Whether the last usual heap has that many units for a request when it is fresh.
     pub(crate) fn is_usual(&self, size: u32) -> bool {
-        let all = self.limits.size;
-        let class = uint_to_float_round_down(all);
-        if size > all {
-            return false;
-        }
-        uint_to_float_round_up(size) <= class
+        let limits = self.limits;
+        size <= usual_room(limits, limits.most.max(1) - 1)
     }
 
-    // The first number of a heap of the usual size that has none.
-    fn spare_usual(&mut self) -> Option<u32> {
-        let found = self.index.spare.first_at_least(1, &mut self.accesses);
+    // The first number of a usual heap that has none, and whose heap would have room for a request.
+    fn spare_usual(&mut self, size: u32) -> Option<u32> {
+        let found = self
+            .index
+            .spare
+            .first_at_least(size as u64, &mut self.accesses);
         below(found, self.limits.most)
     }
 
     // The first number of a larger heap that has none.
     fn spare_larger(&mut self) -> Option<u32> {
-        self.index.spare.first_at_least(2, &mut self.accesses)
+        // what is read recalls that sizes have 32 bits
+        let _ = &self.limits;
+        self.index
+            .spare
+            .first_at_least(LARGER_KEY as u64, &mut self.accesses)
     }
 
     // Doubles the node limit of the heap of a number, where it has to grow before a grant.
-    fn grow(&mut self, number: u32) -> Result<(), AllocError> {
+    pub(crate) fn grow(&mut self, number: u32) -> Result<(), AllocError> {
         self.slots
             .grow(self.alloc, number, self.limits, &mut self.accesses)
     }
@@ -96,12 +100,12 @@ impl<T: Tables> HeapsOf<T> {
         }
     }
 
-    // Makes a heap of the usual size for a request that it has room for.
+    // Makes the usual heap of a number for a request that it has room for.
     fn grant_usual(&mut self, number: u32, size: u32, align: u32) -> Result<Granted, Refusal> {
         if self.made == u32::MAX {
             return Err(Refusal::Full);
         }
-        match fresh::usual(self.alloc, self.limits, self.made + 1, size) {
+        match fresh::usual(self.alloc, self.limits, number, self.made + 1, size) {
             Err(_) => Err(Refusal::Memory),
             Ok((slot, ticket)) => Ok(self.add(number, slot, ticket)),
         }
@@ -119,9 +123,9 @@ impl<T: Tables> HeapsOf<T> {
     }
 
     // Makes a heap for a request that none has room for.
-    fn grant_new(&mut self, size: u32, align: u32) -> Result<Granted, Refusal> {
+    pub(crate) fn grant_new(&mut self, size: u32, align: u32) -> Result<Granted, Refusal> {
         if self.is_usual(size) {
-            return match self.spare_usual() {
+            return match self.spare_usual(size) {
                 None => Err(Refusal::Full),
                 Some(number) => self.grant_usual(number, size, align),
             };
@@ -155,7 +159,7 @@ impl<T: Tables> HeapsOf<T> {
     /// ```
     /// # use offset_allocator_heaps::*;
     /// # let alloc = Global;
-    /// let limits = Limits { size: 1000, max_allocs: 100, first_allocs: 8, most: 2, most_larger: 1 };
+    /// let limits = Limits { size: 1000, first_size: 1000, max_allocs: 100, first_allocs: 8, most: 2, most_larger: 1 };
     /// let mut heaps = Heaps::<u32>::new(alloc, limits, 1)?;
     /// let mesh = heaps.allocate(300).unwrap();
     /// assert!(mesh.is_new);
@@ -172,10 +176,11 @@ impl<T: Tables> HeapsOf<T> {
     /// The heap is the first one, by number, that has room, which it has for `size + align - 1` units: what
     /// `GuardedOf::allocate_aligned` grants there, as it grants it. Where none has, another heap is made,
     /// whose first range begins at 0, a multiple of every alignment: so it needs room for `size` units alone.
-    /// If a fresh heap of the usual size has that, it is such a heap, with the first number below `most` that
-    /// no heap has; else a larger heap of exactly `size` units, all of which are granted, with the first
-    /// number from `most` on that no heap has, and with the node limit 4: it never has more than two live
-    /// ranges. A heap of the usual size begins with the node limit `first_allocs`. One that has room, but fewer
+    /// If the last usual heap, the largest, would have that, it is a usual one, of the first number below
+    /// `most` that no heap has and whose heap would have it, of `first_size` units doubled as often as its
+    /// number says, and at most `size`; else a larger heap of exactly `size` units, all of which are granted,
+    /// with the first number from `most` on that no heap has, and with the node limit 4: it never has more than
+    /// two live ranges. A usual heap begins with the node limit `first_allocs`. One that has room, but fewer
     /// than five unused nodes, and a node limit below `max_allocs`, first has its limit doubled, as
     /// `GuardedOf::raised` does it, to `max_allocs` at most: so a heap has room exactly where it would have room
     /// under `max_allocs`: see `laws::room_is_that_of_the_largest_limit`. Only for a new heap and for more nodes
@@ -190,7 +195,7 @@ impl<T: Tables> HeapsOf<T> {
     /// ```
     /// # use offset_allocator_heaps::*;
     /// # let alloc = Global;
-    /// let limits = Limits { size: 1000, max_allocs: 100, first_allocs: 8, most: 2, most_larger: 1 };
+    /// let limits = Limits { size: 1000, first_size: 1000, max_allocs: 100, first_allocs: 8, most: 2, most_larger: 1 };
     /// let mut heaps = Heaps::<u32>::new(alloc, limits, 1)?;
     /// heaps.allocate(10).unwrap();
     /// let uniforms = heaps.allocate_aligned(300, 256).unwrap().place;

@@ -4,6 +4,7 @@
 
 use crate::HeapsOf;
 use crate::allocate::below;
+use crate::index::LARGER_KEY;
 use crate::refusal::Refusal;
 use offset_allocator::{Accesses, Tables};
 
@@ -45,15 +46,17 @@ impl<T: Tables> HeapsOf<T> {
     }
 
     // Why no heap is made for a request that none has room for.
-    fn why_none(&self, size: u32, count: &mut Accesses) -> Option<Refusal> {
+    pub(crate) fn why_none(&self, size: u32, count: &mut Accesses) -> Option<Refusal> {
         if self.is_usual(size) {
-            let found = self.index.spare.first_at_least(1, count);
+            let found = self.index.spare.first_at_least(size as u64, count);
             return self.why_not_made(below(found, self.limits.most));
         }
-        if self.limits.most_larger == 0 {
+        // what is read recalls that sizes have 32 bits
+        let limits = self.limits;
+        if limits.most_larger == 0 {
             return Some(Refusal::TooLarge);
         }
-        let found = self.index.spare.first_at_least(2, count);
+        let found = self.index.spare.first_at_least(LARGER_KEY as u64, count);
         self.why_not_made(found)
     }
 
@@ -63,7 +66,7 @@ impl<T: Tables> HeapsOf<T> {
     /// ```
     /// # use offset_allocator_heaps::*;
     /// # let alloc = Global;
-    /// let limits = Limits { size: 1000, max_allocs: 100, first_allocs: 8, most: 2, most_larger: 1 };
+    /// let limits = Limits { size: 1000, first_size: 1000, max_allocs: 100, first_allocs: 8, most: 2, most_larger: 1 };
     /// let mut heaps = Heaps::<u32>::new(alloc, limits, 1)?;
     /// assert_eq!(heaps.refusal(300), None);
     /// assert_eq!(heaps.refusal(0), Some(Refusal::Empty));
@@ -86,7 +89,7 @@ impl<T: Tables> HeapsOf<T> {
     /// ```
     /// # use offset_allocator_heaps::*;
     /// # let alloc = Global;
-    /// let limits = Limits { size: 1000, max_allocs: 100, first_allocs: 8, most: 2, most_larger: 1 };
+    /// let limits = Limits { size: 1000, first_size: 1000, max_allocs: 100, first_allocs: 8, most: 2, most_larger: 1 };
     /// let mut heaps = Heaps::<u32>::new(alloc, limits, 1)?;
     /// assert_eq!(heaps.refusal_aligned(900, 256), None);
     /// # Ok::<(), AllocError>(())

@@ -1,10 +1,38 @@
 // Printed by rust/erase from crates/offset_heaps/src/compacting.rt: change it there.
 
-//! Ranges that slide to the front of their heap, all or to make room. It changes one slot, and notes it in the
-//! index.
+//! Ranges that slide to the front of their heap, all or to make room. It changes one slot, or all, and notes it
+//! in the index.
 
 use crate::HeapsOf;
-use offset_allocator::{Move, RoomCost, Tables};
+use crate::index::Index;
+use crate::limits::Limits;
+use crate::slots::Slots;
+use offset_allocator::{Accesses, Move, NodeIndex, RoomCost, Tables};
+use offset_guarded::GuardedOf;
+
+// Slides every live range of a heap to the front of its space, and calls the closure with its number too. The
+// index type is a parameter too, which keeps the proof short.
+pub(crate) fn compact_numbered<NI: NodeIndex, T: Tables<Index = NI>, F: FnMut(u32, Move<NI>)>(
+    heap: &mut GuardedOf<T>,
+    number: u32,
+    moved: &mut F,
+) {
+    heap.compact(&mut |range: Move<NI>| moved(number, range));
+}
+
+// Slides every live range of each heap to the front of its space.
+fn compact_all<T: Tables, F: FnMut(u32, Move<T::Index>)>(
+    slots: &mut Slots<T>,
+    index: &mut Index,
+    limits: Limits,
+    moved: &mut F,
+    count: &mut Accesses,
+) {
+    for number in 0..limits.most + limits.most_larger {
+        slots.pack(number, moved, count);
+        index.note(slots, number, limits, count);
+    }
+}
 
 impl<T: Tables> HeapsOf<T> {
     /// Slides every live range of the heap of a number to the front of its space, as `GuardedOf::compact`
@@ -15,7 +43,7 @@ impl<T: Tables> HeapsOf<T> {
     /// ```
     /// # use offset_allocator_heaps::*;
     /// # let alloc = Global;
-    /// let limits = Limits { size: 1000, max_allocs: 100, first_allocs: 8, most: 2, most_larger: 1 };
+    /// let limits = Limits { size: 1000, first_size: 1000, max_allocs: 100, first_allocs: 8, most: 2, most_larger: 1 };
     /// let mut heaps = Heaps::<u32>::new(alloc, limits, 1)?;
     /// let hole = heaps.allocate(300).unwrap().place;
     /// let mesh = heaps.allocate(100).unwrap().place;
@@ -34,6 +62,34 @@ impl<T: Tables> HeapsOf<T> {
         true
     }
 
+    /// Slides every live range of each heap to the front of its space, as `compact_heap` of each number that has
+    /// one does, one after another. Every place stays live, with its size; `offset_of` returns where its range
+    /// begins. A moved range keeps no alignment. `moved` is called with the number of the heap and each move: by
+    /// the numbers of the heaps, and in a heap in space order; each move is within the buffer of its number.
+    /// No heap is made or dropped. It reads each slot, and takes the time of `GuardedOf::compact` for each heap.
+    ///
+    /// ```
+    /// # use offset_allocator_heaps::*;
+    /// # let alloc = Global;
+    /// let limits = Limits { size: 1000, first_size: 1000, max_allocs: 100, first_allocs: 8, most: 2, most_larger: 1 };
+    /// let mut heaps = Heaps::<u32>::new(alloc, limits, 1)?;
+    /// let hole = heaps.allocate(300).unwrap().place;
+    /// let mesh = heaps.allocate(100).unwrap().place;
+    /// heaps.free(hole);
+    /// heaps.compact(|number, it| assert_eq!((number, it.from, it.to, it.size), (0, 300, 0, 100)));
+    /// assert_eq!(heaps.offset_of(mesh), Some(0));
+    /// # Ok::<(), AllocError>(())
+    /// ```
+    pub fn compact<F: FnMut(u32, Move<T::Index>)>(&mut self, mut moved: F) {
+        compact_all(
+            &mut self.slots,
+            &mut self.index,
+            self.limits,
+            &mut moved,
+            &mut self.accesses,
+        );
+    }
+
     /// Makes room for a request of `size` units in the heap of a number, where ranges have to move for it, as
     /// `GuardedOf::make_room` does, and returns the cost; or `None` where no ranges that move would make it, or
     /// the number has no heap, and then nothing changes. Every place stays live, with its size; `offset_of`
@@ -46,7 +102,7 @@ impl<T: Tables> HeapsOf<T> {
     /// ```
     /// # use offset_allocator_heaps::*;
     /// # let alloc = Global;
-    /// let limits = Limits { size: 1000, max_allocs: 100, first_allocs: 8, most: 2, most_larger: 1 };
+    /// let limits = Limits { size: 1000, first_size: 1000, max_allocs: 100, first_allocs: 8, most: 2, most_larger: 1 };
     /// let mut heaps = Heaps::<u32>::new(alloc, limits, 1)?;
     /// let hole = heaps.allocate(300).unwrap().place;
     /// heaps.allocate(100).unwrap();

@@ -2,7 +2,7 @@
 
 //! Heaps that are made for a request, which they grant at once. It touches nothing else.
 
-use crate::limits::Limits;
+use crate::limits::{Limits, usual_size};
 use crate::slots;
 use offset_allocator::Tables;
 use offset_guarded::{GuardedOf, Ticket};
@@ -11,16 +11,17 @@ use crate::memory::{AllocError, Global};
 /// The node limit of a larger heap: two ranges may be live in it.
 pub(crate) const LARGER_LIMIT: u32 = 4;
 
-/// A heap of the usual size, and its first grant, which it has room for.
+/// The usual heap of a number, and its first grant, which it has room for.
 pub(crate) fn usual<T: Tables>(
     alloc: Global,
     limits: Limits,
+    number: u32,
     realm: u32,
     size: u32,
 ) -> Result<(Option<GuardedOf<T>>, Ticket), AllocError> {
     let mut slot = Some(GuardedOf::with_max_allocs(
         alloc,
-        limits.size,
+        usual_size(limits, number),
         limits.first_allocs,
         realm,
     )?);

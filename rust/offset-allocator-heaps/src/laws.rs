@@ -5,3 +5,4 @@
 pub use crate::asking::refusal_aligned_counted;
 pub use crate::numbering::{first_heap_counted, heap_after_counted};
 pub use crate::relocate::emptiest_counted;
+pub use crate::tight::refusal_tight_aligned_counted;

@@ -2,8 +2,8 @@
 
 //! Ranges of as many buffers as are needed, each with a heap of its own.
 //!
-//! A `Heaps` holds heaps by number, each a `GuardedOf`: those of the usual size, and larger ones, each of the
-//! size of the request that it was made for. Nothing is known of the buffers: the caller makes the buffer of
+//! A `Heaps` holds heaps by number, each a `GuardedOf`: usual ones, all of one size or each twice as large as
+//! the one before it, and larger ones, each of the size of the request that it was made for. Nothing is known of the buffers: the caller makes the buffer of
 //! a number when he is told that its heap is new, and drops it when he is told that the heap was dropped. A
 //! `Place` is the number of a heap and a ticket there. Every call takes any place, and one that is not live
 //! changes nothing.
@@ -11,7 +11,8 @@
 //! ```
 //! use offset_allocator_heaps::*;
 //! let alloc = Global;
-//! let limits = Limits { size: 1 << 24, max_allocs: 65536, first_allocs: 64, most: 64, most_larger: 16 };
+//! let limits =
+//!     Limits { size: 1 << 24, first_size: 1 << 18, max_allocs: 65536, first_allocs: 64, most: 64, most_larger: 16 };
 //! let mut heaps = Heaps::<u32>::new(alloc, limits, 1)?;
 //! if let Ok(granted) = heaps.allocate(3000) {
 //!     // granted.is_new: make the buffer of number granted.place.heap
@@ -48,6 +49,7 @@ mod compacting;
 mod copying;
 mod drop;
 mod dumping;
+mod extending;
 mod fresh;
 mod index;
 pub mod laws;
@@ -63,6 +65,7 @@ mod restoring;
 mod saving;
 mod slots;
 mod state;
+mod tight;
 mod totals;
 
 pub use dumping::json_of;
@@ -120,20 +123,24 @@ impl<T: Tables> HeapsOf<T> {
     ///
     /// # Panics
     ///
-    /// It panics unless `max_allocs` is at least 4, and `max_allocs` is at most `NI::MAX - 2`, and
-    /// first_allocs is at least 8, or `max_allocs`, and first_allocs is at most `max_allocs`, and there
-    /// are at most 4294967295 heaps.
+    /// It panics unless first_size is at least 1, or size, and first_size is at most size, and
+    /// `max_allocs` is at least 4, and `max_allocs` is at most `NI::MAX - 2`, and first_allocs is at
+    /// least 8, or `max_allocs`, and first_allocs is at most `max_allocs`, and there are at most
+    /// 4294967295 heaps.
     ///
     /// ```
     /// # use offset_allocator_heaps::*;
     /// # let alloc = Global;
-    /// let limits = Limits { size: 1 << 24, max_allocs: 65536, first_allocs: 64, most: 64, most_larger: 16 };
+    /// let limits =
+    ///     Limits { size: 1 << 24, first_size: 1 << 18, max_allocs: 65536, first_allocs: 64, most: 64, most_larger: 16 };
     /// let heaps = Heaps::<u32>::new(alloc, limits, 1)?;
     /// assert_eq!(heaps.totals().heaps, 0);
     /// # Ok::<(), AllocError>(())
     /// ```
     #[track_caller]
     pub fn new(alloc: Global, limits: Limits, realm: u32) -> Result<Self, AllocError> {
+        assert!(limits.size.min(1) <= limits.first_size, "first_size must be at least 1, or size");
+        assert!(limits.first_size <= limits.size, "first_size must be at most size");
         assert!(4 <= limits.max_allocs, "max_allocs must be at least 4");
         assert!(limits.max_allocs < <T::Index as offset_allocator::NodeIndex>::MAX - 1, "max_allocs must be at most NI::MAX - 2");
         assert!(limits.max_allocs.min(8) <= limits.first_allocs, "first_allocs must be at least 8, or max_allocs");
@@ -162,7 +169,7 @@ impl<T: Tables> HeapsOf<T> {
     /// ```
     /// # use offset_allocator_heaps::*;
     /// # let alloc = Global;
-    /// let limits = Limits { size: 1000, max_allocs: 100, first_allocs: 8, most: 2, most_larger: 1 };
+    /// let limits = Limits { size: 1000, first_size: 1000, max_allocs: 100, first_allocs: 8, most: 2, most_larger: 1 };
     /// let mut heaps = Heaps::<u32>::new(alloc, limits, 1)?;
     /// assert_eq!(heaps.limits().most, 2);
     /// # Ok::<(), AllocError>(())
@@ -176,7 +183,7 @@ impl<T: Tables> HeapsOf<T> {
     /// ```
     /// # use offset_allocator_heaps::*;
     /// # let alloc = Global;
-    /// let limits = Limits { size: 1000, max_allocs: 100, first_allocs: 8, most: 2, most_larger: 1 };
+    /// let limits = Limits { size: 1000, first_size: 1000, max_allocs: 100, first_allocs: 8, most: 2, most_larger: 1 };
     /// let mut heaps = Heaps::<u32>::new(alloc, limits, 1)?;
     /// assert_eq!(heaps.realm(), 1);
     /// # Ok::<(), AllocError>(())
@@ -191,7 +198,7 @@ impl<T: Tables> HeapsOf<T> {
     /// ```
     /// # use offset_allocator_heaps::*;
     /// # let alloc = Global;
-    /// let limits = Limits { size: 1000, max_allocs: 100, first_allocs: 8, most: 2, most_larger: 1 };
+    /// let limits = Limits { size: 1000, first_size: 1000, max_allocs: 100, first_allocs: 8, most: 2, most_larger: 1 };
     /// let mut heaps = Heaps::<u32>::new(alloc, limits, 1)?;
     /// let mesh = heaps.allocate(300).unwrap().place;
     /// assert_eq!(heaps.heap(mesh.heap).unwrap().allocator().live_units(), 300);
@@ -216,7 +223,7 @@ impl<T: Tables> HeapsOf<T> {
     /// ```
     /// # use offset_allocator_heaps::*;
     /// # let alloc = Global;
-    /// let limits = Limits { size: 1000, max_allocs: 100, first_allocs: 8, most: 2, most_larger: 1 };
+    /// let limits = Limits { size: 1000, first_size: 1000, max_allocs: 100, first_allocs: 8, most: 2, most_larger: 1 };
     /// let mut heaps = Heaps::<u32>::new(alloc, limits, 1)?;
     /// let mesh = heaps.allocate(300).unwrap().place;
     /// heaps.free(mesh);
@@ -235,7 +242,7 @@ impl<T: Tables> HeapsOf<T> {
     /// ```
     /// # use offset_allocator_heaps::*;
     /// # let alloc = Global;
-    /// let limits = Limits { size: 1000, max_allocs: 100, first_allocs: 8, most: 2, most_larger: 1 };
+    /// let limits = Limits { size: 1000, first_size: 1000, max_allocs: 100, first_allocs: 8, most: 2, most_larger: 1 };
     /// let mut heaps = Heaps::<u32>::new(alloc, limits, 1)?;
     /// let mesh = heaps.allocate(300).unwrap().place;
     /// assert_eq!(heaps.size_of(mesh), Some(300));
@@ -254,7 +261,7 @@ impl<T: Tables> HeapsOf<T> {
     /// ```
     /// # use offset_allocator_heaps::*;
     /// # let alloc = Global;
-    /// let limits = Limits { size: 1000, max_allocs: 100, first_allocs: 8, most: 2, most_larger: 1 };
+    /// let limits = Limits { size: 1000, first_size: 1000, max_allocs: 100, first_allocs: 8, most: 2, most_larger: 1 };
     /// let mut heaps = Heaps::<u32>::new(alloc, limits, 1)?;
     /// let mesh = heaps.allocate(300).unwrap().place;
     /// assert_eq!(heaps.offset_of(mesh), Some(0));
@@ -274,7 +281,7 @@ impl<T: Tables> HeapsOf<T> {
     /// ```
     /// # use offset_allocator_heaps::*;
     /// # let alloc = Global;
-    /// let limits = Limits { size: 1000, max_allocs: 100, first_allocs: 8, most: 2, most_larger: 1 };
+    /// let limits = Limits { size: 1000, first_size: 1000, max_allocs: 100, first_allocs: 8, most: 2, most_larger: 1 };
     /// let mut heaps = Heaps::<u32>::new(alloc, limits, 1)?;
     /// let mesh = heaps.allocate(300).unwrap().place;
     /// assert!(heaps.free(mesh));
@@ -302,7 +309,7 @@ impl<T: Tables> HeapsOf<T> {
     /// ```
     /// # use offset_allocator_heaps::*;
     /// # let alloc = Global;
-    /// let limits = Limits { size: 1000, max_allocs: 100, first_allocs: 8, most: 2, most_larger: 1 };
+    /// let limits = Limits { size: 1000, first_size: 1000, max_allocs: 100, first_allocs: 8, most: 2, most_larger: 1 };
     /// let mut heaps = Heaps::<u32>::new(alloc, limits, 1)?;
     /// let mesh = heaps.allocate(300).unwrap().place;
     /// heaps.reset();

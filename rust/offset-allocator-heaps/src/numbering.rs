@@ -35,7 +35,7 @@ impl<T: Tables> HeapsOf<T> {
     /// ```
     /// # use offset_allocator_heaps::*;
     /// # let alloc = Global;
-    /// let limits = Limits { size: 1000, max_allocs: 100, first_allocs: 8, most: 2, most_larger: 1 };
+    /// let limits = Limits { size: 1000, first_size: 1000, max_allocs: 100, first_allocs: 8, most: 2, most_larger: 1 };
     /// let mut heaps = Heaps::<u32>::new(alloc, limits, 1)?;
     /// let mesh = heaps.allocate(300).unwrap();
     /// assert_eq!((mesh.is_new, heaps.units_of_heap(mesh.place.heap)), (true, Some(1000)));
@@ -54,7 +54,7 @@ impl<T: Tables> HeapsOf<T> {
     /// ```
     /// # use offset_allocator_heaps::*;
     /// # let alloc = Global;
-    /// let limits = Limits { size: 1000, max_allocs: 100, first_allocs: 8, most: 2, most_larger: 1 };
+    /// let limits = Limits { size: 1000, first_size: 1000, max_allocs: 100, first_allocs: 8, most: 2, most_larger: 1 };
     /// let mut heaps = Heaps::<u32>::new(alloc, limits, 1)?;
     /// assert_eq!(heaps.first_heap(), None);
     /// heaps.allocate(300).unwrap();
@@ -71,7 +71,7 @@ impl<T: Tables> HeapsOf<T> {
     /// ```
     /// # use offset_allocator_heaps::*;
     /// # let alloc = Global;
-    /// let limits = Limits { size: 1000, max_allocs: 100, first_allocs: 8, most: 2, most_larger: 1 };
+    /// let limits = Limits { size: 1000, first_size: 1000, max_allocs: 100, first_allocs: 8, most: 2, most_larger: 1 };
     /// let mut heaps = Heaps::<u32>::new(alloc, limits, 1)?;
     /// heaps.allocate(900).unwrap();
     /// heaps.allocate(900).unwrap();
@@ -99,7 +99,7 @@ impl<T: Tables> HeapsOf<T> {
     /// ```
     /// # use offset_allocator_heaps::*;
     /// # let alloc = Global;
-    /// let limits = Limits { size: 1000, max_allocs: 100, first_allocs: 8, most: 2, most_larger: 1 };
+    /// let limits = Limits { size: 1000, first_size: 1000, max_allocs: 100, first_allocs: 8, most: 2, most_larger: 1 };
     /// let mut heaps = Heaps::<u32>::new(alloc, limits, 1)?;
     /// let mesh = heaps.allocate(300).unwrap().place;
     /// assert_eq!(heaps.first_place(), Some(mesh));
@@ -115,7 +115,7 @@ impl<T: Tables> HeapsOf<T> {
     /// ```
     /// # use offset_allocator_heaps::*;
     /// # let alloc = Global;
-    /// let limits = Limits { size: 1000, max_allocs: 100, first_allocs: 8, most: 2, most_larger: 1 };
+    /// let limits = Limits { size: 1000, first_size: 1000, max_allocs: 100, first_allocs: 8, most: 2, most_larger: 1 };
     /// let mut heaps = Heaps::<u32>::new(alloc, limits, 1)?;
     /// let mesh = heaps.allocate(900).unwrap().place;
     /// let texture = heaps.allocate(900).unwrap().place;

@@ -40,9 +40,9 @@ fn states_of<T: Tables>(
 }
 
 impl<T: Tables> HeapsOf<T> {
-    /// The bytes of the state, which `read_state` reads: 88, 8 for each number, and those of
+    /// The bytes of the state, which `read_state` reads: 96, 8 for each number, and those of
     /// `GuardedOf::write_state` for each heap. The first are numbers of 64 bits, the lowest byte of each
-    /// first: the letters OAHS, the version 2, the five limits, how many heaps were made, the realm; where the
+    /// first: the letters OAHS, the version 3, the six limits, how many heaps were made, the realm; where the
     /// state of each number's heap begins behind these numbers, and where the last one ends, so that a number
     /// without a heap has no bytes; and a checksum. The index of the heaps is not stored.
     ///
@@ -55,7 +55,7 @@ impl<T: Tables> HeapsOf<T> {
     /// ```
     /// # use offset_allocator_heaps::*;
     /// # let alloc = Global;
-    /// let limits = Limits { size: 1000, max_allocs: 100, first_allocs: 8, most: 2, most_larger: 1 };
+    /// let limits = Limits { size: 1000, first_size: 1000, max_allocs: 100, first_allocs: 8, most: 2, most_larger: 1 };
     /// let mut heaps = Heaps::<u32>::new(alloc, limits, 1)?;
     /// let bytes = heaps.write_state(alloc)?;
     /// let same = Heaps::<u32>::read_state(alloc, &bytes, 100, 1000).unwrap();
@@ -70,6 +70,7 @@ impl<T: Tables> HeapsOf<T> {
             FORM,
             VERSION,
             limits.size as u64,
+            limits.first_size as u64,
             limits.max_allocs as u64,
             limits.first_allocs as u64,
             limits.most as u64,

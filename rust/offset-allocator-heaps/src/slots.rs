@@ -3,6 +3,8 @@
 //! The heaps by their numbers: no other module reads or writes them. Each function counts the slots that it
 //! touches.
 
+use crate::compacting::compact_numbered;
+use crate::extending::extend_in;
 use crate::index::{is_empty_heap, rooms};
 use crate::limits::Limits;
 use crate::resize::Resize;
@@ -30,26 +32,37 @@ fn must_grow<T: Tables>(heap: &GuardedOf<T>, number: u32, limits: Limits) -> boo
     number < limits.most && space.max_allocs() < limits.max_allocs && unused_nodes(space) < 5
 }
 
-// Doubles the node limit of the heap of a number, where it has to grow.
+/// Doubles the node limit of the heap of a number, where it has to grow.
+pub(crate) fn grow_heap<T: Tables>(
+    alloc: Global,
+    heap: &mut GuardedOf<T>,
+    number: u32,
+    limits: Limits,
+) -> Result<(), AllocError> {
+    if must_grow(heap, number, limits) {
+        let limit = heap.allocator().max_allocs();
+        let most = limits.max_allocs;
+        let twice = if most - limit < limit {
+            most
+        } else {
+            2 * limit
+        };
+        *heap = heap.raised(alloc, twice)?;
+    }
+    Ok(())
+}
+
+// The same, where the number has a heap.
 fn grow_in<T: Tables>(
     alloc: Global,
     slot: &mut Option<GuardedOf<T>>,
     number: u32,
     limits: Limits,
 ) -> Result<(), AllocError> {
-    if let Some(heap) = slot {
-        if must_grow(heap, number, limits) {
-            let limit = heap.allocator().max_allocs();
-            let most = limits.max_allocs;
-            let twice = if most - limit < limit {
-                most
-            } else {
-                2 * limit
-            };
-            *heap = heap.raised(alloc, twice)?;
-        }
+    match slot {
+        Some(heap) => grow_heap(alloc, heap, number, limits),
+        None => Ok(()),
     }
-    Ok(())
 }
 
 /// Grants a request in a heap that has room for it.
@@ -74,6 +87,22 @@ pub(crate) fn grant_tight_in<T: Tables>(slot: &mut Option<GuardedOf<T>>, size: u
         },
         None => unreachable!(),
     }
+}
+
+// Grants a request in a heap, a free block of which holds it.
+fn fill_in<T: Tables>(slot: &mut Option<GuardedOf<T>>, size: u32, align: u32) -> Ticket {
+    match slot {
+        Some(heap) => match heap.allocate_tight_aligned(size, align) {
+            Some(ticket) => ticket,
+            None => unreachable!(),
+        },
+        None => unreachable!(),
+    }
+}
+
+// Whether a free block of a heap holds a request. Where none does, the heap has no room for it either.
+fn holds<T: Tables>(heap: &GuardedOf<T>, size: u32, align: u32) -> bool {
+    heap.refusal_tight_aligned(size, align).is_none()
 }
 
 // Frees the range of a ticket, where it is live.
@@ -126,6 +155,18 @@ fn compact_in<T: Tables, F: FnMut(Move<T::Index>)>(slot: &mut Option<GuardedOf<T
     match slot {
         Some(heap) => heap.compact(moved),
         None => unreachable!(),
+    }
+}
+
+// Slides every live range of a heap to the front of its space, where there is one, and calls the closure with its
+// number too.
+fn pack_in<T: Tables, F: FnMut(u32, Move<T::Index>)>(
+    slot: &mut Option<GuardedOf<T>>,
+    number: u32,
+    moved: &mut F,
+) {
+    if let Some(heap) = slot {
+        compact_numbered(heap, number, moved);
     }
 }
 
@@ -221,6 +262,42 @@ impl<T: Tables> Slots<T> {
         grant_in(&mut self.heaps[number as usize], size, align)
     }
 
+    /// Grants a request in the heap of a number, a free block of which holds it.
+    pub(crate) fn fill(
+        &mut self,
+        number: u32,
+        size: u32,
+        align: u32,
+        count: &mut Accesses,
+    ) -> Ticket {
+        count.tick();
+        fill_in(&mut self.heaps[number as usize], size, align)
+    }
+
+    // Whether a free block of the heap of a number holds a request.
+    fn holds_at(&self, number: u32, size: u32, align: u32, count: &mut Accesses) -> bool {
+        match self.at(number, count) {
+            None => false,
+            Some(heap) => holds(heap, size, align),
+        }
+    }
+
+    /// The first heap, a free block of which holds a request. Where none does, none has room for it.
+    pub(crate) fn first_holding(
+        &self,
+        numbers: u32,
+        size: u32,
+        align: u32,
+        count: &mut Accesses,
+    ) -> Option<u32> {
+        for number in 0..numbers {
+            if self.holds_at(number, size, align, count) {
+                return Some(number);
+            }
+        }
+        None
+    }
+
     /// Frees the range of a ticket in the heap of a number, where it is live.
     pub(crate) fn free(&mut self, number: u32, ticket: Ticket, count: &mut Accesses) -> bool {
         count.tick();
@@ -253,6 +330,26 @@ impl<T: Tables> Slots<T> {
         )
     }
 
+    /// Adds units at the end of the heap of a number, which grows first where it has to for a grant, and returns
+    /// whether it did.
+    pub(crate) fn extend(
+        &mut self,
+        alloc: Global,
+        number: u32,
+        limits: Limits,
+        more: u32,
+        count: &mut Accesses,
+    ) -> Result<bool, AllocError> {
+        count.tick();
+        extend_in(
+            alloc,
+            &mut self.heaps[number as usize],
+            number,
+            limits,
+            more,
+        )
+    }
+
     /// Slides every live range of the heap of a number to the front of its space.
     pub(crate) fn compact<F: FnMut(Move<T::Index>)>(
         &mut self,
@@ -262,6 +359,18 @@ impl<T: Tables> Slots<T> {
     ) {
         count.tick();
         compact_in(&mut self.heaps[number as usize], moved);
+    }
+
+    /// Slides every live range of the heap of a number to the front of its space, where it has one, and calls the
+    /// closure with the number too.
+    pub(crate) fn pack<F: FnMut(u32, Move<T::Index>)>(
+        &mut self,
+        number: u32,
+        moved: &mut F,
+        count: &mut Accesses,
+    ) {
+        count.tick();
+        pack_in(&mut self.heaps[number as usize], number, moved);
     }
 
     /// Makes room for a request in the heap of a number.

@@ -7,7 +7,7 @@ use core::fmt;
 pub(crate) const FORM: u64 = 1397244239;
 
 /// The version of the form.
-pub(crate) const VERSION: u64 = 2;
+pub(crate) const VERSION: u64 = 3;
 
 /// What is wrong with the bytes of a state, and where.
 #[derive(Clone, Copy, PartialEq, Debug)]
@@ -19,7 +19,7 @@ pub struct StateFault {
 }
 
 /// What is wrong with the bytes of a state: of the numbers of many heaps the first that applies of `Length`,
-/// for fewer than 88 bytes, `Form`, `Limits`, `Counts`, `Length` again, for the numbers of heaps, and
+/// for fewer than 96 bytes, `Form`, `Limits`, `Counts`, `Length` again, for the numbers of heaps, and
 /// `Checksum`; then `Place`, where the first state begins or the last one ends; and then of the first heap
 /// that is wrong the first of `Place`, `Heap`, `Realm` and `Size`. The place is that of the number that is
 /// wrong, if nothing else is said.
@@ -41,8 +41,8 @@ pub enum StateFaultKind {
     Place,
     /// The realm of a heap, of which fewer were made: the place is in the state of the heap.
     Realm,
-    /// The size or the node limit of a heap. Where its number is below `most`: another size than the limits
-    /// say, a node limit below `first_allocs` or above `max_allocs`, or one below `max_allocs` with fewer than
+    /// The size or the node limit of a heap. Where its number is below `most`: fewer units than the usual heap
+    /// of that number, a node limit below `first_allocs` or above `max_allocs`, or one below `max_allocs` with fewer than
     /// three unused nodes; else no unit, or another node limit than a larger heap has. The place is where the
     /// state of the heap begins.
     Size,
@@ -67,7 +67,7 @@ impl fmt::Display for StateFaultKind {
             StateFaultKind::Size => {
                 write!(
                     f,
-                    "a heap of another size or node limit than the limits say"
+                    "a heap with fewer units, or another node limit, than the limits say"
                 )
             }
             StateFaultKind::Heap(kind) => write!(f, "{kind}"),

@@ -30,7 +30,7 @@ fn vec_and_string_are_those_of_std() {
         use offset_allocator_heaps::*;
 
         pub fn bytes() -> Vec<u8> {
-            let limits = Limits { size: 10, max_allocs: 4, first_allocs: 4, most: 1, most_larger: 0 };
+            let limits = Limits { size: 10, first_size: 10, max_allocs: 4, first_allocs: 4, most: 1, most_larger: 0 };
             let heaps = Heaps::<u32>::new(Global, limits, 1).unwrap();
             let mut own: Vec<u8> = Vec::new();
             own.push(1);
@@ -39,5 +39,5 @@ fn vec_and_string_are_those_of_std() {
             own
         }
     }
-    assert_eq!([of_spaces::bytes().len(), of_tickets::bytes().len(), of_heaps::bytes().len()], [45, 93, 97]);
+    assert_eq!([of_spaces::bytes().len(), of_tickets::bytes().len(), of_heaps::bytes().len()], [45, 93, 105]);
 }

@@ -1,6 +1,6 @@
 //! Random calls against a plain list of the live ranges of each heap.
 //!
-//! `cargo test` makes 200,000 with each index type and layout. Two million, with and without overflow checks:
+//! `cargo test` makes 300,000 with each index type and layout. Three million, with and without overflow checks:
 //!
 //!     cargo test --offline -p offset-allocator-heaps -- --ignored
 //!     cargo test --offline --release -p offset-allocator-heaps -- --ignored
@@ -63,7 +63,7 @@ struct Run<T: Tables> {
     // the last places that were given
     given: Vec<Place>,
     made: u32,
-    counts: [u64; 11],
+    counts: [u64; 15],
     numbers: Numbers,
 }
 
@@ -79,7 +79,7 @@ impl<T: Tables> Run<T> {
             places: HashMap::new(),
             given: vec![nowhere; 64],
             made: 0,
-            counts: [0; 11],
+            counts: [0; 15],
             numbers: Numbers(state),
         }
     }
@@ -87,6 +87,11 @@ impl<T: Tables> Run<T> {
     // The largest node limit of the heap of a number.
     fn most_nodes(&self, number: usize) -> u32 {
         if number < self.limits.most as usize { self.limits.max_allocs } else { 4 }
+    }
+
+    // The units of the usual heap of a number: twice those of the one before it, up to the size of the limits.
+    fn usual_units(&self, number: usize) -> u32 {
+        (0..number).fold(self.limits.first_size, |units, _| units.saturating_mul(2).min(self.limits.size))
     }
 
     // What a heap's own report says of a request: its node limit does not count, but the largest that it may have.
@@ -103,18 +108,29 @@ impl<T: Tables> Run<T> {
         known.limit < self.most_nodes(number) && heap.allocator().block_count() + 5 > known.limit
     }
 
-    fn expected(&self, size: u32, align: u32) -> Result<(usize, bool), Refusal> {
+    // Whether a heap has nodes for a request, and free units for it in a row, from a multiple of the alignment on.
+    fn holds(&self, number: usize, size: u32, align: u32) -> bool {
+        let (Some(heap), Some(space)) = (&self.model[number], self.heaps.heap(number as u32)) else { return false };
+        let ends = heap.ranges.iter().map(|(&at, &units)| (at + units) as u64);
+        let starts = heap.ranges.keys().map(|&at| at as u64).chain([heap.units as u64]);
+        let fits = std::iter::once(0).chain(ends).zip(starts).any(|(from, to)| from.next_multiple_of(align as u64) + size as u64 <= to);
+        fits && space.allocator().block_count() + align.min(2) < self.most_nodes(number)
+    }
+
+    fn expected(&self, size: u32, align: u32, tight: bool) -> Result<(usize, bool), Refusal> {
         if size == 0 {
             return Err(Refusal::Empty);
         }
         let units = size as u64 + align as u64 - 1;
-        if let Some(number) = (0..self.model.len()).find(|&n| self.fits(n, units, align)) {
+        let grants = |n| if tight { self.holds(n, size, align) } else { self.fits(n, units, align) };
+        if let Some(number) = (0..self.model.len()).find(|&n| grants(n)) {
             return Ok((number, false));
         }
         let most = self.limits.most as usize;
         // a fresh heap begins at 0, a multiple of every alignment
-        if size <= class_value(self.limits.size) {
-            return self.model[..most].iter().position(|h| h.is_none()).map(|n| (n, true)).ok_or(Refusal::Full);
+        let holds = |number: usize| size <= class_value(self.usual_units(number));
+        if (0..most.max(1)).any(holds) {
+            return (0..most).find(|&n| self.model[n].is_none() && holds(n)).map(|n| (n, true)).ok_or(Refusal::Full);
         }
         if self.limits.most_larger == 0 {
             return Err(Refusal::TooLarge);
@@ -122,12 +138,23 @@ impl<T: Tables> Run<T> {
         self.model[most..].iter().position(|h| h.is_none()).map(|n| (n + most, true)).ok_or(Refusal::Full)
     }
 
-    fn allocate(&mut self, size: u32, align: u32) {
-        let expected = self.expected(size, align);
-        let foretold = if align == 1 { self.heaps.refusal(size) } else { self.heaps.refusal_aligned(size, align) };
+    fn allocate(&mut self, size: u32, align: u32, tight: bool) {
+        let expected = self.expected(size, align, tight);
+        let foretold = match (tight, align) {
+            (false, 1) => self.heaps.refusal(size),
+            (false, _) => self.heaps.refusal_aligned(size, align),
+            (true, 1) => self.heaps.refusal_tight(size),
+            (true, _) => self.heaps.refusal_tight_aligned(size, align),
+        };
         assert_eq!(foretold, expected.err());
         let grows = expected.is_ok_and(|(number, is_new)| !is_new && self.must_grow(number));
-        let result = if align == 1 { self.heaps.allocate(size) } else { self.heaps.allocate_aligned(size, align) };
+        self.counts[11] += (tight && expected.is_ok_and(|(n, is_new)| !is_new && !self.fits(n, size as u64 + align as u64 - 1, align))) as u64;
+        let result = match (tight, align) {
+            (false, 1) => self.heaps.allocate(size),
+            (false, _) => self.heaps.allocate_aligned(size, align),
+            (true, 1) => self.heaps.allocate_tight(size),
+            (true, _) => self.heaps.allocate_tight_aligned(size, align),
+        };
         match (expected, result) {
             (Err(why), Err(said)) => {
                 assert_eq!(why, said);
@@ -139,7 +166,8 @@ impl<T: Tables> Run<T> {
                 if is_new {
                     self.made += 1;
                     let usual = number < self.limits.most as usize;
-                    let units = if usual { self.limits.size } else { size };
+                    let units = if usual { self.usual_units(number) } else { size };
+                    self.counts[14] += u64::from(usual && self.model[..number].iter().any(|h| h.is_none()));
                     let limit = if usual { self.limits.first_allocs } else { 4 };
                     self.model[number] = Some(Heap { units, limit, ranges: BTreeMap::new() });
                     assert_eq!(place.ticket.realm, self.made);
@@ -254,7 +282,7 @@ impl<T: Tables> Run<T> {
         let place = self.place();
         let live = self.live.get(&key(place)).copied();
         let (at, size) = live.unwrap_or((0, 1));
-        let wanted = size / 2 + self.numbers.below(size as u64 + 2) as u32;
+        let wanted = (size / 2).saturating_add(self.numbers.below(size as u64 + 2) as u32);
         let behind = live.map(|_| {
             let heap = self.model[place.heap as usize].as_ref().unwrap();
             heap.ranges.range(at + 1..).next().map_or(heap.units, |(&next, _)| next) - at - size
@@ -290,7 +318,65 @@ impl<T: Tables> Run<T> {
             assert_eq!(self.heaps.make_room(number, size, &mut note), cost);
             assert_eq!((moves.len() as u64, moves.iter().map(|m| m.2 as u64).sum()), cost.map_or((0, 0), |c| (c.ranges as u64, c.units as u64)));
         }
-        for &(from, to, size) in &moves {
+        let moves: Vec<_> = moves.into_iter().map(|(from, to, size)| (number, from, to, size)).collect();
+        self.moved(&moves);
+        self.walk(number);
+    }
+
+    // A heap gets more units at its end, and nodes before where it has fewer than five unused, if the units have 32 bits; where
+    // a range is at its end it needs a node.
+    fn extend(&mut self) {
+        let number = self.numbers.below(self.model.len() as u64 + 2) as usize;
+        let more = match self.numbers.below(4) {
+            0 => 0,
+            1 => self.numbers.next() as u32,
+            _ => 1 + self.numbers.below(self.limits.size as u64 / 8) as u32,
+        };
+        // of a heap with so many units later requests would be for no more than a few
+        let more = if more < 1 << 20 || self.numbers.below(2) == 0 { more.min(self.limits.size) } else { u32::MAX };
+        let known = self.model.get(number).and_then(|h| h.as_ref()).filter(|h| h.units as u64 + more as u64 <= u32::MAX as u64);
+        let full = known.is_some_and(|h| h.ranges.iter().next_back().is_some_and(|(&at, &units)| at + units == h.units));
+        let nodes = known.is_some() && self.heaps.heap(number as u32).unwrap().allocator().block_count() + 1 < self.most_nodes(number);
+        let expected = known.is_some() && (more == 0 || !full || nodes);
+        let grows = known.is_some() && self.must_grow(number);
+        assert_eq!(self.heaps.extend_heap(number as u32, more), Ok(expected));
+        if !expected {
+            return;
+        }
+        let most = self.most_nodes(number);
+        let heap = self.model[number].as_mut().unwrap();
+        heap.units += more;
+        if grows {
+            heap.limit = most.min(2 * heap.limit);
+        }
+        assert_eq!(self.heaps.units_of_heap(number as u32), Some(heap.units));
+        assert_eq!(self.heaps.heap(number as u32).unwrap().allocator().max_allocs(), heap.limit);
+        self.counts[12] += 1;
+    }
+
+    // All ranges of all heaps slide to the front.
+    fn compact(&mut self) {
+        let mut moves = vec![];
+        self.heaps.compact(|number, it| moves.push((number, it.from, it.to, it.size)));
+        let mut expected = vec![];
+        for (number, heap) in self.model.iter().enumerate() {
+            let mut to = 0;
+            for (&from, &size) in heap.iter().flat_map(|h| &h.ranges) {
+                if from != to {
+                    expected.push((number as u32, from, to, size));
+                }
+                to += size;
+            }
+        }
+        assert_eq!(moves, expected);
+        self.moved(&moves);
+        self.counts[13] += moves.len() as u64;
+        self.walk_all();
+    }
+
+    // Ranges have moved within their heaps.
+    fn moved(&mut self, moves: &[(u32, u32, u32, u32)]) {
+        for &(number, from, to, size) in moves {
             let heap = self.model[number as usize].as_mut().unwrap();
             assert!(to < from && heap.ranges.remove(&from) == Some(size));
             assert!(heap.ranges.range(..from).next_back().map_or(true, |(&at, &units)| at + units <= to));
@@ -300,7 +386,6 @@ impl<T: Tables> Run<T> {
             let place = self.places[&moved];
             self.places.insert(moved, Place { ticket: offset_allocator_heaps::Ticket { offset: to, ..place.ticket }, ..place });
         }
-        self.walk(number);
     }
 
     // All heaps, and all live ranges.
@@ -426,7 +511,8 @@ impl<T: Tables> Run<T> {
                         _ => 1 + self.numbers.below(self.limits.size as u64 / 4) as u32,
                     };
                     let align = self.align(3, 8);
-                    self.allocate(size, align);
+                    let tight = self.numbers.below(4) == 0;
+                    self.allocate(size, align, tight);
                 }
                 40..=89 => self.free(),
                 90..=92 => self.drop_empty(),
@@ -454,6 +540,11 @@ impl<T: Tables> Run<T> {
                     self.resize();
                     self.slide();
                     self.walk_all();
+                    match self.numbers.below(6) {
+                        0 => self.extend(),
+                        1 => self.compact(),
+                        _ => {}
+                    }
                 }
             }
             if call % 64 == 0 {
@@ -466,20 +557,26 @@ impl<T: Tables> Run<T> {
 }
 
 fn runs<T: Tables>(calls: u64) {
-    let limits = |size, max_allocs, most, most_larger| Limits { size, max_allocs, first_allocs: max_allocs, most, most_larger };
+    let limits = |size, max_allocs, most, most_larger| Limits { size, first_size: size, max_allocs, first_allocs: max_allocs, most, most_larger };
     let few = |limits, first_allocs| Limits { first_allocs, ..limits };
     // few nodes, so that heaps are full with one and with two blocks left; many heaps; no larger ones; none at all; heaps that
-    // grow, at last to a limit that is no double
+    // grow, at last to a limit that is no double; heaps that double, to a size that is no double, to one that no number
+    // reaches, and from a unit on
     let all = [limits(1_000, 8, 5, 3), limits(64, 4, 37, 11), limits(4_096, 60, 3, 0), limits(500, 20, 0, 4)];
     let growing = [few(limits(1_000, 100, 4, 2), 8), few(limits(600, 21, 5, 1), 9)];
-    for (limits, state) in all.into_iter().chain(growing).zip(1..) {
+    let small = |limits, first_size| Limits { first_size, ..limits };
+    let doubling = [small(limits(1_000, 8, 6, 3), 130), small(few(limits(4_000, 40, 4, 2), 8), 70), small(limits(800, 6, 40, 2), 1)];
+    for (limits, state) in all.into_iter().chain(growing).chain(doubling).zip(1..) {
         let mut run = Run::<T>::new(limits, 0x9E37_79B9_7F4A_7C15 + state);
         run.run(calls / 6);
-        println!("{limits:?}: {:?} refused, new, larger, granted, freed, dropped, given up, reset, relocated, emptied, grown", run.counts);
+        println!("{limits:?}: {:?} refused, new, larger, granted, freed, dropped, given up, reset, relocated, emptied, grown, filled, extended, moved, passed over", run.counts);
         assert!(run.counts[0] > 0 && run.counts[3] > 0 && run.counts[4] > 0 && run.counts[6] > 0 && run.counts[7] > 0);
         assert!(run.counts[5] > 0, "an empty heap is dropped");
         assert!(run.counts[8] > 0 && run.counts[9] > 0, "a heap is emptied into others");
+        assert!(run.counts[11] > 0 || limits.most == 0, "a tight request is granted where no other is");
+        assert!(run.counts[12] > 0 && run.counts[13] > 0, "a heap gets units, and all are compacted");
         assert_eq!(run.counts[10] > 0, limits.first_allocs < limits.max_allocs);
+        assert_eq!(run.counts[14] > 0, limits.first_size < limits.size, "a number whose heap is too small is passed over");
         assert_eq!(run.counts[1] > 0, limits.most > 0);
         assert_eq!(run.counts[2] > 0, limits.most_larger > 0);
     }
@@ -502,7 +599,7 @@ fn two_million_random_calls() {
 // No heap may be made.
 #[test]
 fn no_heap() {
-    let limits = Limits { size: 100, max_allocs: 4, first_allocs: 4, most: 0, most_larger: 0 };
+    let limits = Limits { size: 100, first_size: 100, max_allocs: 4, first_allocs: 4, most: 0, most_larger: 0 };
     let mut heaps = Heaps::<u32>::new(Global, limits, 0).unwrap();
     assert_eq!(heaps.allocate(1), Err(Refusal::Full));
     assert_eq!(heaps.allocate(101), Err(Refusal::TooLarge));
@@ -516,7 +613,7 @@ fn no_heap() {
 // A larger heap is exactly as large as its request, and all of it is granted.
 #[test]
 fn larger_heaps() {
-    let limits = Limits { size: 1_000, max_allocs: 4, first_allocs: 4, most: 1, most_larger: 2 };
+    let limits = Limits { size: 1_000, first_size: 1_000, max_allocs: 4, first_allocs: 4, most: 1, most_larger: 2 };
     let mut heaps = Heaps::<u32>::new(Global, limits, 3).unwrap();
     // 960 is the largest size of a class below 1,000
     let page = heaps.allocate(960).unwrap();
@@ -537,11 +634,49 @@ fn larger_heaps() {
     assert!(heaps.is_live(next.place));
 }
 
+// The usual heaps of numbers 0, 1, 2 and 3 have 256, 512, 1024 and 1024 units. One is made at the first number that has none and
+// whose heap has room for the request; a dropped one is made again with its size.
+#[test]
+fn doubling_heaps() {
+    let limits = Limits { size: 1_024, first_size: 256, max_allocs: 8, first_allocs: 8, most: 4, most_larger: 1 };
+    let mut heaps = Heaps::<u32>::new(Global, limits, 3).unwrap();
+    let made: Vec<Place> = [256, 512, 1_024, 1_024].map(|units| heaps.allocate(units).unwrap().place).to_vec();
+    assert_eq!([0, 1, 2, 3].map(|at| made[at].heap), [0, 1, 2, 3]);
+    assert_eq!([0, 1, 2, 3, 4].map(|number| heaps.units_of_heap(number)), [Some(256), Some(512), Some(1_024), Some(1_024), None]);
+    assert_eq!(heaps.refusal(1), Some(Refusal::Full));
+    // number 0 has too few units for 300: without number 1 another is made there
+    assert!(heaps.free(made[0]) && heaps.drop_heap(0) && heaps.free(made[1]) && heaps.drop_heap(1));
+    assert_eq!(heaps.refusal(513), Some(Refusal::Full));
+    let granted = heaps.allocate_aligned(300, 256).unwrap();
+    assert_eq!((granted.place.heap, granted.is_new, heaps.units_of_heap(1)), (1, true, Some(512)));
+    // what the 212 units behind it do not hold, makes number 0 again
+    let granted = heaps.allocate(250).unwrap();
+    assert_eq!((granted.place.heap, granted.is_new, heaps.units_of_heap(0)), (0, true, Some(256)));
+    // more than any usual heap holds
+    let large = heaps.allocate(1_025).unwrap();
+    assert_eq!((large.place.heap, large.is_new, heaps.units_of_heap(4)), (4, true, Some(1_025)));
+    let same = Heaps::<u32>::read_state(Global, &heaps.write_state(Global).unwrap(), 5, 8).unwrap();
+    assert_eq!((same.limits(), same.totals()), (limits, heaps.totals()));
+}
+
+// Where no number is so high that its heap has the largest size, a request that only that would hold is for a larger heap.
+#[test]
+fn a_size_that_no_number_reaches() {
+    let limits = Limits { size: 1_024, first_size: 256, max_allocs: 8, first_allocs: 8, most: 2, most_larger: 1 };
+    let mut heaps = Heaps::<u32>::new(Global, limits, 3).unwrap();
+    let large = heaps.allocate(513).unwrap();
+    assert_eq!((large.place.heap, large.is_new, heaps.units_of_heap(2)), (2, true, Some(513)));
+    assert_eq!(heaps.refusal(1_024), Some(Refusal::Full));
+    let mut none_larger = Heaps::<u32>::new(Global, Limits { most_larger: 0, ..limits }, 3).unwrap();
+    assert_eq!((none_larger.refusal(513), none_larger.refusal(512)), (Some(Refusal::TooLarge), None));
+    assert_eq!(none_larger.allocate(512).unwrap().place.heap, 1);
+}
+
 // A range may come back to a heap, where others have gone; the sum of the squares of the heaps' live units grows by
 // 2 u (b - a) + 2 u u at each, where u units go from a heap of a live units to one of b.
 #[test]
 fn a_range_comes_back() {
-    let limits = Limits { size: 16, max_allocs: 8, first_allocs: 8, most: 3, most_larger: 0 };
+    let limits = Limits { size: 16, first_size: 16, max_allocs: 8, first_allocs: 8, most: 3, most_larger: 0 };
     let mut heaps = Heaps::<u32>::new(Global, limits, 3).unwrap();
     let [r, a, gone, b, also, c] = [1, 4, 11, 5, 11, 10].map(|size| heaps.allocate(size).unwrap().place);
     assert_eq!([r, a, gone, b, also, c].map(|place| place.heap), [0, 0, 0, 1, 1, 2]);
@@ -564,7 +699,7 @@ fn a_range_comes_back() {
 // The first range of a heap begins at 0, a multiple of every alignment: a page at an alignment fits a page.
 #[test]
 fn aligned_pages() {
-    let limits = Limits { size: 1_024, max_allocs: 4, first_allocs: 4, most: 2, most_larger: 0 };
+    let limits = Limits { size: 1_024, first_size: 1_024, max_allocs: 4, first_allocs: 4, most: 2, most_larger: 0 };
     let mut heaps = Heaps::<u32>::new(Global, limits, 3).unwrap();
     let first = heaps.allocate_aligned(1_024, 256).unwrap();
     assert_eq!((first.place.heap, first.is_new, first.place.ticket.offset), (0, true, 0));
@@ -577,23 +712,44 @@ fn aligned_pages() {
 #[test]
 #[should_panic(expected = "max_allocs must be at least 4")]
 fn too_few_nodes() {
-    let _ = Heaps::<u32>::new(Global, Limits { size: 1, max_allocs: 3, first_allocs: 3, most: 1, most_larger: 0 }, 0);
+    let _ = Heaps::<u32>::new(Global, Limits { size: 1, first_size: 1, max_allocs: 3, first_allocs: 3, most: 1, most_larger: 0 }, 0);
+}
+
+#[test]
+#[should_panic(expected = "first_size must be at least 1, or size")]
+fn no_first_units() {
+    let _ = Heaps::<u32>::new(Global, Limits { size: 1, first_size: 0, max_allocs: 4, first_allocs: 4, most: 1, most_larger: 0 }, 0);
+}
+
+#[test]
+#[should_panic(expected = "first_size must be at most size")]
+fn too_many_first_units() {
+    let _ = Heaps::<u32>::new(Global, Limits { size: 9, first_size: 10, max_allocs: 4, first_allocs: 4, most: 1, most_larger: 0 }, 0);
+}
+
+// Without units no usual heap has room: each request has a heap of its own.
+#[test]
+fn no_usual_units() {
+    let limits = Limits { size: 0, first_size: 0, max_allocs: 4, first_allocs: 4, most: 3, most_larger: 2 };
+    let mut heaps = Heaps::<u32>::new(Global, limits, 0).unwrap();
+    assert_eq!((heaps.allocate(1).unwrap().place.heap, heaps.allocate(7).unwrap().place.heap), (3, 4));
+    assert_eq!(heaps.refusal(1), Some(Refusal::Full));
 }
 
 #[test]
 #[should_panic(expected = "first_allocs must be at least 8, or max_allocs")]
 fn too_few_first_nodes() {
-    let _ = Heaps::<u32>::new(Global, Limits { size: 1, max_allocs: 100, first_allocs: 7, most: 1, most_larger: 0 }, 0);
+    let _ = Heaps::<u32>::new(Global, Limits { size: 1, first_size: 1, max_allocs: 100, first_allocs: 7, most: 1, most_larger: 0 }, 0);
 }
 
 #[test]
 #[should_panic(expected = "first_allocs must be at most max_allocs")]
 fn too_many_first_nodes() {
-    let _ = Heaps::<u32>::new(Global, Limits { size: 1, max_allocs: 9, first_allocs: 10, most: 1, most_larger: 0 }, 0);
+    let _ = Heaps::<u32>::new(Global, Limits { size: 1, first_size: 1, max_allocs: 9, first_allocs: 10, most: 1, most_larger: 0 }, 0);
 }
 
 #[test]
 #[should_panic(expected = "there may be at most 4294967295 heaps")]
 fn too_many_heaps() {
-    let _ = Heaps::<u32>::new(Global, Limits { size: 1, max_allocs: 4, first_allocs: 4, most: u32::MAX, most_larger: 1 }, 0);
+    let _ = Heaps::<u32>::new(Global, Limits { size: 1, first_size: 1, max_allocs: 4, first_allocs: 4, most: u32::MAX, most_larger: 1 }, 0);
 }

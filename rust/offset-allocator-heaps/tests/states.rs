@@ -28,8 +28,8 @@ fn count() -> u64 {
 // The numbers of 64 bits that a state begins with, without the checksum, and the bytes behind that: written here anew.
 fn parts(state: &[u8]) -> (Vec<u64>, Vec<u8>) {
     let number = |place: usize| u64::from_le_bytes(state[8 * place..8 * place + 8].try_into().unwrap());
-    let slots = (number(5) + number(6)) as usize;
-    ((0..10 + slots).map(number).collect(), state[88 + 8 * slots..].to_vec())
+    let slots = (number(6) + number(7)) as usize;
+    ((0..11 + slots).map(number).collect(), state[96 + 8 * slots..].to_vec())
 }
 
 fn joined(numbers: &[u64], rest: &[u8]) -> Vec<u8> {
@@ -54,7 +54,9 @@ impl<T: Tables<Index = u32>> Worked<T> {
         let chosen = (!self.held.is_empty()).then(|| self.held[random.below(self.held.len() as u32) as usize]);
         match (kind, chosen) {
             (0..=4, _) => {
-                let granted = self.heaps.allocate_aligned(size, if kind < 3 { 1 } else { align });
+                let align = if kind < 3 { 1 } else { align };
+                let is_tight = random.below(8) == 0;
+                let granted = if is_tight { self.heaps.allocate_tight_aligned(size, align) } else { self.heaps.allocate_aligned(size, align) };
                 if let Ok(it) = granted {
                     self.held.push(it.place);
                     self.made += u64::from(it.is_new);
@@ -69,6 +71,12 @@ impl<T: Tables<Index = u32>> Worked<T> {
                     String::new()
                 }
                 1 => format!("{}", self.heaps.give_up(random.below(6))),
+                2 | 3 => format!("{:?}", self.heaps.extend_heap(random.below(6), random.below(300))),
+                4 => {
+                    let mut moves = Vec::new();
+                    self.heaps.compact(|number, it| moves.push((number, it.from, it.to, it.size)));
+                    format!("{moves:?}")
+                }
                 _ => format!("{:?}", self.heaps.totals()),
             },
         }
@@ -78,8 +86,10 @@ impl<T: Tables<Index = u32>> Worked<T> {
 fn worked<T: Tables<Index = u32>>(random: &mut Random) -> Worked<T> {
     let max_allocs = 4 + random.below(36);
     let least = max_allocs.min(8);
+    let size = random.below(1_500);
     let limits = Limits {
-        size: random.below(1_500),
+        size,
+        first_size: if random.below(2) == 0 { size } else { size.min(1 + random.below(size.max(1))) },
         max_allocs,
         first_allocs: least + random.below(max_allocs - least + 1),
         most: random.below(6),
@@ -105,7 +115,7 @@ fn goes_on<T: Tables<Index = u32>>(seed: u64, rounds: u64) {
         // the numbers, as the calls so far have them, and the states of the heaps
         let limits = own.heaps.limits();
         let slots = limits.most + limits.most_larger;
-        let mut wanted = vec![0x5348_414f, 2, limits.size.into(), limits.max_allocs.into(), limits.first_allocs.into()];
+        let mut wanted = vec![0x5348_414f, 3, limits.size.into(), limits.first_size.into(), limits.max_allocs.into(), limits.first_allocs.into()];
         wanted.extend([limits.most.into(), limits.most_larger.into(), own.made, own.heaps.realm().into(), 0]);
         let mut states = Vec::new();
         for number in 0..slots {
@@ -147,23 +157,24 @@ const MOST: u64 = 40;
 
 // What is wrong with the numbers before states of so many bytes, if anything is but the realm or the state of a heap.
 fn fault_of(numbers: &[u64], rest: usize) -> Option<(usize, StateFaultKind)> {
-    if (numbers[0], numbers[1]) != (1_397_244_239, 2) {
+    if (numbers[0], numbers[1]) != (1_397_244_239, 3) {
         return Some((0, StateFaultKind::Form));
     }
     let length = 8 * numbers.len() + 8 + rest;
     let bad = |place: usize, is_bad: bool, kind| is_bad.then_some((8 * place, kind));
-    let slots = numbers[5].wrapping_add(numbers[6]);
+    let slots = numbers[6].wrapping_add(numbers[7]);
     None.or_else(|| bad(2, numbers[2] >= 1 << 32, StateFaultKind::Limits))
-        .or_else(|| bad(3, numbers[3] < 4 || numbers[3] > MOST, StateFaultKind::Limits))
-        .or_else(|| bad(4, numbers[4] > numbers[3] || numbers[4] < 8 && numbers[4] != numbers[3], StateFaultKind::Limits))
-        .or_else(|| bad(5, numbers[5] > MOST, StateFaultKind::Limits))
-        .or_else(|| bad(6, numbers[6] > MOST || slots > MOST, StateFaultKind::Limits))
-        .or_else(|| bad(7, numbers[7] >= 1 << 32, StateFaultKind::Counts))
+        .or_else(|| bad(3, numbers[3] > numbers[2] || numbers[3] == 0 && numbers[2] != 0, StateFaultKind::Limits))
+        .or_else(|| bad(4, numbers[4] < 4 || numbers[4] > MOST, StateFaultKind::Limits))
+        .or_else(|| bad(5, numbers[5] > numbers[4] || numbers[5] < 8 && numbers[5] != numbers[4], StateFaultKind::Limits))
+        .or_else(|| bad(6, numbers[6] > MOST, StateFaultKind::Limits))
+        .or_else(|| bad(7, numbers[7] > MOST || slots > MOST, StateFaultKind::Limits))
         .or_else(|| bad(8, numbers[8] >= 1 << 32, StateFaultKind::Counts))
-        .or_else(|| (slots > (length as u64 - 88) / 8).then_some((length, StateFaultKind::Length)))
-        .or_else(|| bad(10 + slots as usize, slots != numbers.len() as u64 - 10, StateFaultKind::Checksum))
-        .or_else(|| bad(9, numbers[9] != 0, StateFaultKind::Place))
-        .or_else(|| bad(9 + slots as usize, numbers[9 + slots as usize] != rest as u64, StateFaultKind::Place))
+        .or_else(|| bad(9, numbers[9] >= 1 << 32, StateFaultKind::Counts))
+        .or_else(|| (slots > (length as u64 - 96) / 8).then_some((length, StateFaultKind::Length)))
+        .or_else(|| bad(11 + slots as usize, slots != numbers.len() as u64 - 11, StateFaultKind::Checksum))
+        .or_else(|| bad(10, numbers[10] != 0, StateFaultKind::Place))
+        .or_else(|| bad(10 + slots as usize, numbers[10 + slots as usize] != rest as u64, StateFaultKind::Place))
 }
 
 // Changes some of the numbers.
@@ -176,12 +187,12 @@ fn change(numbers: &mut Vec<u64>, random: &mut Random) {
             2 => numbers[place] = numbers[place].wrapping_add(1),
             3 => numbers[place] = numbers[place].wrapping_sub(1),
             // the number of heaps that were made, and the realm
-            4 => numbers[7] = u64::from(random.below(90)),
-            5 => numbers[8] = u64::from(random.next() as u32),
+            4 => numbers[8] = u64::from(random.below(90)),
+            5 => numbers[9] = u64::from(random.next() as u32),
             // one larger heap more, which has no state, or two in another order
             6 => {
                 numbers.push(*numbers.last().unwrap());
-                numbers[6] = numbers[6].wrapping_add(1);
+                numbers[7] = numbers[7].wrapping_add(1);
             }
             _ => {
                 let other = random.below(numbers.len() as u32) as usize;
@@ -219,9 +230,9 @@ fn changed_states_are_read_or_refused() {
                 if kind == StateFaultKind::Size {
                     // at the start of a heap, and the limits were changed, or which heaps there are
                     let start = 8 * numbers.len() + 8;
-                    let slots = numbers.len() - 10;
-                    assert!((0..slots).any(|k| numbers[10 + k] > numbers[9 + k] && start as u64 + numbers[9 + k] == at as u64));
-                    assert!(numbers[2..7] != old[2..7] || numbers[9..] != old[9..]);
+                    let slots = numbers.len() - 11;
+                    assert!((0..slots).any(|k| numbers[11 + k] > numbers[10 + k] && start as u64 + numbers[10 + k] == at as u64));
+                    assert!(numbers[2..8] != old[2..8] || numbers[10..] != old[10..]);
                 }
                 *kinds.entry(format!("{kind:?}").split('(').next().unwrap().into()).or_default() += 1;
             }
@@ -229,14 +240,16 @@ fn changed_states_are_read_or_refused() {
                 read += 1;
                 assert_eq!(wanted, None, "{numbers:?}");
                 assert_eq!(written(&heaps), state);
-                let made = numbers[7];
+                let made = numbers[8];
                 let limits = heaps.limits();
                 for number in 0..limits.most + limits.most_larger {
                     let Some(heap) = heaps.heap(number) else { continue };
                     let (size, limit) = (heap.allocator().size(), heap.allocator().max_allocs());
                     assert!(u64::from(heap.realm()) <= made);
                     if number < limits.most {
-                        assert_eq!(size, limits.size);
+                        // twice the units of the one before it, up to the size of the limits; it may have more
+                        let usual = (0..number).fold(limits.first_size, |units, _| units.saturating_mul(2).min(limits.size));
+                        assert!(size >= usual);
                         assert!((limits.first_allocs..=limits.max_allocs).contains(&limit));
                         assert!(limit == limits.max_allocs || heap.allocator().statistics().unused_nodes >= 3);
                     } else {
@@ -282,7 +295,7 @@ fn changed_bytes_are_refused() {
             // what that heap alone is refused for, behind the heaps before it
             let (numbers, rest) = parts(&state);
             let start = last + 16;
-            let heap = (10..numbers.len()).find(|k| place < start + numbers[*k] as usize).unwrap();
+            let heap = (11..numbers.len()).find(|k| place < start + numbers[*k] as usize).unwrap();
             let (from, to) = (numbers[heap - 1] as usize, numbers[heap] as usize);
             let own = known(GuardedOf::<ByNode<u32>>::read_state(Global, &rest[from..to], 100)).err().unwrap();
             assert_eq!((fault.at, fault.kind), (start + from + own.at, StateFaultKind::Heap(own.kind)));
@@ -299,19 +312,19 @@ fn made_up_bytes_are_refused() {
         let length = random.below(200) as usize;
         let mut made: Vec<u8> = (0..length).map(|_| if random.below(3) == 0 { random.next() as u8 } else { 0 }).collect();
         if length >= 16 && random.below(2) == 0 {
-            made[..16].copy_from_slice(b"OAHS\0\0\0\0\x02\0\0\0\0\0\0\0");
+            made[..16].copy_from_slice(b"OAHS\0\0\0\0\x03\0\0\0\0\0\0\0");
         }
         assert!(known(Heaps::<u32>::read_state(Global, &made, u32::MAX, u32::MAX)).is_err());
     }
     // no limit is a number to request memory by before the caller admits it
-    let limits = Limits { size: 10, max_allocs: 100, first_allocs: 100, most: 3, most_larger: 2 };
+    let limits = Limits { size: 10, first_size: 10, max_allocs: 100, first_allocs: 100, most: 3, most_larger: 2 };
     let heaps = Heaps::<u32>::new(Global, limits, 7).unwrap();
     let state = written(&heaps);
     let fault = |most, allocs| known(Heaps::<u32>::read_state(Global, &state, most, allocs)).err();
     assert_eq!(fault(5, 100), None);
-    assert_eq!(fault(5, 99), Some(StateFault { at: 24, kind: StateFaultKind::Limits }));
-    assert_eq!(fault(4, 100), Some(StateFault { at: 48, kind: StateFaultKind::Limits }));
-    assert_eq!(fault(2, 100), Some(StateFault { at: 40, kind: StateFaultKind::Limits }));
+    assert_eq!(fault(5, 99), Some(StateFault { at: 32, kind: StateFaultKind::Limits }));
+    assert_eq!(fault(4, 100), Some(StateFault { at: 56, kind: StateFaultKind::Limits }));
+    assert_eq!(fault(2, 100), Some(StateFault { at: 48, kind: StateFaultKind::Limits }));
     let error: Box<dyn std::error::Error> = fault(2, 100).unwrap().into();
-    assert_eq!(error.to_string(), "limits that are not admitted, at byte 40");
+    assert_eq!(error.to_string(), "limits that are not admitted, at byte 48");
 }

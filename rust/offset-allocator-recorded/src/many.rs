@@ -3,7 +3,7 @@
 use crate::tape::{bits_of, in_one_line, Numbers, Tape};
 use crate::{word_of, Recorded};
 use offset_allocator_guarded::{Beside, GuardedOf};
-use offset_allocator_heaps::{Granted, HeapsOf, Place, Refusal};
+use offset_allocator_heaps::{AllocError, Granted, HeapsOf, Place, Refusal};
 use offset_allocator_proved::{AllocatorOf, Move, RoomCost, Tables};
 use std::collections::HashMap;
 use std::io::{self, Write};
@@ -208,7 +208,7 @@ impl<W: Write> Write for Part<W> {
 /// ```
 /// # use offset_allocator_recorded::*;
 /// # use offset_allocator_heaps::{Heaps, Limits};
-/// let limits = Limits { size: 1000, max_allocs: 16, first_allocs: 16, most: 2, most_larger: 1 };
+/// let limits = Limits { size: 1000, first_size: 1000, max_allocs: 16, first_allocs: 16, most: 2, most_larger: 1 };
 /// let mut heaps = RecordedHeaps::new(Heaps::<u32>::new(Global, limits, 1).unwrap(), Vec::new()).unwrap();
 /// let rock = heaps.name("mesh: rock").allocate(300).unwrap();
 /// assert!(heaps.allocate(0).is_err());
@@ -322,7 +322,7 @@ impl<T: Tables, W: Write> RecordedHeaps<T, W> {
     /// ```
     /// # use offset_allocator_recorded::*;
     /// # use offset_allocator_heaps::{Heaps, Limits};
-    /// let limits = Limits { size: 1000, max_allocs: 16, first_allocs: 16, most: 2, most_larger: 1 };
+    /// let limits = Limits { size: 1000, first_size: 1000, max_allocs: 16, first_allocs: 16, most: 2, most_larger: 1 };
     /// let mut heaps = RecordedHeaps::new(Heaps::<u32>::new(Global, limits, 1).unwrap(), Vec::new()).unwrap();
     /// let mut meshes = Beside::new(Global);
     /// let rock = heaps.allocate(300).unwrap().place;
@@ -383,16 +383,35 @@ impl<T: Tables, W: Write> RecordedHeaps<T, W> {
     pub fn allocate_aligned(&mut self, size: u32, align: u32) -> Result<Granted, Refusal> {
         let name = self.name.take();
         let found = self.heaps.allocate_aligned(size, align);
+        self.requested(found, size, align, false, name)
+    }
+
+    /// `HeapsOf::allocate_tight`.
+    pub fn allocate_tight(&mut self, size: u32) -> Result<Granted, Refusal> {
+        self.allocate_tight_aligned(size, 1)
+    }
+
+    /// `HeapsOf::allocate_tight_aligned`: `align` has to be at least 1. For 0 it panics, and writes nothing.
+    #[track_caller]
+    pub fn allocate_tight_aligned(&mut self, size: u32, align: u32) -> Result<Granted, Refusal> {
+        let name = self.name.take();
+        let found = self.heaps.allocate_tight_aligned(size, align);
+        self.requested(found, size, align, true, name)
+    }
+
+    // Writes a request, with its name, and the heap that was made for it.
+    fn requested(&mut self, found: Result<Granted, Refusal>, size: u32, align: u32, is_tight: bool, name: Option<String>) -> Result<Granted, Refusal> {
         match &found {
             Err(why) => {
                 if let Some(name) = name {
                     self.tape.write(format_args!("# {name}"));
                 }
                 let why = word_of(*why);
-                if align == 1 {
-                    self.tape.write(format_args!("none alloc {size} {why}"));
-                } else {
-                    self.tape.write(format_args!("none align {size} {align} {why}"));
+                match (is_tight, align) {
+                    (true, 1) => self.tape.write(format_args!("none tight {size} {why}")),
+                    (true, _) => self.tape.write(format_args!("none tight {size} {align} {why}")),
+                    (false, 1) => self.tape.write(format_args!("none alloc {size} {why}")),
+                    (false, _) => self.tape.write(format_args!("none align {size} {align} {why}")),
                 }
             }
             Ok(granted) => {
@@ -407,6 +426,8 @@ impl<T: Tables, W: Write> RecordedHeaps<T, W> {
                 // a fresh heap grants its first range at 0, a multiple of all; a larger one all its units
                 match (granted.is_new, align) {
                     (true, _) if heap >= self.heaps.limits().most => self.grant(granted.place, format_args!("tight {size}"), name),
+                    (false, 1) if is_tight => self.grant(granted.place, format_args!("tight {size}"), name),
+                    (false, _) if is_tight => self.grant(granted.place, format_args!("tight {size} {align}"), name),
                     (true, _) | (_, 1) => self.grant(granted.place, format_args!("alloc {size}"), name),
                     _ => self.grant(granted.place, format_args!("align {size} {align}"), name),
                 }
@@ -475,6 +496,25 @@ impl<T: Tables, W: Write> RecordedHeaps<T, W> {
         self.resized(place, number, "grow", size, done)
     }
 
+    /// `HeapsOf::extend_heap`. Where it is not done nothing is written.
+    ///
+    /// # Errors
+    ///
+    /// As those of that call.
+    pub fn extend_heap(&mut self, number: u32, more: u32) -> Result<bool, AllocError> {
+        let done = self.heaps.extend_heap(number, more);
+        if done == Ok(true) {
+            self.tape.write(format_args!("heap {number} extend {more}"));
+        }
+        done
+    }
+
+    /// `HeapsOf::compact`: a line for each heap that there is.
+    pub fn compact<F: FnMut(u32, Move<T::Index>)>(&mut self, moved: F) {
+        self.heaps.compact(moved);
+        self.each("compact");
+    }
+
     /// `HeapsOf::compact_heap`. Of a number that has no heap nothing is written.
     pub fn compact_heap<F: FnMut(Move<T::Index>)>(&mut self, number: u32, moved: F) -> bool {
         let is_done = self.heaps.compact_heap(number, moved);
@@ -528,6 +568,11 @@ impl<T: Tables, W: Write> RecordedHeaps<T, W> {
     /// `HeapsOf::reset`: a line for each heap that there is.
     pub fn reset(&mut self) {
         self.heaps.reset();
+        self.each("reset");
+    }
+
+    // Writes a line for each heap that there is.
+    fn each(&mut self, call: &str) {
         let limits = self.heaps.limits();
         let mut left = self.heaps.totals().heaps;
         for number in 0..limits.most + limits.most_larger {
@@ -535,7 +580,7 @@ impl<T: Tables, W: Write> RecordedHeaps<T, W> {
                 break;
             }
             if self.heaps.heap(number).is_some() {
-                self.tape.write(format_args!("heap {number} reset"));
+                self.tape.write(format_args!("heap {number} {call}"));
                 left -= 1;
             }
         }

@@ -141,6 +141,8 @@ fn no_heap(rest: &[u8]) -> Option<NoHeap> {
     Some(match words[..count] {
         [b"alloc", n, w] => NoHeap::Refused(number(n)?, 1, why(w)?),
         [b"align", n, a, w] => NoHeap::Refused(number(n)?, number(a).filter(|a| *a >= 1)?, why(w)?),
+        [b"tight", n, w] => NoHeap::Refused(number(n)?, 1, why(w)?),
+        [b"tight", n, a, w] => NoHeap::Refused(number(n)?, number(a).filter(|a| *a >= 1)?, why(w)?),
         [b"relocate", n, a] => NoHeap::Kept(number(n)?, number(a).filter(|a| *a >= 1)?),
         [b"free"] | [b"relocate"] => NoHeap::Gone,
         _ => return None,

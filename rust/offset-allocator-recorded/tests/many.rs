@@ -17,7 +17,7 @@ fn fault(text: &str) -> String {
 
 #[test]
 fn ranges_of_heaps_change_in_place() {
-    let limits = Limits { size: 100, max_allocs: 16, first_allocs: 8, most: 1, most_larger: 0 };
+    let limits = Limits { size: 100, first_size: 100, max_allocs: 16, first_allocs: 8, most: 1, most_larger: 0 };
     let mut heaps = RecordedHeaps::new(Heaps::<u16>::new(Global, limits, 1).unwrap(), Vec::new()).unwrap();
     let places: Vec<Place> = [20, 20, 20].map(|size| heaps.allocate(size).unwrap().place).to_vec();
     // four of eight nodes are unused, so one more block may be added, and with three unused none may
@@ -39,8 +39,37 @@ fn ranges_of_heaps_change_in_place() {
 }
 
 #[test]
+fn heaps_become_larger_and_are_filled() {
+    let limits = Limits { size: 100, first_size: 100, max_allocs: 16, first_allocs: 16, most: 2, most_larger: 0 };
+    let mut heaps = RecordedHeaps::new(Heaps::<u16>::new(Global, limits, 1).unwrap(), Vec::new()).unwrap();
+    let [hole, rock] = [21, 70].map(|size| heaps.allocate(size).unwrap().place);
+    // a request of 21 units is rounded up to 22, and of the last 9 units 4 begin at a multiple of 16
+    assert!(heaps.free(hole) && heaps.name("fills").allocate_tight(21).unwrap().place.heap == 0);
+    assert_eq!(heaps.allocate_tight_aligned(4, 16).unwrap().place.ticket.offset, 96);
+    let other = heaps.allocate_tight(90).unwrap();
+    assert_eq!((other.place.heap, other.is_new), (1, true));
+    assert_eq!(heaps.allocate_tight(11), Err(Refusal::Full));
+    assert_eq!(heaps.name("too large").allocate_tight_aligned(97, 8), Err(Refusal::TooLarge));
+    assert_eq!((heaps.extend_heap(1, 30), heaps.extend_heap(7, 1), heaps.extend_heap(1, u32::MAX)), (Ok(true), Ok(false), Ok(false)));
+    assert_eq!(heaps.allocate_tight(40).unwrap().place.heap, 1);
+    assert!(heaps.free(rock) && heaps.free(other.place));
+    let mut moves = Vec::new();
+    heaps.compact(|number, it| moves.push((number, it.from, it.to, it.size)));
+    assert_eq!(moves, [(0, 96, 21, 4), (1, 90, 0, 40)]);
+    let text = String::from_utf8(heaps.finish().1.unwrap()).unwrap();
+    assert_eq!(
+        text,
+        "heap 0 space 100 nodes 16 index 16\nheap 0 alloc 21\nheap 0 alloc 70\nheap 0 free 1\n# fills\nheap 0 tight 21\n\
+         heap 0 tight 4 16\nheap 1 space 100 nodes 16 index 16\nheap 1 alloc 90\nnone tight 11 full\n# too large\nnone tight 97 8 larger\n\
+         heap 1 extend 30\nheap 1 tight 40\nheap 0 free 2\nheap 1 free 1\nheap 0 compact\nheap 1 compact\n"
+    );
+    let wanted = ["heap 0 grant 3 at 0", "heap 0 grant 4 at 96", "heap 1 grant 1 at 0", "none", "none", "heap 1 extended", "heap 1 grant 2 at 90"];
+    assert_eq!(answers(&text)[3..10], wanted, "{text}");
+}
+
+#[test]
 fn each_call_of_heaps_is_a_line() {
-    let limits = Limits { size: 1000, max_allocs: 16, first_allocs: 16, most: 2, most_larger: 1 };
+    let limits = Limits { size: 1000, first_size: 1000, max_allocs: 16, first_allocs: 16, most: 2, most_larger: 1 };
     let mut heaps = RecordedHeaps::new(Heaps::<u16>::new(Global, limits, 1).unwrap(), Vec::new()).unwrap();
     let rock = heaps.name("mesh: rock\nand moss").allocate(300).unwrap();
     assert!(rock.is_new);
@@ -148,7 +177,7 @@ fn several_threads_write_whole_lines() {
 // Who plays it has heaps that do not grow: so each has the largest limit from the start.
 #[test]
 fn a_heap_that_grows_has_its_largest_limit() {
-    let limits = Limits { size: 1000, max_allocs: 100, first_allocs: 8, most: 1, most_larger: 0 };
+    let limits = Limits { size: 1000, first_size: 1000, max_allocs: 100, first_allocs: 8, most: 1, most_larger: 0 };
     let mut heaps = RecordedHeaps::new(Heaps::<u32>::new(Global, limits, 1).unwrap(), Vec::new()).unwrap();
     assert!((0..50).all(|_| heaps.allocate(1).is_ok()));
     assert_eq!(heaps.heap(0).unwrap().allocator().max_allocs(), 64);
@@ -235,7 +264,7 @@ fn a_recording_that_is_finished_too_early_goes_on() {
 
 #[test]
 fn a_failure_ends_the_recording_alone() {
-    let limits = Limits { size: 1000, max_allocs: 16, first_allocs: 16, most: 2, most_larger: 1 };
+    let limits = Limits { size: 1000, first_size: 1000, max_allocs: 16, first_allocs: 16, most: 2, most_larger: 1 };
     let mut room = [0u8; 60];
     let mut heaps = RecordedHeaps::new(Heaps::<u32>::new(Global, limits, 1).unwrap(), &mut room[..]).unwrap();
     assert!(heaps.allocate(300).is_ok() && heaps.failure().is_none());
@@ -260,7 +289,10 @@ fn random_heaps<T: Tables>(seed: u64) -> (usize, usize) {
     let mut random = Random(seed);
     let max_allocs = 4 + random.below(30);
     let first_allocs = if seed % 3 == 0 { max_allocs.min(8) } else { max_allocs };
-    let limits = Limits { size: 200 + random.below(2000), max_allocs, first_allocs, most: random.below(5), most_larger: random.below(4) };
+    let size = 200 + random.below(2000);
+    // of some the first heaps are small
+    let first_size = if seed % 4 == 0 { 1 + size / 9 } else { size };
+    let limits = Limits { size, first_size, max_allocs, first_allocs, most: random.below(5), most_larger: random.below(4) };
     let mut heaps = HeapsOf::<T>::new(Global, limits, 3).unwrap();
     let mut places: Vec<Place> = Vec::new();
     if seed % 2 == 0 {
@@ -294,7 +326,12 @@ fn random_heaps<T: Tables>(seed: u64) -> (usize, usize) {
             (11, _) => {
                 let number = random.below(9);
                 let (has, live) = (heaps.heap(number).is_some(), heaps.heap(number).is_some_and(|heap| !heap.allocator().is_empty()));
-                match random.below(4) {
+                match random.below(6) {
+                    4 => expected.extend(heaps.extend_heap(number, random.below(90)).unwrap().then(|| format!("heap {number} extended"))),
+                    5 => {
+                        heaps.compact(|_, _| ());
+                        expected.extend((0..9).filter(|number| heaps.heap(*number).is_some()).map(|number| format!("heap {number} compacted")));
+                    }
                     0 => expected.extend(heaps.give_up(number).then(|| format!("heap {number} given up"))),
                     1 => expected.extend(heaps.drop_empty(random.below(2)).map(|number| format!("heap {number} dropped"))),
                     2 if random.below(9) == 0 => {
@@ -309,7 +346,9 @@ fn random_heaps<T: Tables>(seed: u64) -> (usize, usize) {
             }
             _ => {
                 let size = if random.below(20) == 0 { 0 } else { random.below(limits.size / 2) * (1 + random.below(3)) };
-                expected.push(match heaps.allocate_aligned(size, if random.below(2) == 0 { 1 } else { 1 + random.below(70) }) {
+                let align = if random.below(2) == 0 { 1 } else { 1 + random.below(70) };
+                let found = if random.below(4) == 0 { heaps.allocate_tight_aligned(size, align) } else { heaps.allocate_aligned(size, align) };
+                expected.push(match found {
                     Err(_) => "none".to_owned(),
                     Ok(granted) => {
                         places.push(granted.place);
@@ -355,7 +394,7 @@ fn faults() {
         ("heap 3 give", "bad command"), ("heap 3 give up 1", "bad command"), ("heap 3 align 1 0", "bad command"), ("heap 3 space 100 nodes 1 index 32", "bad limit"),
         ("heap 5 space 100 nodes x index 32", "bad command"), ("none", "bad command"), ("none alloc 1", "bad command"), ("none alloc 1 small", "bad command"),
         ("none align 1 0 full", "bad command"), ("none relocate 1", "bad command"), ("none relocate 1 0", "bad command"), ("none free 1", "bad command"),
-        ("none alloc 4294967296 full", "bad command"), ("none tight 1 full", "bad command"), ("heap 3 heap 3 alloc 1", "bad command"),
+        ("none alloc 4294967296 full", "bad command"), ("none tight 1", "bad command"), ("none tight 1 small", "bad command"), ("none tight 1 0 full", "bad command"), ("heap 3 heap 3 alloc 1", "bad command"),
     ] {
         let text = format!("{begin}{line}\n");
         assert_eq!(fault(&text), format!("line 2: {why}"), "{line}");

@@ -138,7 +138,7 @@ fn ranges_of_many_heaps_have_their_names() {
 
 #[test]
 fn a_second_range_has_the_name_of_the_first() {
-    let limits = Limits { size: 100, max_allocs: 16, first_allocs: 16, most: 2, most_larger: 0 };
+    let limits = Limits { size: 100, first_size: 100, max_allocs: 16, first_allocs: 16, most: 2, most_larger: 0 };
     let mut heaps = RecordedHeaps::new(Heaps::<u32>::new(Global, limits, 1).unwrap(), Vec::new()).unwrap();
     let mut tables = [Beside::new(Global), Beside::new(Global)];
     let places = [60, 30, 90].map(|size| heaps.allocate(size).unwrap().place);

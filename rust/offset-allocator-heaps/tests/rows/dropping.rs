@@ -110,7 +110,7 @@ fn heaps_are_shown() {
     let heaps: Heaps = new(limits(10, 4, 4, 1, 0));
     assert_eq!(
         format!("{heaps:?}, {}", Refusal::Full),
-        "Heaps { realm: 9, limits: Limits { size: 10, max_allocs: 4, first_allocs: 4, most: 1, most_larger: 0 }, made: 0, \
+        "Heaps { realm: 9, limits: Limits { size: 10, first_size: 10, max_allocs: 4, first_allocs: 4, most: 1, most_larger: 0 }, made: 0, \
          totals: Totals { heaps: 0, units: 0, live_units: 0, free_units: 0, largest_free_region: 0 } }, \
          no heap has room, and no other may be made"
     );

@@ -22,7 +22,7 @@ pub(crate) use in_each_layout;
 
 /// Heaps of so many units and nodes, which begin with all of these, or with as many as `first_allocs`.
 fn limits(size: u32, max_allocs: u32, first_allocs: u32, most: u32, most_larger: u32) -> Limits {
-    Limits { size, max_allocs, first_allocs, most, most_larger }
+    Limits { size, first_size: size, max_allocs, first_allocs, most, most_larger }
 }
 
 /// No heap yet, of the realm 9.

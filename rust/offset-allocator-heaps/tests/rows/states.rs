@@ -24,141 +24,220 @@ struct Case {
 }
 
 // The limits, how many heaps were made, the realm, and the places: of one heap of the usual size, and of a
-// larger one that is not there. The state of the heap begins behind 8 * 13 bytes.
-const CASES: [Case; 25] = [
+// larger one that is not there. The state of the heap begins behind 8 * 14 bytes.
+const CASES: [Case; 32] = [
     Case {
-        numbers: &[HEAPS, 2, 100, 4, 4, 1, 1, 1, 9, 0, 116, 116],
+        numbers: &[HEAPS, 3, 100, 100, 4, 4, 1, 1, 1, 9, 0, 116, 116],
         start: 0,
         fault: None,
     },
     // it may be a larger heap, whose units are those of any request
     Case {
-        numbers: &[HEAPS, 2, 0xFFFF_FFFF, 5, 5, 0, 2, 0xFFFF_FFFF, 0, 0, 0, 116],
+        numbers: &[
+            HEAPS,
+            3,
+            0xFFFF_FFFF,
+            0xFFFF_FFFF,
+            5,
+            5,
+            0,
+            2,
+            0xFFFF_FFFF,
+            0,
+            0,
+            0,
+            116,
+        ],
         start: 0,
         fault: None,
     },
     Case {
-        numbers: &[HEAPS + 1, 2, 100, 4, 4, 1, 1, 1, 9, 0, 116, 116],
+        numbers: &[HEAPS + 1, 3, 100, 100, 4, 4, 1, 1, 1, 9, 0, 116, 116],
         start: 0,
         fault: Some((0, Form)),
     },
     Case {
-        numbers: &[HEAPS, 1, 100, 4, 4, 1, 1, 1, 9, 0, 116, 116],
+        numbers: &[HEAPS, 2, 100, 100, 4, 4, 1, 1, 1, 9, 0, 116, 116],
         start: 0,
         fault: Some((0, Form)),
     },
     Case {
-        numbers: &[HEAPS, 2, 0x1_0000_0000, 4, 4, 1, 1, 1, 9, 0, 116, 116],
+        numbers: &[
+            HEAPS,
+            3,
+            0x1_0000_0000,
+            0x1_0000_0000,
+            4,
+            4,
+            1,
+            1,
+            1,
+            9,
+            0,
+            116,
+            116,
+        ],
         start: 0,
         fault: Some((16, OfLimits)),
     },
     Case {
-        numbers: &[HEAPS, 2, 100, 3, 3, 1, 1, 1, 9, 0, 116, 116],
+        numbers: &[HEAPS, 3, 100, 100, 3, 3, 1, 1, 1, 9, 0, 116, 116],
         start: 0,
-        fault: Some((24, OfLimits)),
+        fault: Some((32, OfLimits)),
     },
     // a node limit of 21, and 41 numbers, are more than the caller admits
     Case {
-        numbers: &[HEAPS, 2, 100, 21, 21, 1, 1, 1, 9, 0, 116, 116],
+        numbers: &[HEAPS, 3, 100, 100, 21, 21, 1, 1, 1, 9, 0, 116, 116],
         start: 0,
-        fault: Some((24, OfLimits)),
+        fault: Some((32, OfLimits)),
     },
     Case {
-        numbers: &[HEAPS, 2, 100, 4, 4, 1, 40, 1, 9, 0, 116, 116],
+        numbers: &[HEAPS, 3, 100, 100, 4, 4, 1, 40, 1, 9, 0, 116, 116],
+        start: 0,
+        fault: Some((56, OfLimits)),
+    },
+    Case {
+        numbers: &[HEAPS, 3, 100, 100, 4, 4, u64::MAX, 2, 1, 9, 0, 116, 116],
         start: 0,
         fault: Some((48, OfLimits)),
     },
     Case {
-        numbers: &[HEAPS, 2, 100, 4, 4, u64::MAX, 2, 1, 9, 0, 116, 116],
+        numbers: &[
+            HEAPS,
+            3,
+            100,
+            100,
+            4,
+            4,
+            1,
+            1,
+            1,
+            0x1_0000_0000,
+            0,
+            116,
+            116,
+        ],
         start: 0,
-        fault: Some((40, OfLimits)),
+        fault: Some((72, Counts)),
+    },
+    // 228 bytes have 96 and those of 16 numbers, and not of 17
+    Case {
+        numbers: &[HEAPS, 3, 100, 100, 4, 4, 1, 16, 1, 9, 0, 116, 116],
+        start: 0,
+        fault: Some((228, Length)),
     },
     Case {
-        numbers: &[HEAPS, 2, 100, 4, 4, 1, 1, 1, 0x1_0000_0000, 0, 116, 116],
-        start: 0,
-        fault: Some((64, Counts)),
-    },
-    // 220 bytes have 88 and those of 16 numbers, and not of 17
-    Case {
-        numbers: &[HEAPS, 2, 100, 4, 4, 1, 16, 1, 9, 0, 116, 116],
-        start: 0,
-        fault: Some((220, Length)),
-    },
-    Case {
-        numbers: &[HEAPS, 2, 100, 4, 4, 1, 1, 1, 9, 0, 116, 116],
+        numbers: &[HEAPS, 3, 100, 100, 4, 4, 1, 1, 1, 9, 0, 116, 116],
         start: 1,
-        fault: Some((96, Checksum)),
+        fault: Some((104, Checksum)),
     },
-    // the heap has 100 units, and the node limit 4
+    // the heap has 100 units, and the node limit 4: it may have more units than the usual one of its number
     Case {
-        numbers: &[HEAPS, 2, 99, 4, 4, 1, 1, 1, 9, 0, 116, 116],
+        numbers: &[HEAPS, 3, 101, 101, 4, 4, 1, 1, 1, 9, 0, 116, 116],
         start: 0,
-        fault: Some((104, Size)),
+        fault: Some((112, Size)),
     },
     Case {
-        numbers: &[HEAPS, 2, 101, 4, 4, 0, 2, 1, 9, 0, 116, 116],
+        numbers: &[HEAPS, 3, 99, 99, 4, 4, 1, 1, 1, 9, 0, 116, 116],
+        start: 0,
+        fault: None,
+    },
+    // the size of the usual heap of number 0 is at least 1, and at most the largest one, or both are 0
+    Case {
+        numbers: &[HEAPS, 3, 100, 0, 4, 4, 1, 1, 1, 9, 0, 116, 116],
+        start: 0,
+        fault: Some((24, OfLimits)),
+    },
+    Case {
+        numbers: &[HEAPS, 3, 100, 101, 4, 4, 1, 1, 1, 9, 0, 116, 116],
+        start: 0,
+        fault: Some((24, OfLimits)),
+    },
+    Case {
+        numbers: &[HEAPS, 3, 0, 0, 4, 4, 1, 1, 1, 9, 0, 116, 116],
+        start: 0,
+        fault: None,
+    },
+    // each usual heap has twice the units of the one before it
+    Case {
+        numbers: &[HEAPS, 3, 400, 100, 4, 4, 2, 0, 1, 9, 0, 116, 116],
         start: 0,
         fault: None,
     },
     Case {
-        numbers: &[HEAPS, 2, 100, 5, 5, 1, 1, 1, 9, 0, 116, 116],
+        numbers: &[HEAPS, 3, 400, 50, 4, 4, 2, 0, 1, 9, 0, 0, 116],
         start: 0,
-        fault: Some((104, Size)),
+        fault: None,
+    },
+    Case {
+        numbers: &[HEAPS, 3, 400, 51, 4, 4, 2, 0, 1, 9, 0, 0, 116],
+        start: 0,
+        fault: Some((112, Size)),
+    },
+    Case {
+        numbers: &[HEAPS, 3, 101, 101, 4, 4, 0, 2, 1, 9, 0, 116, 116],
+        start: 0,
+        fault: None,
+    },
+    Case {
+        numbers: &[HEAPS, 3, 100, 100, 5, 5, 1, 1, 1, 9, 0, 116, 116],
+        start: 0,
+        fault: Some((112, Size)),
     },
     // heaps may begin with the largest limit, or with at least 8 nodes and no more than the largest limit
     Case {
-        numbers: &[HEAPS, 2, 100, 4, 5, 1, 1, 1, 9, 0, 116, 116],
+        numbers: &[HEAPS, 3, 100, 100, 4, 5, 1, 1, 1, 9, 0, 116, 116],
         start: 0,
-        fault: Some((32, OfLimits)),
+        fault: Some((40, OfLimits)),
     },
     Case {
-        numbers: &[HEAPS, 2, 100, 5, 4, 1, 1, 1, 9, 0, 116, 116],
+        numbers: &[HEAPS, 3, 100, 100, 5, 4, 1, 1, 1, 9, 0, 116, 116],
         start: 0,
-        fault: Some((32, OfLimits)),
+        fault: Some((40, OfLimits)),
     },
     Case {
-        numbers: &[HEAPS, 2, 100, 20, 7, 1, 1, 1, 9, 0, 116, 116],
+        numbers: &[HEAPS, 3, 100, 100, 20, 7, 1, 1, 1, 9, 0, 116, 116],
         start: 0,
-        fault: Some((32, OfLimits)),
+        fault: Some((40, OfLimits)),
     },
     // the heap has fewer nodes than one begins with, and may be a larger heap
     Case {
-        numbers: &[HEAPS, 2, 100, 20, 8, 1, 1, 1, 9, 0, 116, 116],
+        numbers: &[HEAPS, 3, 100, 100, 20, 8, 1, 1, 1, 9, 0, 116, 116],
         start: 0,
-        fault: Some((104, Size)),
+        fault: Some((112, Size)),
     },
     Case {
-        numbers: &[HEAPS, 2, 100, 20, 8, 0, 2, 1, 9, 0, 116, 116],
+        numbers: &[HEAPS, 3, 100, 100, 20, 8, 0, 2, 1, 9, 0, 116, 116],
         start: 0,
         fault: None,
     },
     // the second number is that of a heap of the usual size too
     Case {
-        numbers: &[HEAPS, 2, 100, 5, 5, 2, 0, 1, 9, 0, 0, 116],
+        numbers: &[HEAPS, 3, 100, 100, 5, 5, 2, 0, 1, 9, 0, 0, 116],
         start: 0,
-        fault: Some((104, Size)),
+        fault: Some((112, Size)),
     },
     // a heap of the first realm, where none was made
     Case {
-        numbers: &[HEAPS, 2, 100, 4, 4, 1, 1, 0, 9, 0, 116, 116],
+        numbers: &[HEAPS, 3, 100, 100, 4, 4, 1, 1, 0, 9, 0, 116, 116],
         start: 0,
-        fault: Some((104 + 32, Realm)),
+        fault: Some((112 + 32, Realm)),
     },
     Case {
-        numbers: &[HEAPS, 2, 100, 4, 4, 1, 1, 1, 9, 0, 117, 116],
-        start: 0,
-        fault: Some((80, OfPlace)),
-    },
-    Case {
-        numbers: &[HEAPS, 2, 100, 4, 4, 1, 1, 1, 9, 0, 116, 115],
+        numbers: &[HEAPS, 3, 100, 100, 4, 4, 1, 1, 1, 9, 0, 117, 116],
         start: 0,
         fault: Some((88, OfPlace)),
     },
+    Case {
+        numbers: &[HEAPS, 3, 100, 100, 4, 4, 1, 1, 1, 9, 0, 116, 115],
+        start: 0,
+        fault: Some((96, OfPlace)),
+    },
     // 8 bytes are no state of a heap
     Case {
-        numbers: &[HEAPS, 2, 100, 4, 4, 1, 1, 1, 9, 0, 8, 116],
+        numbers: &[HEAPS, 3, 100, 100, 4, 4, 1, 1, 1, 9, 0, 8, 116],
         start: 0,
-        fault: Some((104 + 8, Heap(HeapFault::Length))),
+        fault: Some((112 + 8, Heap(HeapFault::Length))),
     },
 ];
 

@@ -1,5 +1,5 @@
 use Rattle.std.proofs.Common.{◌+◌, ◌<◌, IfSome, length, ap, arith, subst}
-use Rattle.offset_heaps.specs.Heaps.{Heaps, IsNew, IsOfKind}
+use Rattle.offset_heaps.specs.Heaps.{Heaps, IsNew, IsOfKind, usual_size}
 use Rattle.offset_heaps.proofs.{Grants.granted_usual, Shapes.kind_usual}
 use Rattle.offset_heaps.proofs.HeapsOf.grant_usual.Goals as goal
 
@@ -11,7 +11,7 @@ returns-in-Ok-clause-grants g c =
     let same = ap (λ (h : Heaps). length h.slots) c.self.view_is in
     let most = ap (λ (h : Heaps). h.limits.most) c.self.view_is in
     let there : c.args.number < length c.args.self.now.slots = omega arith in
-    let new = subst (λ (h : Heaps). IsNew h.limits.size h.limits.first_allocs (h.made + 1) w.0) c.self.view_is w.1 in
+    let new = subst (λ (h : Heaps). IsNew (usual_size h.limits c.args.number) h.limits.first_allocs (h.made + 1) w.0) c.self.view_is w.1 in
     rw c.add.ensures.granted (granted_usual c.args.self.now c.add.new.self c.args.number c.args.size c.args.align c.in-Ok.slot c.in-Ok.ticket there c.add.ensures.heaps w.0 c.requires.spare
     c.requires.usual new w.2)
 

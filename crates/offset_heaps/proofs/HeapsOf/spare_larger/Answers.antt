@@ -6,7 +6,7 @@ use Rattle.offset_heaps.proofs.HeapsOf.spare_larger.Goals as goal
 pub returns-clause-first : goal.returns-clause-first
 returns-clause-first g c = rw (← c.self.view_is)
     (larger_first g.T.Index.NodeIndex.MAX c.self.inside.slots c.self.inside.limits c.self.inside.made c.self.inside.index c.self.invariant c.self.inside.realm c.self.inside.accesses
-    c.first_at_least.result c.first_at_least.ensures.first)
+    c.first_at_least.result (omega arith) c.first_at_least.ensures.first)
 
 pub returns-clause-steps : goal.returns-clause-steps
 returns-clause-steps g c bits enough =

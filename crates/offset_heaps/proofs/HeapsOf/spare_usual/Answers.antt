@@ -6,7 +6,7 @@ use Rattle.offset_heaps.proofs.HeapsOf.spare_usual.Goals as goal
 pub returns-clause-first : goal.returns-clause-first
 returns-clause-first g c = rw (← c.self.view_is)
     (usual_first g.T.Index.NodeIndex.MAX c.self.inside.slots c.self.inside.limits c.self.inside.made c.self.inside.index c.self.invariant c.self.inside.realm c.self.inside.accesses
-    c.first_at_least-found.result c.below.result
+    c.args.size c.first_at_least-found.result c.below.result c.requires.some
     c.first_at_least-found.ensures.first c.below.ensures)
 
 pub returns-clause-steps : goal.returns-clause-steps

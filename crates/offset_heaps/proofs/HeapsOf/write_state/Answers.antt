@@ -17,15 +17,15 @@ returns g c =
     let long_places : length given ≡ n + 1 = ap length c.deref.ensures.value ∙ c.in_ok-places.ensures.count in
     let front : List ℕ = c.in_ok-bytes.bytes.items in
     let rest : List ℕ = c.deref-2.result.now in
-    let long : length front ≡ 88 + 8 * n = c.in_ok-bytes.ensures.length ∙ omega (arith, long_places) in
+    let long : length front ≡ 96 + 8 * n = c.in_ok-bytes.ensures.length ∙ omega (arith, long_places) in
     let items : c.extend_from_slice.new.self.items ≡ front ++ rest = c.in_ok-extend_from_slice.ensures.items in
     let state : IsStateOf v c.extend_from_slice.new.self.items = record {
       places = places;
       count = count;
       long = omega (arith, ap length items, length-append front rest, long);
-      head = ap (numbers (11 + n)) items ∙ numbers_front (11 + n) front rest (long ∙ omega arith) ∙ ap (λ i. numbers i front) {x = 11 + n} {y = 9 + length given + 1} (omega (arith, long_places))
+      head = ap (numbers (12 + n)) items ∙ numbers_front (12 + n) front rest (long ∙ omega arith) ∙ ap (λ i. numbers i front) {x = 12 + n} {y = 10 + length given + 1} (omega (arith, long_places))
           ∙ c.in_ok-bytes.ensures.numbers ∙ ap (λ l. heaps_numbers v l ++ checksum_from 0 (heaps_numbers v l) ∷ []) c.deref.ensures.value;
       heaps = subst (AreStatesOf v.slots places)
-          (sym (ap (drop (88 + 8 * n)) items ∙ ap (λ i. drop i (front ++ rest)) (sym long) ∙ drop-append_seam front rest ∙ c.deref-2.ensures.value)) c.in_ok-places.ensures;
+          (sym (ap (drop (96 + 8 * n)) items ∙ ap (λ i. drop i (front ++ rest)) (sym long) ∙ drop-append_seam front rest ∙ c.deref-2.ensures.value)) c.in_ok-places.ensures;
     } in
     subst (λ u. IsStateOf u c.extend_from_slice.new.self.items) c.self.view_is state

@@ -1,5 +1,5 @@
-use Rattle.offset_heaps.proofs.DecidedCalls.{allocates_decided, drops_decided, drops_empty_decided, emptiest_decided, free_decided, gives_up_decided, packs_decided, relocates_decided, resets_decided, room_decided, size_decided, totals_decided}
-use Rattle.offset_heaps.proofs.{DecidedWalks.before_decided, DecidedWalks.last_decided, Twins.range_twins}
+use Rattle.offset_heaps.proofs.DecidedCalls.{allocates_decided, compacts_all_decided, drops_decided, drops_empty_decided, emptiest_decided, free_decided, gives_up_decided, lengthens_decided, packs_decided, relocates_decided, resets_decided, room_decided, size_decided, totals_decided}
+use Rattle.offset_heaps.proofs.{DecidedTight.tights_decided, DecidedWalks.before_decided, DecidedWalks.last_decided, Twins.range_twins}
 use Rattle.offset_heaps.proofs.laws.a_state_decides_each_step.Goals as goal
 
 pub returns-clause-allocate : goal.returns-clause-allocate
@@ -46,3 +46,12 @@ returns-clause-compact_heap c = packs_decided
 
 pub returns-clause-make_room : goal.returns-clause-make_room
 returns-clause-make_room c = room_decided
+
+pub returns-clause-compact : goal.returns-clause-compact
+returns-clause-compact c = compacts_all_decided
+
+pub returns-clause-extend_heap : goal.returns-clause-extend_heap
+returns-clause-extend_heap c = lengthens_decided
+
+pub returns-clause-allocate_tight : goal.returns-clause-allocate_tight
+returns-clause-allocate_tight c = tights_decided

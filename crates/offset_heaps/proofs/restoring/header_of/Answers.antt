@@ -2,6 +2,7 @@ use Rattle.std.proofs.Common.{◌≡◌, ◌∙◌, ◌+◌, sym, subst, arith, 
 use Rattle.offset_guarded.specs.Numbers.{checksum_from, number_at, numbers}
 use Rattle.offset_heaps.proofs.States.{parts}
 use Rattle.offset_heaps.proofs.restoring.header_of.Goals.{then-number-ne-FORM-via-then-number-ne-FORM, then-number-ne-FORM-via-else-number-ne-FORM+then-number-ne-VERSION}
+use Rattle.offset_heaps.proofs.restoring.header_of.Goals.{then-first_size-min-via-then-first_size-min, then-first_size-min-via-else-first_size-min+then-first_size-size}
 use Rattle.offset_heaps.proofs.restoring.header_of.Goals.{then-limit-lt4-via-then-limit-lt4, then-limit-lt4-via-else-limit-lt4+then-limit-most_allocs}
 use Rattle.offset_heaps.proofs.restoring.header_of.Goals.{then-limit-lt4-via-else-limit-lt4+else-limit-most_allocs+then-limit-MAX}
 use Rattle.offset_heaps.proofs.restoring.header_of.Goals.{then-first-min-via-then-first-min, then-first-min-via-else-first-min+then-first-limit}
@@ -20,6 +21,17 @@ returns-then-size-clause-wrong g c _ hs w adm st =
     let p = parts hs c.args.bytes.now st in
     omega (arith, c.if-size.true, c.number-size.ensures, p.size, w.size)
 
+pub returns-then-first_size-min-clause-wrong : goal.returns-then-first_size-min-clause-wrong
+returns-then-first_size-min-clause-wrong g c _ hs w adm st =
+    let p = parts hs c.args.bytes.now st in
+    let is = c.number-first_size.ensures in
+    let most = c.number-size.ensures in
+    let least = c.min.ensures in
+    elim c.then-first_size-min.branch [
+      | then-first_size-min-via-then-first_size-min v ↦ omega (arith, v.if-first_size-min, least, is, most, p.first_size, p.size, w.first_size.0)
+      | then-first_size-min-via-else-first_size-min+then-first_size-size v ↦ omega (arith, v.if-first_size-size, is, most, p.first_size, p.size, w.first_size.1)
+    ]
+
 pub returns-then-limit-lt4-clause-wrong : goal.returns-then-limit-lt4-clause-wrong
 returns-then-limit-lt4-clause-wrong g c _ hs w adm st =
     let p = parts hs c.args.bytes.now st in
@@ -35,7 +47,7 @@ returns-then-first-min-clause-wrong g c _ hs w adm st =
     let p = parts hs c.args.bytes.now st in
     let is = c.number-first.ensures in
     let most = c.number-limit.ensures in
-    let least = c.min.ensures in
+    let least = c.min-2.ensures in
     elim c.then-first-min.branch [
       | then-first-min-via-then-first-min v ↦ omega (arith, v.if-first-min, least, is, most, p.first, p.limit, w.first.0)
       | then-first-min-via-else-first-min+then-first-limit v ↦ omega (arith, v.if-first-limit, is, most, p.first, p.limit, w.first.1)
@@ -72,4 +84,4 @@ returns-then-checksum-number-clause-wrong g c _ hs w adm st =
     let p = parts hs bs st in
     let count : length hs.slots ≡ c.number-most.result + c.number-larger.result = omega (arith, st.count, p.most, p.larger, c.number-most.ensures, c.number-larger.ensures) in
     c.if-checksum-number.true
-    (c.checksum.ensures ∙ subst (λ n. checksum_from 0 (numbers (10 + n) bs) ≡ number_at bs (10 + n)) count (sym p.sum) ∙ sym c.number-2.ensures)
+    (c.checksum.ensures ∙ subst (λ n. checksum_from 0 (numbers (11 + n) bs) ≡ number_at bs (11 + n)) count (sym p.sum) ∙ sym c.number-2.ensures)

@@ -23,7 +23,7 @@ returns-in-Err-clause-refused g c _ slots long heaps formed admitted =
     let b = rw c.in-Err.is at c.in_ok-wrong.ensures.refused in
     b refl (slot k slots) (formed k) (admitted k)
     (subst (λ a. IsHeapState (slot k slots) (take (c.number-to.result - a) (drop a states))) (sym c.number-from.ensures)
-    (subst (λ t. IsHeapState (slot k slots) (take (t - number_at bs (9 + k)) (drop (number_at bs (9 + k)) states))) (sym c.number-to.ensures) at.state))
+    (subst (λ t. IsHeapState (slot k slots) (take (t - number_at bs (10 + k)) (drop (number_at bs (10 + k)) states))) (sym c.number-to.ensures) at.state))
 
 pub loop-k-preserved : goal.loop-k-preserved
 loop-k-preserved g c =
@@ -34,8 +34,8 @@ loop-k-preserved g c =
     let made : ℕ = c.args.made in
     let most : ℕ = c.args.most_allocs in
     let r = rw c.in-Ok.is at c.in_ok-wrong.ensures.read in
-    let here : IsHeapReadAt c.args.limits g.T.Index.NodeIndex.MAX made most k (number_at bs (9 + k)) (number_at bs (10 + k)) states c.in-Ok.heap =
-    subst (λ a. IsHeapReadAt c.args.limits g.T.Index.NodeIndex.MAX made most k a (number_at bs (10 + k)) states c.in-Ok.heap) c.number-from.ensures
+    let here : IsHeapReadAt c.args.limits g.T.Index.NodeIndex.MAX made most k (number_at bs (10 + k)) (number_at bs (11 + k)) states c.in-Ok.heap =
+    subst (λ a. IsHeapReadAt c.args.limits g.T.Index.NodeIndex.MAX made most k a (number_at bs (11 + k)) states c.in-Ok.heap) c.number-from.ensures
     (subst (λ t. IsHeapReadAt c.args.limits g.T.Index.NodeIndex.MAX made most k c.number-from.result t states c.in-Ok.heap) c.number-to.ensures record {
       state = record { order = omega (arith, c.if-from-to.false); within = omega (arith, c.if-to-states.false); state = r.state };
       formed = r.formed;
@@ -44,7 +44,7 @@ loop-k-preserved g c =
     }) in
     record {
       long = ap length c.put.ensures.heaps ∙ length-set old k c.in-Ok.heap ∙ c.loop-k.invariant.long;
-      read = rw c.put.ensures.heaps (put_more (λ i o. IsHeapReadAt c.args.limits g.T.Index.NodeIndex.MAX made most i (number_at bs (9 + i)) (number_at bs (10 + i)) states o) old k c.in-Ok.heap
+      read = rw c.put.ensures.heaps (put_more (λ i o. IsHeapReadAt c.args.limits g.T.Index.NodeIndex.MAX made most i (number_at bs (10 + i)) (number_at bs (11 + i)) states o) old k c.in-Ok.heap
           (omega (arith, c.loop-k.invariant.long, c.loop-k-test.true)) here c.loop-k.invariant.read);
     }
 
@@ -89,7 +89,7 @@ returns-in-Err-clause-fault g c =
         (
           wrong.at,
           omega (arith, c.number-from.ensures, c.requires.long, within, long, ordered, inside),
-          subst (λ a. IsHeapFault c.args.limits g.T.Index.NodeIndex.MAX made most k (take (number_at bs (10 + k) - a) (drop a states)) wrong.at wrong.kind) c.number-from.ensures
+          subst (λ a. IsHeapFault c.args.limits g.T.Index.NodeIndex.MAX made most k (take (number_at bs (11 + k) - a) (drop a states)) wrong.at wrong.kind) c.number-from.ensures
               (subst (λ t. IsHeapFault c.args.limits g.T.Index.NodeIndex.MAX made most k (take (t - c.number-from.result) (drop c.number-from.result states)) wrong.at wrong.kind) c.number-to.ensures f),
         ),
       );

@@ -7,5 +7,5 @@ use Rattle.offset_heaps.proofs.restoring.read_slots.Given as goal
 abbrev pub invariant-loop-k : goal.invariant-loop-k
 invariant-loop-k g l = record {
   long : length l.slots ≡ l.count;
-  read : (k : ℕ) → k < l.k → IsHeapReadAt l.limits g.T.Index.NodeIndex.MAX l.made l.most_allocs k (number_at l.bytes (9 + k)) (number_at l.bytes (10 + k)) l.states (slot k l.slots);
+  read : (k : ℕ) → k < l.k → IsHeapReadAt l.limits g.T.Index.NodeIndex.MAX l.made l.most_allocs k (number_at l.bytes (10 + k)) (number_at l.bytes (11 + k)) l.states (slot k l.slots);
 }

@@ -1,0 +1,112 @@
+//! Heaps whose space becomes larger in place. It changes one slot, and notes it in the index.
+ghost use Rattle.std.specs.Prelude.{◌≡◌, ◌↔◌, ◌+◌, ◌<◌, ◌≤◌, None, Ok, Some, IfOk, IfSome, IsErr, IsSome, IsTrue, OnErr};
+ghost use Rattle.std.specs.Prelude.{false, option_map, true};
+ghost use Rattle.offset_heaps.specs.Changing.{AltersIn};
+ghost use Rattle.offset_heaps.specs.Extending.{CanExtendIn, ExtendsHeap, ExtendsIf};
+ghost use Rattle.offset_heaps.specs.Heaps.{IsOfKind, MustGrowIn, size_of};
+ghost use Rattle.offset_heaps.specs.Twins.{AreTwins};
+
+use crate::HeapsOf;
+use crate::limits::Limits;
+use crate::slots::grow_heap;
+use offset_allocator::Tables;
+use offset_guarded::GuardedOf;
+use std::alloc::{AllocError, Global};
+
+// Adds units at the end of a heap, which grows first where it has to for a grant.
+fn extend_heap<T: Tables>(
+    alloc: Global,
+    heap: &mut GuardedOf<T>,
+    number: u32,
+    limits: Limits,
+    more: u32,
+) -> Result<bool, AllocError>
+    requires limit_max { limits.max_allocs + 1 < T.Index.MAX }
+    requires kind { IsOfKind limits number heap.old }
+    ensures done { IfOk result (λ done. IsTrue done ↔ CanExtendIn more (Some heap.old)) }
+    ensures change { IfOk result (λ done. ExtendsIf limits number more done heap.old heap.new) }
+    ensures must { IsErr result → MustGrowIn limits number (Some heap.old)
+        × CanExtendIn more (Some heap.old) }
+    ensures same { IsErr result → heap.new ≡ heap.old }
+{
+    if more > u32::MAX - heap.allocator().size() {
+        return Ok(false);
+    }
+    grow_heap(alloc, heap, number, limits)?;
+    Ok(heap.extend(more))
+}
+
+/// Adds units at the end of the heap of a number, as the function before.
+pub(crate) fn extend_in<T: Tables>(
+    alloc: Global,
+    slot: &mut Option<GuardedOf<T>>,
+    number: u32,
+    limits: Limits,
+    more: u32,
+) -> Result<bool, AllocError>
+    requires there { IsSome slot.old }
+    requires limit_max { limits.max_allocs + 1 < T.Index.MAX }
+    requires kind { IfSome slot.old (IsOfKind limits number) }
+    ensures done { IfOk result (λ done. IsTrue done ↔ CanExtendIn more slot.old) }
+    ensures change { IfOk result (λ done. AltersIn (ExtendsIf limits number more done) slot.old slot.new) }
+    ensures must { IsErr result → MustGrowIn limits number slot.old × CanExtendIn more slot.old }
+    ensures same { IsErr result → slot.new ≡ slot.old }
+{
+    match slot {
+        Some(heap) => extend_heap(alloc, heap, number, limits, more),
+        None => unreachable!(),
+    }
+}
+
+impl<T: Tables> HeapsOf<T> {
+    ghost use Rattle.offset_heaps.specs.Heaps.{IsSame, KeepsAll, TakesFewSteps, heap_at};
+
+    /// Adds `more` units at the end of the heap of a number, as `GuardedOf::extend` does, and returns whether it
+    /// did: for a buffer that became larger in place. Every place keeps its range. A usual heap may have
+    /// more units than `Limits` say then; once it is dropped, its number has the units of the limits again.
+    ///
+    /// `false` is returned where the number has no heap, where the heap would have more than 4294967295 units,
+    /// or where its last block is used and no further block may exist; then all is as it was. With 0 units it is
+    /// `true` where the number has a heap. A usual heap that has fewer than five unused nodes, and a
+    /// node limit below `max_allocs`, first has that doubled, as before a grant.
+    ///
+    /// # Errors
+    ///
+    /// An error is returned only where the memory for more nodes was refused; then all is as it was.
+    ///
+    /// ```
+    /// heaps.allocate(900).unwrap();
+    /// assert!(heaps.extend_heap(0, 500)?);
+    /// assert_eq!(heaps.units_of_heap(0), Some(1500));
+    /// assert_eq!(heaps.allocate(512).unwrap().place.heap, 0);
+    /// ```
+    pub fn extend_heap(&mut self, number: u32, more: u32) -> Result<bool, AllocError>
+        // It is done exactly where the number has a heap that can have so many units more.
+        ensures done { IfOk result (λ done. IsTrue done ↔ CanExtendIn more (heap_at number self.old)) }
+        ensures size { result ≡ Ok true → option_map size_of (heap_at number self.new)
+            ≡ option_map (λ g. size_of g + more) (heap_at number self.old) }
+        // Every place keeps its range.
+        ensures kept { KeepsAll self.old self.new }
+        // Where it is not done, no answer tells the heaps from those before.
+        ensures refused { result ≡ Ok false → AreTwins self.old self.new }
+        // Memory is requested only for a heap that has to grow, and that can be extended.
+        ensures must { IsErr result → MustGrowIn self.old.limits number (heap_at number self.old)
+            × CanExtendIn more (heap_at number self.old) }
+        ensures same { OnErr result (IsSame self.old self.new) }
+        ensures none { heap_at number self.old ≡ None → IsSame self.old self.new }
+        // The step of its heap. All other heaps are as they were.
+        ensures step { IfOk result
+            (λ done. IsSome (heap_at number self.old) → ExtendsHeap number more done self.old self.new) }
+        ensures steps { TakesFewSteps self.old self.new }
+    {
+        if !self.slots.has(number, &mut self.accesses) {
+            return Ok(false);
+        }
+        let done = self
+            .slots
+            .extend(self.alloc, number, self.limits, more, &mut self.accesses)?;
+        self.index
+            .note(&self.slots, number, self.limits, &mut self.accesses);
+        Ok(done)
+    }
+}
