@@ -303,7 +303,7 @@ impl Check<'_> {
 
     /// Heaps that are copied, written and read: what the calls request first, then for the copy and for what
     /// is read the room for seven heaps and what each heap requests, and rows, of which none is longer than
-    /// twice the bytes. The numbers are that of the heaps of the usual size, the totals of the copy (heaps,
+    /// twice the bytes. The numbers are that of the usual heaps, the totals of the copy (heaps,
     /// units, live ones, the largest region), the bytes, and the totals of what is read.
     fn heaps_stored(&mut self, layout: Layout, header: &str, nodes: usize, bits: usize) {
         let call = HEAPS_STORE.on(layout);

@@ -72,11 +72,11 @@ pub room_low : (limits : Limits) (k : ℕ) → limits.size < 2 ^ 32 → usual_ro
 room_low limits k small = room_below (usual_size limits k) (omega (arith, size_low limits k, small))
 
 -- a request is usual exactly where the usual heap of some number has room for it
-pub usual_of_some : (size : ℕ) (hs : Heaps) → hs.limits.size < 2 ^ 32 → 1 ≤ hs.limits.most
+pub usual_of_some : (size : ℕ) (hs : Heaps) → hs.limits.size < 2 ^ 32
     → IsUsual size hs ↔ ((k : ℕ) × (k < hs.limits.most) × (size ≤ usual_room hs.limits k))
-usual_of_some size hs small some = (
-  λ usual. (hs.limits.most - 1, omega (arith, some), usual),
-  λ it. let more = room_grows hs.limits it.0 (hs.limits.most - 1) small (omega (arith, it.1)) in let fits = it.2 in omega (arith, more, fits),
+usual_of_some size hs small = (
+  λ usual. (hs.limits.most - 1, omega (arith, usual.0), usual.1),
+  λ it. let more = room_grows hs.limits it.0 (hs.limits.most - 1) small (omega (arith, it.1)) in let fits = it.2 in (omega (arith, it.1), omega (arith, more, fits)),
 )
 
 -- ---- the code

@@ -77,10 +77,10 @@ usual_size limits k = min (limits.first_size * 2 ^ k) limits.size
 abbrev pub usual_room : Limits → ℕ → ℕ
 usual_room limits k = value (down (usual_size limits k))
 
--- a request is usual: the last usual heap, which is the largest, grants that many units when it is fresh. They begin at 0,
--- which is a multiple of every alignment
+-- a request is usual: the last usual heap, the largest, where there may be any, grants that many units when it is fresh. They
+-- begin at 0, which is a multiple of every alignment
 abbrev pub IsUsual : ℕ → Heaps → Type 0
-IsUsual size hs = size ≤ usual_room hs.limits (hs.limits.most - 1)
+IsUsual size hs = (1 ≤ hs.limits.most) × (size ≤ usual_room hs.limits (hs.limits.most - 1))
 
 -- a number that no heap has: one below most, whose usual heap has room for a request; and one of the others, for a larger
 -- heap
@@ -90,7 +90,7 @@ IsSpareUsual size k hs = (k < hs.limits.most) × (heap_at k hs ≡ None) × (siz
 abbrev pub IsSpareLarger : ℕ → Heaps → Type 0
 IsSpareLarger k hs = (hs.limits.most ≤ k) × (k < numbers hs) × (heap_at k hs ≡ None)
 
--- the number of a new heap for a request: the first spare one of its kind, while realms are left
+-- the number of a new heap for a request: the first spare one of its kind whose heap has room, while realms are left
 abbrev pub IsNext : ℕ → ℕ → Heaps → Type 0
 IsNext size k hs = (hs.made < last_realm)
     × ((IsUsual size hs × IsSpareUsual size k hs × ((j : ℕ) → j < k → IsSpareUsual size j hs → ⊥))

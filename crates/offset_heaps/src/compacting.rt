@@ -1,7 +1,7 @@
 //! Ranges that slide to the front of their heap, all or to make room. It changes one slot, or all, and notes it
 //! in the index.
-ghost use Rattle.std.specs.Prelude.{ℕ, ◌≡◌, ◌↔◌, ◌+◌, ◌^◌, ◌<◌, ◌≤◌, None, IfSome, IsSome, IsTrue, false, length};
-ghost use Rattle.std.specs.Prelude.{true};
+ghost use Rattle.std.specs.Prelude.{ℕ, ◌≡◌, ◌↔◌, ◌+◌, ◌*◌, ◌^◌, ◌<◌, ◌≤◌, None, IfSome, IsSome, IsTrue, false};
+ghost use Rattle.std.specs.Prelude.{length, true};
 ghost use Rattle.std.specs.List.{FoldsTo};
 ghost use Rattle.offset_allocator.specs.Moving.Compacting.{IsCalledWith, moves};
 ghost use Rattle.offset_heaps.specs.Changing.{CompactsAll, CompactsHeap, CompactsIn, IsCalledAt, KeepsSizes};
@@ -52,6 +52,7 @@ fn compact_all<T: Tables, F: FnMut(u32, Move<T::Index>)>(
     ensures wide { IsWide slots.new index.new }
     ensures noted { (k : ℕ) → IsNoted limits slots.new index.new k }
     ensures levels { index.new.one.height ≡ index.old.one.height }
+    ensures accesses { count.new ≤ count.old + length slots.old * (12 * index.old.one.height + 10) }
 {
     for number in 0..limits.most + limits.most_larger {
         slots.pack(number, moved, count);
@@ -60,7 +61,7 @@ fn compact_all<T: Tables, F: FnMut(u32, Move<T::Index>)>(
 }
 
 impl<T: Tables> HeapsOf<T> {
-    ghost use Rattle.offset_heaps.specs.Heaps.{IsSame, KeepsOtherHeaps, TakesFewSteps, heap_at};
+    ghost use Rattle.offset_heaps.specs.Heaps.{IsSame, KeepsOtherHeaps, TakesFewSteps, heap_at, numbers};
 
     /// Slides every live range of the heap of a number to the front of its space, as `GuardedOf::compact`
     /// does, and returns whether the number has a heap. Every place stays live, with its size; `offset_of`
@@ -100,7 +101,7 @@ impl<T: Tables> HeapsOf<T> {
     /// one does, one after another. Every place stays live, with its size; `offset_of` returns where its range
     /// begins. A moved range keeps no alignment. `moved` is called with the number of the heap and each move: by
     /// the numbers of the heaps, and in a heap in space order; each move is within the buffer of its number.
-    /// No heap is made or dropped. It reads each slot, and takes the time of `GuardedOf::compact` for each heap.
+    /// No heap is made or dropped. It notes each number in the index, and takes the time of `GuardedOf::compact` for each heap.
     ///
     /// ```
     /// let hole = heaps.allocate(300).unwrap().place;
@@ -117,6 +118,8 @@ impl<T: Tables> HeapsOf<T> {
             (moves_from 0 self.old.slots) moved.new }
         // The step of each heap.
         ensures step { CompactsAll self.old self.new }
+        ensures steps { (bits : ℕ) → numbers self.old ≤ 2 ^ bits
+            → self.new.accesses ≤ self.old.accesses + numbers self.old * (12 * bits + 10) }
     {
         compact_all(
             &mut self.slots,

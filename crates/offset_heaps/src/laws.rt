@@ -16,7 +16,7 @@ ghost use Rattle.offset_heaps.specs.Numbering.{AreOfLive, MeetsPlaces, first_fro
 ghost use Rattle.offset_heaps.specs.State.{IsCopy, IsStateOf, IsWellFormed, SameHeaps};
 ghost use Rattle.offset_heaps.specs.Relocating.{IsEmptiest, NoneLive, last_place, place_before};
 ghost use Rattle.offset_heaps.specs.Relocating.{live_at, squares, units_of};
-ghost use Rattle.offset_heaps.specs.Tight.{IsRefusedForTight, IsServedTight};
+ghost use Rattle.offset_heaps.specs.Tight.{IsRefusedForTight, IsServedTight, IsWhyTight};
 ghost use Rattle.offset_heaps.specs.Twins.{AreTwins};
 ghost use Rattle.offset_heaps.specs.Calls.{Allocates, AllocatesTight, TakesAll, Call, Drops, DropsEmpty, Frees, GivesUp};
 ghost use Rattle.offset_heaps.specs.Calls.{GoAll, Goes, Lengthens, Packs, Relocates, Reply, TakesRoom, TakesSize};
@@ -87,6 +87,8 @@ pub fn reasons_exclude_one_another()
         → (r ≡ Memory) × MustGrowIn hs.limits k (heap_at k hs) }
     ensures made { (size align k : ℕ) (hs : Heaps) (r : Refusal) → 1 ≤ size
         → IsNext size k hs → IsWhy size align hs r → r ≡ Memory }
+    ensures tight { (size align : ℕ) (hs : Heaps) (r s : Refusal) → IsWhyTight size align hs r
+        → IsWhyTight size align hs s → r ≡ s }
 {}
 
 /// What `refusal_aligned` says is what the same request is answered then: refused for this reason, or granted,
@@ -125,7 +127,7 @@ pub fn usual_heaps_double()
         → usual_size limits (k + 1) ≡ min (2 * usual_size limits k) limits.size }
     ensures alike { (limits : Limits) (k : ℕ) → limits.first_size ≡ limits.size
         → usual_size limits k ≡ limits.size }
-    ensures usual { (size : ℕ) (hs : Heaps) → hs.limits.size < 2 ^ 32 → 1 ≤ hs.limits.most
+    ensures usual { (size : ℕ) (hs : Heaps) → hs.limits.size < 2 ^ 32
         → IsUsual size hs ↔ ((k : ℕ) × (k < hs.limits.most) × (size ≤ usual_room hs.limits k)) }
 {}
 

@@ -1,17 +1,17 @@
 //! Ranges of as many buffers as are needed, each with a heap of its own.
 //!
 //! A `Heaps` holds heaps by number, each a `GuardedOf`: usual ones, all of one size or each twice as large as
-//! the one before it, and larger ones, each of the size of the request that it was made for. Nothing is known of the buffers: the caller makes the buffer of
-//! a number when he is told that its heap is new, and drops it when he is told that the heap was dropped. A
-//! `Place` is the number of a heap and a ticket there. Every call takes any place, and one that is not live
-//! changes nothing.
+//! the one before it, and larger ones, each of the size of the request that it was made for. Nothing is known
+//! of the buffers: the caller makes the buffer of a number when he is told that its heap is new, and drops it
+//! when he is told that the heap was dropped. A `Place` is the number of a heap and a ticket there. Every call
+//! takes any place, and one that is not live changes nothing.
 //!
 //! ```
 //! let limits =
 //!     Limits { size: 1 << 24, first_size: 1 << 18, max_allocs: 65536, first_allocs: 64, most: 64, most_larger: 16 };
 //! let mut heaps = Heaps::<u32>::new(alloc, limits, 1)?;
 //! if let Ok(granted) = heaps.allocate(3000) {
-//!     // granted.is_new: make the buffer of number granted.place.heap
+//!     // granted.is_new: make the buffer of this number, of heaps.units_of_heap(granted.place.heap) units
 //!     assert!(heaps.free(granted.place));
 //! }
 //! while let Some(number) = heaps.drop_empty(1) {

@@ -2,7 +2,8 @@
 
 use std::fmt;
 
-/// Why a request is refused. No two of these apply to one request: see `laws::reasons_exclude_one_another`.
+/// Why a request is refused. No two of these apply to one request: see `laws::reasons_exclude_one_another`. A
+/// heap has room for a tight request where a free block holds it.
 #[derive(Clone, Copy, Debug, PartialEq)]
 pub enum Refusal {
     /// It is for no unit.

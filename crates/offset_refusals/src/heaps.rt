@@ -49,7 +49,7 @@ impl Work for MakeHeaps {
     }
 }
 
-// How many heaps were made of the usual size, and how many larger ones.
+// How many usual heaps were made, and how many larger ones.
 #[derive(Drop)]
 struct Counts {
     usual: u64,
@@ -132,7 +132,7 @@ fn checksum<T: Tables>(heaps: &mut HeapsOf<T>, made: &mut Counts) -> Result<u64,
     Ok(sum)
 }
 
-/// Makes the heaps and 1,000 calls, and puts the numbers of heaps that were made, of the usual size and
+/// Makes the heaps and 1,000 calls, and puts the numbers of heaps that were made, usual ones and
 /// larger, and a checksum of the results into the cells.
 pub struct MakeHeapsAndCall;
 
@@ -165,7 +165,7 @@ fn put_totals(cells: &mut Cells<'_>, totals: Totals) {
     put(cells, u64::from(totals.largest_free_region));
 }
 
-// How many heaps of the usual size there are.
+// How many usual heaps there are.
 fn usual<T: Tables>(heaps: &HeapsOf<T>) -> u64 {
     let mut found = 0u64;
     for number in 0..4u32 {
@@ -177,7 +177,7 @@ fn usual<T: Tables>(heaps: &HeapsOf<T>) -> u64 {
 }
 
 /// Makes the heaps and 1,000 calls, copies them, writes their state and reads that. It puts the number of
-/// heaps of the usual size, the totals of the copy, the number of bytes, and the totals of what is read into
+/// usual heaps, the totals of the copy, the number of bytes, and the totals of what is read into
 /// the cells.
 pub struct MakeHeapsAndStore;
 

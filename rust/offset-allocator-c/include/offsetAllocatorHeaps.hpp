@@ -1,11 +1,11 @@
 // Many heaps as one, over offset_allocator_heaps.h:
 //
 //     OffsetAllocator::HeapLimits limits(1 << 24, 65536, 64, 16);
-//     limits.firstSize = 1 << 18;    // or not: then all heaps begin with 1 << 24 units
+//     limits.firstSize = 1 << 18;    // or not: then all usual heaps have 1 << 24 units
 //     limits.firstAllocs = 64;       // or not: then they begin with 65536 nodes
 //     OffsetAllocator::Heaps heaps(limits);
 //     OffsetAllocator::Granted mesh = heaps.allocate(3000);
-//     if (mesh && mesh.isNew) ...    // make the buffer of number mesh.place.heap, or heaps.giveUp
+//     if (mesh && mesh.isNew) ...    // make its buffer, of heaps.unitsOfHeap(mesh.place.heap) units, or heaps.giveUp
 //     heaps.free(mesh.place);
 //     heaps.dropEmpty(1, [](OffsetAllocator::uint32 number) { ... });    // drop the buffer of this number
 //

@@ -1,11 +1,11 @@
 /* Many heaps as one: ranges of as many buffers as are needed, each with a heap of its own.
  *
  *     oah_limits limits = {.size = 1 << 24, .max_allocs = 65536, .most = 64, .most_larger = 16};
- *     limits.first_size = 1 << 18;          // or not: then all heaps begin with 1 << 24 units
+ *     limits.first_size = 1 << 18;          // or not: then all usual heaps have 1 << 24 units
  *     limits.first_allocs = 64;             // or not: then they begin with 65536 nodes
  *     oah_heaps *heaps = oah_new(limits, 1);
  *     oah_granted mesh = oah_allocate(heaps, 3000);
- *     if (mesh.is_new) ...                  // make the buffer of number mesh.place.heap, or oah_give_up
+ *     if (mesh.is_new) ...                  // make its buffer, of oah_units_of_heap(heaps, mesh.place.heap) units, or oah_give_up
  *     oah_offset_of(heaps, mesh.place);     // where the range begins in it
  *     oah_free(heaps, mesh.place);
  *     for (uint32_t n; (n = oah_drop_empty(heaps, 1)) != OA_NO_SPACE;) ...    // drop the buffer of number n
@@ -30,8 +30,9 @@ typedef struct oah_heaps oah_heaps;
 
 /* What heaps are, and how many there may be. A field that is left out is 0.
  *
- * size: the units of a usual heap. max_allocs: its node limit, 4 to 4294967293 (a larger heap has 4). most: how many usual
- * heaps there may be at a time. most_larger: how many larger ones, each of the size of the request that it was made for.
+ * size: the most units that a usual heap is made with. max_allocs: its node limit, 4 to 4294967293 (a larger heap has 4).
+ * most: how many usual heaps there may be at a time. most_larger: how many larger ones, each of the size of the request that
+ * it was made for.
  *
  * first_size: 0, and all usual heaps have that size; or the units of the usual heap of number 0, at most size: the one of
  * number 1 has twice as many, that of number 2 four times, and so on, up to size. A heap is made at the first number that
@@ -62,8 +63,8 @@ typedef struct oah_place {
 typedef enum oah_refusal {
     OAH_GRANTED = 0,   /* It is granted. */
     OAH_EMPTY = 1,     /* It is for no unit. */
-    OAH_TOO_LARGE = 2, /* No heap has room, a fresh one would not have it, and there may be no larger ones. */
-    OAH_FULL = 3,      /* No heap has room, and no other may be made for it. Free ranges, or drop empty heaps. */
+    OAH_TOO_LARGE = 2, /* No heap has room, nor would the last usual one when fresh, and there may be no larger ones. */
+    OAH_FULL = 3,      /* No heap has room, and each number whose heap would has one. Free ranges, or drop empty heaps. */
     OAH_MEMORY = 4,    /* Memory was refused: for another heap where none has room, or for more nodes of the one that has. */
     OAH_BAD_CALL = 5   /* The heaps are null, or the alignment is 0. */
 } oah_refusal;
@@ -212,7 +213,7 @@ bool oah_shrink(oah_heaps *heaps, oah_place place, uint32_t size);
 bool oah_grow_in_place(oah_heaps *heaps, oah_place place, uint32_t size);
 
 /* What oah_allocate and oah_allocate_aligned would refuse a request for now: OAH_GRANTED where it would be granted, if memory
- * for another heap is given; never OAH_MEMORY. Cost: some steps for each bit of the numbers. */
+ * for another heap, or for more nodes of one, is given; never OAH_MEMORY. Cost: some steps for each bit of the numbers. */
 oah_refusal oah_why(const oah_heaps *heaps, uint32_t size);
 oah_refusal oah_why_aligned(const oah_heaps *heaps, uint32_t size, uint32_t align);
 

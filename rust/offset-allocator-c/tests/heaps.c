@@ -244,7 +244,7 @@ static void note_move_in(void *user, uint32_t heap, oa_move range) {
 
 /* Heaps that become larger, tight requests, and all heaps compacted. */
 static void filled(void) {
-    oah_limits limits = {100, 8, 2, 0};
+    oah_limits limits = {.size = 100, .max_allocs = 8, .most = 2, .most_larger = 0};
     oah_heaps *heaps = oah_new(limits, 9);
     oah_place hole = oah_allocate(heaps, 21).place, rest = oah_allocate(heaps, 70).place;
     /* a request of 21 units is rounded up to 22, and of the last 9 units 4 begin at a multiple of 16 */
@@ -265,7 +265,7 @@ static void filled(void) {
     CHECK(read.heaps && oah_units_of_heap(read.heaps, 1) == 130 && oah_offset_of(read.heaps, last) == 21);
     oa_state_drop(state);
     oah_drop(read.heaps);
-    /* once it is dropped, its number has the usual size again */
+    /* once it is dropped, its number has the units of the limits again */
     CHECK(oah_give_up(heaps, 1) && oah_allocate(heaps, 90).place.heap == 1 && oah_units_of_heap(heaps, 1) == 100);
     oah_drop(heaps);
 }

@@ -2,7 +2,7 @@
 //!
 //!     cargo run --release --offline -p offset-allocator-heaps --example programs -- PAGE RUNS < SCRIPT
 //!
-//! It prints the peak of heaps of the usual size, of larger ones and of their bytes, how many were made, and the time of a
+//! It prints the peak of usual heaps, of larger ones and of their bytes, how many were made, and the time of a
 //! call in ns.
 
 use offset_allocator_heaps::{Global, Heaps, Limits, Place};

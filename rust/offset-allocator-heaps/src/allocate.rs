@@ -31,10 +31,13 @@ impl<T: Tables> HeapsOf<T> {
         self.index.first_fit(units, align, &mut self.accesses)
     }
 
-    // Whether the last usual heap has that many units for a request when it is fresh.
+    // Whether the last usual heap, if there may be any, has that many units for a request when it is fresh.
     pub(crate) fn is_usual(&self, size: u32) -> bool {
         let limits = self.limits;
-        size <= usual_room(limits, limits.most.max(1) - 1)
+        if limits.most == 0 {
+            return false;
+        }
+        size <= usual_room(limits, limits.most - 1)
     }
 
     // The first number of a usual heap that has none, and whose heap would have room for a request.

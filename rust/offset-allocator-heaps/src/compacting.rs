@@ -66,7 +66,7 @@ impl<T: Tables> HeapsOf<T> {
     /// one does, one after another. Every place stays live, with its size; `offset_of` returns where its range
     /// begins. A moved range keeps no alignment. `moved` is called with the number of the heap and each move: by
     /// the numbers of the heaps, and in a heap in space order; each move is within the buffer of its number.
-    /// No heap is made or dropped. It reads each slot, and takes the time of `GuardedOf::compact` for each heap.
+    /// No heap is made or dropped. It notes each number in the index, and takes the time of `GuardedOf::compact` for each heap.
     ///
     /// ```
     /// # use offset_allocator_heaps::*;

@@ -45,7 +45,7 @@ impl<T: Tables> HeapsOf<T> {
     ///
     /// `false` is returned where the number has no heap, where the heap would have more than 4294967295 units,
     /// or where its last block is used and no further block may exist; then all is as it was. With 0 units it is
-    /// `true` where the number has a heap. A usual heap that has fewer than five unused nodes, and a
+    /// `true` where the number has a heap, which may grow too. A usual heap that has fewer than five unused nodes, and a
     /// node limit below `max_allocs`, first has that doubled, as before a grant.
     ///
     /// # Errors

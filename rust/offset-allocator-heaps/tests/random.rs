@@ -129,7 +129,7 @@ impl<T: Tables> Run<T> {
         let most = self.limits.most as usize;
         // a fresh heap begins at 0, a multiple of every alignment
         let holds = |number: usize| size <= class_value(self.usual_units(number));
-        if (0..most.max(1)).any(holds) {
+        if (0..most).any(holds) {
             return (0..most).find(|&n| self.model[n].is_none() && holds(n)).map(|n| (n, true)).ok_or(Refusal::Full);
         }
         if self.limits.most_larger == 0 {
@@ -601,7 +601,7 @@ fn two_million_random_calls() {
 fn no_heap() {
     let limits = Limits { size: 100, first_size: 100, max_allocs: 4, first_allocs: 4, most: 0, most_larger: 0 };
     let mut heaps = Heaps::<u32>::new(Global, limits, 0).unwrap();
-    assert_eq!(heaps.allocate(1), Err(Refusal::Full));
+    assert_eq!(heaps.allocate(1), Err(Refusal::TooLarge));
     assert_eq!(heaps.allocate(101), Err(Refusal::TooLarge));
     assert_eq!(heaps.allocate(0), Err(Refusal::Empty));
     assert_eq!(heaps.drop_empty(0), None);

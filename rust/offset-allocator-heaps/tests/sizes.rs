@@ -21,7 +21,7 @@ fn read<T, F: core::fmt::Debug>(read: Result<T, ReadError<F>>) -> Result<T, Allo
     })
 }
 
-// Every call of heaps of which as many are made of the usual size, and as many larger ones, as there may be.
+// Every call of heaps of which as many are usual, and as many larger, as there may be.
 fn use_of<T: Tables>(size: u32, max_allocs: u32, most: u32) -> Result<(), AllocError> {
     if max_allocs >= T::Index::MAX - 1 {
         return Ok(());

@@ -39,8 +39,8 @@ impl<T: Tables, W: Write> Recorded<GuardedOf<T>, W> {
 
     /// Names each live range that has no name yet by the value that a table of the program's has beside its ticket: so what
     /// names its ranges there needs no `name` before its requests. Call it where names are to be seen, as at the end of each
-    /// frame, and before the values of ranges that are freed are taken; and once, of a space that had live ranges, where the
-    /// recording begins. It looks at each value, and writes a line, as `name_live` does, for each range that it names.
+    /// frame, and before ranges that have none are freed: a freed one gets none; and once, of a space that had live ranges,
+    /// where the recording begins. It looks at each value, and writes a line, as `name_live` does, for each range that it names.
     ///
     /// ```
     /// # use offset_allocator_recorded::*;

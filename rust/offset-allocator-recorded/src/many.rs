@@ -366,7 +366,8 @@ impl<T: Tables, W: Write> RecordedHeaps<T, W> {
         let (numbers, names) = self.grants.entry(place.heap).or_default();
         numbers.grant(place.ticket.name)?;
         names.remove(&place.ticket.name);
-        if let Some(name) = name {
+        // one of blanks alone is none
+        if let Some(name) = name.filter(|name| !name.trim_ascii().is_empty()) {
             names.try_reserve(1).map_err(out)?;
             names.insert(place.ticket.name, name);
         }
@@ -462,11 +463,16 @@ impl<T: Tables, W: Write> RecordedHeaps<T, W> {
             (Some(size), None) => self.tape.write(format_args!("none relocate {size} {align}")),
             (Some(size), Some(second)) => {
                 let named = self.grants.get(&place.heap).and_then(|grants| grants.1.get(&place.ticket.name));
+                let is_named = named.is_some();
                 let of = format!("(of grant {}, heap {})", self.number(place), place.heap);
                 let name = named.map_or_else(|| of.clone(), |name| format!("{name} {of}"));
                 match align {
                     1 => self.grant(second, format_args!("alloc {size}"), Some(name)),
                     _ => self.grant(second, format_args!("align {size} {align}"), Some(name)),
+                }
+                // where a range comes from is no name of its own
+                if let Some((_, names)) = self.grants.get_mut(&second.heap).filter(|_| !is_named) {
+                    names.remove(&second.ticket.name);
                 }
             }
         }

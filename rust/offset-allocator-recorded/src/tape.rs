@@ -156,7 +156,8 @@ impl<W: Write> Tape<W> {
 
     pub(crate) fn comment(&mut self, text: &str) {
         self.write(format_args!("# {}", in_one_line(text)));
-        self.named = true;
+        // one of blanks alone is none
+        self.named = !text.trim_ascii().is_empty();
     }
 
     /// A mark. A name before it stays that of the next request.

@@ -166,6 +166,34 @@ fn a_second_range_has_the_name_of_the_first() {
 }
 
 #[test]
+fn what_has_no_name_of_its_own_gets_one() {
+    // a name of blanks alone is none
+    let mut heap = Recorded::guarded(space(100, 16, 1), Vec::new()).unwrap();
+    let mut meshes = Meshes::new(Global);
+    heap.name(" ");
+    load(&mut heap, &mut meshes, "mesh", 10);
+    heap.name_all(&meshes, |mesh| &mesh.name);
+    let text = String::from_utf8(heap.finish().1.unwrap()).unwrap();
+    assert_eq!(text, "space 100 nodes 16 index 32\n#  \nalloc 10\n#! name 1 mesh\n");
+    // nor is where a second range comes from
+    let limits = Limits { size: 100, first_size: 100, max_allocs: 16, first_allocs: 16, most: 2, most_larger: 0 };
+    let mut heaps = RecordedHeaps::new(Heaps::<u32>::new(Global, limits, 1).unwrap(), Vec::new()).unwrap();
+    heaps.name("");
+    let places = [60, 5, 90].map(|size| heaps.allocate(size).unwrap().place);
+    let second = heaps.relocate(places[1]).unwrap();
+    let (mut first, mut other) = (Beside::new(Global), Beside::new(Global));
+    assert!(first.put(places[0].ticket, "rock").is_ok() && other.put(second.ticket, "moss").is_ok());
+    heaps.name_all(0, &first, |name| name);
+    heaps.name_all(1, &other, |name| name);
+    let text = String::from_utf8(heaps.finish().1.unwrap()).unwrap();
+    assert_eq!(
+        text,
+        "heap 0 space 100 nodes 16 index 32\n# \nheap 0 alloc 60\nheap 0 alloc 5\nheap 1 space 100 nodes 16 index 32\nheap 1 alloc 90\n\
+         # (of grant 2, heap 0)\nheap 1 alloc 5\n#! heap 0 name 1 rock\n#! heap 1 name 2 moss\n"
+    );
+}
+
+#[test]
 fn marks_that_name_no_grant() {
     let text = "space 100 nodes 16 index 32\nalloc 10\n#! name 1 a\n#! name 1   b c \n#! name 2 early\n#! name 0 zero\n#! heap 0 name 1 d\n#! name 1\n\
                 #! name 1 \n#! name x y\n#! named 1 e\n#! name 99999999999 f\nalloc 5\n";

@@ -23,7 +23,7 @@ struct Case {
     fault: Option<(usize, StateFaultKind)>,
 }
 
-// The limits, how many heaps were made, the realm, and the places: of one heap of the usual size, and of a
+// The limits, how many heaps were made, the realm, and the places: of one usual heap, and of a
 // larger one that is not there. The state of the heap begins behind 8 * 14 bytes.
 const CASES: [Case; 32] = [
     Case {
@@ -211,7 +211,7 @@ const CASES: [Case; 32] = [
         start: 0,
         fault: None,
     },
-    // the second number is that of a heap of the usual size too
+    // the second number is that of a usual heap too
     Case {
         numbers: &[HEAPS, 3, 100, 100, 5, 5, 2, 0, 1, 9, 0, 0, 116],
         start: 0,

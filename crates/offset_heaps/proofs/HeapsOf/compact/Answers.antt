@@ -1,4 +1,4 @@
-use Rattle.std.proofs.Common.{◌≤◌, ◌^◌, ◌∙◌, subst, refl}
+use Rattle.std.proofs.Common.{◌≡◌, ◌+◌, ◌*◌, ◌≤◌, ◌^◌, ◌∙◌, ap, arith, length, mul-le-mul_left, subst, sym, refl}
 use Rattle.offset_heaps.specs.Heaps.{slot}
 use Rattle.offset_heaps.proofs.{Packing.kind_packed, Packing.realm_packed, Packing.sizes_packed, Places.shown}
 use Rattle.offset_heaps.proofs.HeapsOf.compact.Goals as goal
@@ -29,3 +29,15 @@ returns-clause-sizes g c =
 
 pub returns-clause-moved : goal.returns-clause-moved
 returns-clause-moved g c = rw (← c.self.view_is) c.compact_all.ensures.moved
+
+pub returns-clause-steps : goal.returns-clause-steps
+returns-clause-steps g c =
+    let is = c.self.invariant in
+    let all = c.compact_all.ensures.accesses in
+    rw (← c.self.view_is) (λ bits enough.
+    let low = is.low bits (subst (λ n. n ≤ 2 ^ bits) (sym is.numbers) enough) in
+    let more : length c.self.inside.slots * (12 * c.self.inside.index.one.height + 10) ≤ length c.self.inside.slots * (12 * bits + 10) =
+    mul-le-mul_left (length c.self.inside.slots) (omega (arith, low)) in
+    let now : length c.self.inside.slots * (12 * bits + 10) ≡ (c.self.inside.limits.most + c.self.inside.limits.most_larger) * (12 * bits + 10) =
+    ap (λ n. n * (12 * bits + 10)) is.numbers in
+    omega (arith, more, now, all))

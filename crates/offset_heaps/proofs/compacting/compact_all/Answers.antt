@@ -1,5 +1,6 @@
-use Rattle.std.proofs.Common.{◌≡◌, ◌+◌, ◌<◌, ◌≤◌, ◌∙◌, [], ap, arith, drop, length, refl, subst, sym}
+use Rattle.std.proofs.Common.{◌≡◌, ◌+◌, ◌*◌, ◌<◌, ◌≤◌, ◌∙◌, [], ap, arith, drop, length, refl, subst, sym}
 use Rattle.std.proofs.lemmas.List.{drop_all, length-set}
+use Rattle.std.proofs.Math.Nat.{add-mul}
 use Rattle.std.specs.List.{FoldsTo}
 use Rattle.offset_heaps.specs.{Changing.IsCalledAt, Changing.PacksIn, Changing.moves_from, Changing.moves_in, Changing.numbered, Heaps.slot}
 use Rattle.offset_heaps.proofs.{Packing.folds_append, Packing.moves_step, Sound.changes_more, Sound.noted_changed}
@@ -28,6 +29,9 @@ loop-number-preserved g c =
       noted = noted_changed PacksIn c.args.limits c.loop-number.slots c.pack.new.self c.loop-number.number c.loop-number.index c.note.new.self change inv.noted c.note.ensures.here
           c.note.ensures.others;
       levels = c.note.ensures.levels ∙ inv.levels;
+      accesses =
+          let next = add-mul c.loop-number.number 1 (12 * c.args.index.now.one.height + 10) in
+          omega (arith, next, inv.accesses, inv.levels, c.pack.ensures.accesses, c.note.ensures.accesses);
     }
 
 pub returns-clause-moved : goal.returns-clause-moved

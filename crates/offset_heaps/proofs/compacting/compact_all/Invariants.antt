@@ -1,4 +1,4 @@
-use Rattle.std.proofs.Common.{◌≡◌, ℕ, ◌<◌, ◌≤◌, drop, length}
+use Rattle.std.proofs.Common.{◌≡◌, ℕ, ◌+◌, ◌*◌, ◌<◌, ◌≤◌, drop, length}
 use Rattle.std.specs.List.{FoldsTo}
 use Rattle.offset_heaps.specs.{Changing.IsCalledAt, Changing.PacksIn, Changing.moves_from, Heaps.slot, Soundness.IsNoted, Soundness.IsWide}
 use Rattle.offset_heaps.proofs.compacting.compact_all.Given as goal
@@ -15,4 +15,5 @@ invariant-loop-number g l = record {
   wide : IsWide l.slots l.index;
   noted : (k : ℕ) → IsNoted l.limits l.slots l.index k;
   levels : l.index.one.height ≡ l.fn.index.one.height;
+  accesses : l.count ≤ l.fn.count + l.number * (12 * l.fn.index.one.height + 10);
 }
