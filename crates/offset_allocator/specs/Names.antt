@@ -11,8 +11,8 @@ names_of bs = map (λ (b : Block). b.name) bs
 abbrev pub free_blocks : List Block → List Block
 free_blocks bs = filter (λ (b : Block). not b.used) bs
 
--- the name x is taken, and these stay unused: it is the last of the unused ones, or else, where there are k blocks, that
--- of a new node
+-- the name x is taken, and the names `left` stay unused: x is the last of the unused ones; or there are none, so that the
+-- k blocks have all nodes, and x is k, the name of a new one
 abbrev pub IsTaken : ℕ → List ℕ → ℕ → List ℕ → Type 0
 IsTaken k unused x left = (unused ≡ left ++ x ∷ []) ⊎ ((unused ≡ []) × (x ≡ k) × (left ≡ []))
 

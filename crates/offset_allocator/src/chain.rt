@@ -1,5 +1,5 @@
-//! The blocks of the space, linked in space order, and the stack of unused names. It touches these alone, and
-//! leaves the lists in the bins as they are: one cell says of a node in no bin whether its block is used.
+//! The blocks of the space, linked in space order, and the stack of unused names. It touches these alone, but
+//! that `set_used` writes the link to a newer node, which says of a node in no bin whether its block is used.
 
 ghost use Rattle.std.specs.Prelude.{ℕ, ◌≡◌, ◌+◌, ◌-◌, ◌<◌, ◌≤◌, ◌^◌, List, [], ◌∷◌, ◌++◌, length, false};
 ghost use Rattle.std.specs.Prelude.{Some, IfSome, MatchOption};
@@ -87,7 +87,7 @@ pub(crate) fn after<T: Tables>(tables: &T, name: u32, count: &mut Accesses) -> O
     linked(tables.after(name, count))
 }
 
-// Sets the link back of the node that `link` names; without one, `name` is the last block.
+// Makes `name` the block before the one that `link` names; where that names none, `name` becomes the last block.
 #[tactic(auto, using(crate::proofs::Linking::Nodes::lengths))]
 pub(crate) fn point_back<T: Tables>(
     tables: &mut T,

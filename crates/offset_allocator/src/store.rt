@@ -19,13 +19,14 @@ pub(crate) struct Store<T: Tables> {
     pub(crate) top_mask: u32,
     // the name of the last block in space order
     pub(crate) last: u32,
-    // the number of made nodes that no block has
+    // the number of made nodes that no block has: their names, the unused ones, are the first so many entries
+    // of the stack
     pub(crate) spare_count: u32,
     // takes no bytes at run time
     pub(crate) accesses: Accesses,
 }
 
-/// Makes sure that a node has no block: it makes one where none is left.
+/// Makes sure that there is an unused name: it makes a node where there is none.
 #[inline(always)]
 pub(crate) fn ensure_spare<T: Tables>(tables: &mut T, spare_count: &mut u32, count: &mut Accesses)
     requires memory { (limit last : ℕ) × (bs : List Block)

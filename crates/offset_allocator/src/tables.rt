@@ -48,8 +48,8 @@ pub trait Tables: Drop {
         ensures made { IsTrue result → name < length (cells self.now).chain.nodes }
         ensures past { result ≡ false → length (cells self.now).chain.nodes ≤ name };
 
-    /// Makes one more node, which is blank. Its name is a new last entry of the stack of unused names, and
-    /// becomes the one at a place of it.
+    /// Makes one more node, which is blank. The stack of unused names becomes one entry longer, and the new
+    /// name is written there, at its end, and at the index `place` too.
     fn add(&mut self, place: u32, count: &mut Accesses)
         requires memory { length (cells self.old).chain.nodes < (cells self.old).chain.reserved }
         requires place { place ≤ length (cells self.old).chain.nodes }

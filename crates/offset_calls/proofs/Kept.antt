@@ -39,10 +39,6 @@ numbers_begin handles read numbers none e =
       numbered = λ k x l h. absurd (nothing k x h);
     }
 
--- so it is of fewer
-pub numbers_fewer : (handles : List (Option Handle)) (few read : ℕ) (numbers : List ℕ) → few ≤ read → AreNumbers handles read numbers → AreNumbers handles few numbers
-numbers_fewer handles few read numbers l a = record { within = omega (arith, l, a.within); apart = a.apart; numbered = λ k x m e. a.numbered k x (omega (arith, l, m)) e }
-
 module _ (handles : List (Option Handle)) (i : ℕ) (d : Option Handle) (numbers now : List ℕ) (within : i < length handles) (a : AreNumbers handles i numbers) where
   read_at : kept_name handles (i + 1) ≡ option_map (λ (h : Handle). h.name) (get_or handles i d)
   read_at = ap (kept_name handles) (add-one i) ∙ ap (option_map (λ (h : Handle). h.name)) (get_or_default handles i None d within)

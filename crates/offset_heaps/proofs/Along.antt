@@ -23,15 +23,3 @@ first_step k hs = elim (cases_lt k (length hs.slots)) [
       ∙ ap (λ (j : ℕ). option_or (first_place k hs.realm (heap_at k hs)) (first_among (k + 1) hs.realm (drop j hs.slots))) e
   | inr past ↦ first_past k hs past ∙ sym (ap (λ o. option_or (first_place k hs.realm o) (first_from (k + 1) hs)) (slot_past hs.slots k past) ∙ first_past (k + 1) hs (omega arith))
 ]
-
--- a live place is in a heap that is there
-pub live_there : (p : Place) (hs : Heaps) → IsLive p hs → p.heap < length hs.slots
-live_there p hs live = elim (cases_lt p.heap (length hs.slots)) [
-  | inl l ↦ l
-  | inr past ↦ absurd (
-      let none : range_of p hs ≡ None = none_if (nat_eq p.realm hs.realm) (range_in p.ticket (heap_at p.heap hs)) (ap (range_in p.ticket) (slot_past hs.slots p.heap past)) in
-      let o : Option Range = None in
-      let no : IsSome o = subst IsSome none live in
-      cc
-      )
-]

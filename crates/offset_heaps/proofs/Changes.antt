@@ -79,14 +79,6 @@ module _ (k : ℕ) (P : Guard → Guard → Type 0) (hs ks : Heaps) (there : k <
       own None = refl
       own (Some g) = (g, refl, own_twin g)
 
--- the units of the range of a place
-pub units_kept : (p : Place) (n : ℕ) (P : Guard → Guard → Type 0) (hs ks : Heaps) → p.heap < length hs.slots → (a : Alters p.heap P hs ks) → p.realm ≡ hs.realm
-    → guarded.HasUnits p.ticket n a.before a.after → HasUnits p n hs ks
-units_kept p n P hs ks there a own units r e =
-    same_realm p ks (own ∙ sym (altered_realm p.heap P hs ks there a))
-    ∙ ap (range_in p.ticket) (ap (slot p.heap) (altered_slots p.heap P hs ks there a) ∙ slot_same hs.slots p.heap (Some a.after) there)
-    ∙ units r (sym (ap (range_in p.ticket) a.heap) ∙ sym (same_realm p hs own) ∙ e)
-
 -- where it is not done, the heap is as it was
 pub same_space : (how : Wanted) (x : ℕ) (v w : View) → ResizesSpace how x v w false → SameState v w
 same_space how x v w s = s

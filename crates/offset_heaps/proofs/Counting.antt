@@ -75,9 +75,3 @@ key_empty o some = elim (cases_Bool (is_empty o)) [
   | inl t ↦ t
   | inr f ↦ absurd (let none : empty_key o ≡ 0 = ap (λ (b : Bool). if b then 1 else 0) f in omega (arith, some, none))
 ]
-
-pub key_other : (o : Option Guard) → empty_key o < 1 → is_empty o ≡ false
-key_other o none = elim (cases_Bool (is_empty o)) [
-  | inl t ↦ absurd (let one : empty_key o ≡ 1 = ap (λ (b : Bool). if b then 1 else 0) t in omega (arith, none, one))
-  | inr f ↦ f
-]

@@ -38,9 +38,6 @@ freed_blocks x v w f =
     let one = length-append new f.after in
     omega (arith, was, now, both, own, one)
 
-pub reset_blocks : (v w : View) → Resets v w → length w.blocks ≡ 1
-reset_blocks v w r = ap (λ (z : View). length z.blocks) r.view
-
 -- ---- limits
 module _ (limits : Limits) (k : ℕ) where
   -- a heap that need not grow keeps enough nodes unused after a grant

@@ -106,10 +106,6 @@ module _ (bs cs : List Block) (p : List Pair) (l : bs ≡ lefts p) (r : cs ≡ r
   right_at : (i : ℕ) → at i cs ≡ right (pair_at i p)
   right_at i = ap (at i) r ∙ get_or-map right p i (pair 0 (Lives 0 0))
 
-  order_at : (i j : ℕ) → nat_lt (stamp (at i bs).tag) (stamp (at j bs).tag) ≡ nat_lt (stamp (at i cs).tag) (stamp (at j cs).tag) → IsInOrder (pair_at i p).kind (pair_at j p).kind
-  order_at i j h = sym (ap₂ (λ (x y : Block). nat_lt (stamp x.tag) (stamp y.tag)) (left_at i) (left_at j)) ∙ h
-      ∙ ap₂ (λ (x y : Block). nat_lt (stamp x.tag) (stamp y.tag)) (right_at i) (right_at j)
-
 ordered : (bs cs : List Block) → AreSimilar bs cs → IsOrdered bs cs
 ordered bs cs m = record {
   same = ap outline m.left_blocks ∙ same_outline m.pairs m.numbers ∙ sym (ap outline m.right_blocks);

@@ -1,6 +1,7 @@
 -- The plain stamped machine: the space as a list of blocks, commands in, answers out. The size classes, the rows of a
 -- full report, the largest size of a space (`max_size`) and the padding of an aligned grant (`padding_to`) are the
--- allocator's.
+-- allocator's. `Block`, `Place`, `place_of`, `free_sizes`, `free_part`, `without_start` and `without_end` are of these lists,
+-- not those of the same names in the allocator's `View.antt`, and `total` is its `units`.
 use Rattle.std.specs.Prelude.{ℕ, zero, suc, ◌+◌, ◌-◌, ◌*◌, Bool, true, false, ◌&&◌, ◌||◌, not, List, [], ◌∷◌, ◌++◌, length, map, sum, Option, Some, None, option_map, nat_eq, nat_lt, nat_le}
 use Rattle.std.specs.Prelude.{if◌then◌else◌}
 use Rattle.offset_allocator.specs.Classes.{up, down}
@@ -167,11 +168,12 @@ pub record Outcome : Type 0 where
 abbrev pub start : ℕ → ℕ → State
 start size limit = record { limit = limit; blocks = block size (Free 0) ∷ []; calls = 0; grants = 0 }
 
--- the stamp that the next call gives to the padding before an aligned grant: of the blocks that it leaves free, the oldest
+-- the stamp that the next call gives to the padding before an aligned grant: below that of the remainder, above all earlier
+-- ones
 abbrev pub stamp_of_padding : State → ℕ
 stamp_of_padding s = 2 * (s.calls + 1)
 
--- the stamp that the next call gives to every other block that it frees
+-- the stamp that the next call gives to every other free block that it makes
 abbrev pub stamp_of_call : State → ℕ
 stamp_of_call s = 2 * (s.calls + 1) + 1
 
@@ -269,7 +271,7 @@ abbrev pub after : List Command → State → State
 after [] s = s
 after (c ∷ cs) s = after cs (step c s).state
 
--- ---- the answers of the program
+-- ---- the answers as the code has them (`program` is `src/answers.rt`)
 
 -- a row of a full report, as the machine has it
 abbrev pub row_view : FullRow → Row

@@ -13,7 +13,7 @@ use Rattle.offset_script.specs.Sending.{Pushes, Sends}
 use Rattle.offset_script.specs.declared.devices.Sink.{Ghosts as Sink}
 use Rattle.offset_script.specs.declared.devices.Source.{Ghosts as Source}
 
--- the plan of a script: plain data, without where it lies in memory
+-- the plan of a script (`program.Script` is that of `src/scripts.rt`): plain data, without where it lies in memory
 abbrev pub as_plan : program.Script → Plan
 as_plan s = record {
   header = record { size = s.size; max_allocs = s.max_allocs; index = s.index };

@@ -1,5 +1,5 @@
-//! Runs a script from a source to a sink. It touches these and its own spaces; nothing is sent before all is
-//! read and made.
+//! Runs a script from a source to a sink, by a `Rendering`, whose trait is here. It touches source and sink alone,
+//! and sends nothing before all is read and made.
 
 ghost use Rattle.std.specs.Prelude.{◌≡◌, ◌≢◌, ◌⊎◌, ℕ, false, IfOk, IfErr, IfSome, List, ◌||◌};
 ghost use Rattle.offset_script.specs.Grammar.{Plan};

@@ -146,11 +146,6 @@ moved from to (b ∷ bs) ws ys f l fits = go b.used refl (λ t xs. moved (from +
         )
     go false u rest = search (arith, moves_idle, live_idle, hit_cases, found_here, found_absent, found_other)
 
--- copies keep the length
-pub copies_keep : (ms : List Move) (xs ys : List ℕ) → FoldsTo (λ xs (m : Move) zs. IsCopied m.from m.to m.size xs zs) xs ms ys → length ys ≡ length xs
-copies_keep [] xs ys f = ap (λ (k : List ℕ). length k) (sym f)
-copies_keep (m ∷ ms) xs ys f = copies_keep ms f.0 ys f.2 ∙ (let c : IsCopied m.from m.to m.size xs f.0 = f.1 in c.len)
-
 pub compacted_holds : (v w : View) (xs ys : List ℕ) → IsWellFormed v → Compacts v w → v.size ≤ length xs
     → FoldsTo (λ xs (m : Move) zs. IsCopied m.from m.to m.size xs zs) xs (moves 0 0 v.blocks) ys
     → (length ys ≡ length xs) × ((x : ℕ) → HasSameBytes xs ys (range_of x v) (range_of x w))

@@ -162,22 +162,6 @@ few_left t m v w limit front run back is some can =
     ]
 
 module _ (s from u r : ℕ) where
-  -- whatever was counted before
-  pub slides_counted : (k : ℕ) (v w : View) (p : Progress) → SlidesWithin s from u r (record v { accesses = k }) w p → SlidesWithin s from u r v w p
-  slides_counted k v w p h = record {
-    front = h.front;
-    first = h.first;
-    rest = h.rest;
-    back = h.back;
-    reached = record { is = h.reached.is; begins = h.reached.begins; within = h.reached.within; stops = h.reached.stops };
-    progress = h.progress;
-    name = h.name;
-    left = h.left;
-    taken = h.taken;
-    names = h.names;
-    view = h.view;
-  }
-
   -- the live blocks stay
   pub slides_live : (v w : View) (p : Progress) → SlidesWithin s from u r v w p → live w.blocks ≡ live v.blocks
   slides_live v w p h =

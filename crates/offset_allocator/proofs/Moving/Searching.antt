@@ -106,9 +106,6 @@ with_front xs ys = elim (cases_lt 0 (used_units xs)) [
 at_most_same : (c : RoomCost) → IsAtMost c c
 at_most_same c = inr (refl, omega arith)
 
-at_most_less : (a b c : RoomCost) → IsAtMost a b → IsLess b c → IsLess a c
-at_most_less a b c l m = grind arith
-
 less_at_most : (a b : RoomCost) → IsLess a b → IsAtMost a b
 less_at_most a b l = grind arith
 
@@ -124,15 +121,6 @@ record IsNew (bs : List Block) (b : Block) (run : List Block) : Type 0 where
   is : bs ≡ pre ++ suf
   whole : run ≡ suf ++ b ∷ []
   free : b.used ≡ false
-
-run_before : {run bs : List Block} (b : Block) → IsRun run bs → IsRun run (bs ++ b ∷ [])
-run_before {run} b r = record {
-  front = r.front;
-  back = r.back ++ b ∷ [];
-  is = ap (λ l. l ++ b ∷ []) r.is ∙ append_assoc r.front (run ++ r.back) (b ∷ []) ∙ ap (λ l. r.front ++ l) (append_assoc run r.back (b ∷ []));
-  begins = r.begins;
-  ends = r.ends;
-}
 
 pub no_run : (run : List Block) → IsRun run [] → ⊥
 no_run [] r = true≢false (sym r.begins)

@@ -311,9 +311,6 @@ module _ (f : Fields) (s : AreSound f) (t : ℕ) (front run back : List Block) (
     inner_parts : AreCoalesced run × AreCoalesced back × ((ends_free run && starts_free back) ≡ false)
     inner_parts = apart_parts run back parts.1
 
-    pub split_apart : AreCoalesced run
-    split_apart = inner_parts.0
-
     left_well : length (refiled t run (bins_in f.max f.cells.bins)) ≡ 256 → AreInBins ((front ++ stepped t run) ++ back) (refiled t run (bins_in f.max f.cells.bins))
         → IsWellFormed left_view
     left_well long filed = record {

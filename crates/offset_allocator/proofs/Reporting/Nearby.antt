@@ -143,13 +143,6 @@ module _ (it : Fields) (s : AreSound it) where
     pub none_before : (v : View) → (IsLive x v → ⊥) → None ≡ live_before x v
     none_before v n = dead_before v (place_of x v.blocks) (λ u. n (used_live x v u)) refl
 
-    dead_after : (v : View) (o : Option Place) → (is_used_at o ≡ true → ⊥) → place_of x v.blocks ≡ o → None ≡ live_after x v
-    dead_after v None n e = grind (arith, e)
-    dead_after v (Some p) n e = grind (arith, e, n)
-
-    pub none_after_dead : (v : View) → (IsLive x v → ⊥) → None ≡ live_after x v
-    none_after_dead v n = dead_after v (place_of x v.blocks) (λ u. n (used_live x v u)) refl
-
     module _ (v : View) (e : shown it ≡ v) (live : IsLive x v) where
       pub live_place : x < length it.cells.chain.nodes
       live_place = (held v e live).place.below
