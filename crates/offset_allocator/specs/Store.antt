@@ -10,7 +10,7 @@ use Rattle.offset_allocator.specs.Bins.{IsBinned, bins_in}
 abbrev pub IsPlaceIn : {A B C : Type 0} → (A → Cells) → Store A B C → ℕ → ℕ → Place → Type 0
 IsPlaceIn cells s limit x p = HasPlace (cells s.tables).chain limit s.last s.spare_count x p
 
--- its links and masks agree with its bins
+-- its links and masks agree with its bins (that the bins have exactly the free blocks is `AreInBins`, of View)
 abbrev pub AreBinned : {A B C : Type 0} → (A → Cells) → ℕ → Store A B C → Type 0
 AreBinned cells max s = IsBinned max (cells s.tables).bins s.top_mask
 

@@ -87,7 +87,8 @@ pub fn is_well_formed<T: Tables>(allocator: &AllocatorOf<T>)
     allocator.formed();
 }
 
-/// The number of unused nodes: one more than the number of blocks that may still be added.
+/// The number of nodes that no block has, made or not: one more than the number of blocks that may still be
+/// added.
 ///
 /// An allocator has no other fields than these: one set of tables, and numbers. The patterns name each with
 /// its type, so a second list of blocks would not compile.

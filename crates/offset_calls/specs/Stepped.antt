@@ -8,10 +8,10 @@ abbrev pub kept : ℕ → ℕ → List Block → ℕ
 kept n m [] = 0
 kept n m (b ∷ bs) = m % n
 
--- the live ones of blocks, and between them what the free ones keep, with stamps that rise from s on
+-- the live ones of blocks, and between them what the free ones keep, with stamps that rise from t on
 abbrev pub stepped : ℕ → ℕ → List Block → List Block
-stepped n s [] = []
-stepped n s (b ∷ bs) = (if is_free b.tag then free_part (kept n b.size bs) s else b ∷ []) ++ stepped n (s + 1) bs
+stepped n t [] = []
+stepped n t (b ∷ bs) = (if is_free b.tag then free_part (kept n b.size bs) t else b ∷ []) ++ stepped n (t + 1) bs
 
 -- the units that the free ones give up
 abbrev pub given_up : ℕ → List Block → ℕ
@@ -20,7 +20,7 @@ given_up n (b ∷ bs) = (if is_free b.tag then b.size - kept n b.size bs else 0)
 
 -- a run of blocks slid by steps of n, and what they give up as one free block after them, the newest
 abbrev pub slid : ℕ → ℕ → List Block → List Block
-slid n s run = stepped n s run ++ block (given_up n run) (Free (s + length run)) ∷ []
+slid n t run = stepped n t run ++ block (given_up n run) (Free (t + length run)) ∷ []
 
 -- the state after a run has slid by steps of n units. It counts as one call more than the run has blocks, since each free
 -- block that remains gets a new stamp

@@ -56,13 +56,13 @@ IsReasonTight n align v r = (r ≡ None ↔ CanHold n align v) × IfSome r (IsWh
 
 -- such a request, whose grant is kept, with this reply
 abbrev pub TakesTight : ℕ → ℕ → View → List (Option Handle) → View → List (Option Handle) → Reply → Type 0
-TakesTight n align v handles w kept r = (g : Option Handle) × (a : machine.Answer) × AlignsTight n align v w g
-    × IsKept g handles kept a × (r ≡ Answer a)
+TakesTight n align v handles w later r = (g : Option Handle) × (a : machine.Answer) × AlignsTight n align v w g
+    × IsKept g handles later a × (r ≡ Answer a)
 
 -- a request for the n units from an offset on, whose grant is kept, with this reply
 abbrev pub TakesAt : ℕ → ℕ → View → List (Option Handle) → View → List (Option Handle) → Reply → Type 0
-TakesAt offset n v handles w kept r = (g : Option Handle) × (a : machine.Answer) × AllocatesAt offset n v w g
-    × IsKept g handles kept a × (r ≡ Answer a)
+TakesAt offset n v handles w later r = (g : Option Handle) × (a : machine.Answer) × AllocatesAt offset n v w g
+    × IsKept g handles later a × (r ≡ Answer a)
 
 -- room is made for a request, and the moves are replied with the numbers of their grants
 abbrev pub TakesRoom : ℕ → View → List (Option Handle) → View → Reply → Type 0
@@ -96,64 +96,64 @@ abbrev pub Finds : List (Option Handle) → Option Handle → Reply → Type 0
 Finds handles g r = (found : Option LiveRange) × IsNumbered handles g found × (r ≡ Beside found)
 
 -- the step of a call from the view v to the view w, with this reply: the handles of the grants so far are those in
--- `handles` before it, and in `kept` after it, that of grant k at k - 1 while the grant is live
+-- `handles` before it, and in `later` after it, that of grant k at k - 1 while the grant is live
 abbrev pub Takes : Call → View → List (Option Handle) → View → List (Option Handle) → Reply → Type 0
-Takes (call.Command c) v handles w kept r = (a : machine.Answer) × script.Takes c v handles w kept a × (r ≡ Answer a)
-Takes (call.Shrink k n) v handles w kept r = IfNamed (kept_name handles k)
-    (λ x. (done : Bool) × Shrinks x n v w done × (kept ≡ handles)
+Takes (call.Command c) v handles w later r = (a : machine.Answer) × script.Takes c v handles w later a × (r ≡ Answer a)
+Takes (call.Shrink k n) v handles w later r = IfNamed (kept_name handles k)
+    (λ x. (done : Bool) × Shrinks x n v w done × (later ≡ handles)
     × (r ≡ (if done then Resized else Answer machine.Refused)))
-    (Stays v handles w kept × (r ≡ Answer machine.Gone))
-Takes (call.Grow k n) v handles w kept r = IfNamed (kept_name handles k)
-    (λ x. (done : Bool) × Grows x n v w done × (kept ≡ handles)
+    (Stays v handles w later × (r ≡ Answer machine.Gone))
+Takes (call.Grow k n) v handles w later r = IfNamed (kept_name handles k)
+    (λ x. (done : Bool) × Grows x n v w done × (later ≡ handles)
     × (r ≡ (if done then Resized else Answer machine.Refused)))
-    (Stays v handles w kept × (r ≡ Answer machine.Gone))
-Takes call.Compact v handles w kept r = Compacts v w × (kept ≡ handles)
+    (Stays v handles w later × (r ≡ Answer machine.Gone))
+Takes call.Compact v handles w later r = Compacts v w × (later ≡ handles)
     × ((ms : List Move) × AreNumbered handles (moves 0 0 v.blocks) ms × (r ≡ Compacted ms))
-Takes (call.CompactBy n) v handles w kept r = (done : Bool) × CompactsBy n v w done × (kept ≡ handles)
+Takes (call.CompactBy n) v handles w later r = (done : Bool) × CompactsBy n v w done × (later ≡ handles)
     × ((ms : List Move) × AreNumbered handles (if done then moves_by n 0 0 v.blocks else []) ms
     × (r ≡ (if done then Compacted ms else Answer machine.Refused)))
-Takes (call.CompactWithin n from u m) v handles w kept r = TakesWithin n from u m v handles w r × (kept ≡ handles)
-Takes (call.Offset k) v handles w kept r = Stays v handles w kept × IfNamed (kept_name handles k)
+Takes (call.CompactWithin n from u m) v handles w later r = TakesWithin n from u m v handles w r × (later ≡ handles)
+Takes (call.Offset k) v handles w later r = Stays v handles w later × IfNamed (kept_name handles k)
     (λ x. (o : ℕ) × (option_map (λ (q : Range). q.offset) (range_of x v) ≡ Some o) × (r ≡ Offset o))
     (r ≡ Answer machine.Gone)
-Takes (call.Refusal n) v handles w kept r = Stays v handles w kept
+Takes (call.Refusal n) v handles w later r = Stays v handles w later
     × ((why : Option Refusal) × IsReason 1 n v why × (r ≡ reply.Refusal why))
-Takes (call.RefusalAligned n align) v handles w kept r = Stays v handles w kept
+Takes (call.RefusalAligned n align) v handles w later r = Stays v handles w later
     × ((why : Option Refusal) × IsReason (blocks_needed align) (units_needed n align) v why × (r ≡ reply.Refusal why))
-Takes (call.Tight n) v handles w kept r = TakesTight n 1 v handles w kept r
-Takes (call.TightAligned n align) v handles w kept r = TakesTight n align v handles w kept r
-Takes (call.AllocateAt offset n) v handles w kept r = TakesAt offset n v handles w kept r
-Takes (call.RefusalTight n) v handles w kept r = Stays v handles w kept
+Takes (call.Tight n) v handles w later r = TakesTight n 1 v handles w later r
+Takes (call.TightAligned n align) v handles w later r = TakesTight n align v handles w later r
+Takes (call.AllocateAt offset n) v handles w later r = TakesAt offset n v handles w later r
+Takes (call.RefusalTight n) v handles w later r = Stays v handles w later
     × ((why : Option Refusal) × IsReasonTight n 1 v why × (r ≡ reply.Refusal why))
-Takes (call.RefusalTightAligned n align) v handles w kept r = Stays v handles w kept
+Takes (call.RefusalTightAligned n align) v handles w later r = Stays v handles w later
     × ((why : Option Refusal) × IsReasonTight n align v why × (r ≡ reply.Refusal why))
-Takes (call.WouldBegin n align) v handles w kept r = Stays v handles w kept × (1 ≤ align)
+Takes (call.WouldBegin n align) v handles w later r = Stays v handles w later × (1 ≤ align)
     × ((b : Option ℕ) × IsBegin n align v b × (r ≡ begins_at b))
-Takes (call.MakeRoom n) v handles w kept r = TakesRoom (value (up n)) v handles w r × (kept ≡ handles)
-Takes (call.MakeRoomBy n align m) v handles w kept r =
+Takes (call.MakeRoom n) v handles w later r = TakesRoom (value (up n)) v handles w r × (later ≡ handles)
+Takes (call.MakeRoomBy n align m) v handles w later r =
     TakesRoomBy m (value (up (units_needed n align))) (names_short (blocks_needed align) v) v handles w r
-    × (kept ≡ handles)
-Takes (call.RoomCost n) v handles w kept r = Stays v handles w kept
+    × (later ≡ handles)
+Takes (call.RoomCost n) v handles w later r = Stays v handles w later
     × ((c : Option RoomCost) × IsLeastCost (value (up n)) v.blocks c × (r ≡ reply.RoomCost c))
-Takes (call.RoomCostBy n align m) v handles w kept r = Stays v handles w kept
+Takes (call.RoomCostBy n align m) v handles w later r = Stays v handles w later
     × ((c : Option RoomCost) × IsLeastCostBy m (value (up (units_needed n align))) (names_short (blocks_needed align) v) v.blocks c
     × (r ≡ reply.RoomCost c))
-Takes (call.Relocate k) v handles w kept r = IfNamed (kept_name handles k)
+Takes (call.Relocate k) v handles w later r = IfNamed (kept_name handles k)
     (λ x. (g : Option Handle) × (a : machine.Answer) × Relocates x v w g
-    × IsKept g handles kept a × (r ≡ Answer a))
-    (Stays v handles w kept × (r ≡ Answer machine.Gone))
-Takes (call.RelocateAligned k align) v handles w kept r = (1 ≤ align) × IfNamed (kept_name handles k)
+    × IsKept g handles later a × (r ≡ Answer a))
+    (Stays v handles w later × (r ≡ Answer machine.Gone))
+Takes (call.RelocateAligned k align) v handles w later r = (1 ≤ align) × IfNamed (kept_name handles k)
     (λ x. (g : Option Handle) × (a : machine.Answer) × RelocatesAligned x align v w g
-    × IsKept g handles kept a × (r ≡ Answer a))
-    (Stays v handles w kept × (r ≡ Answer machine.Gone))
-Takes (call.Retract n) v handles w kept r = (done : Bool) × Retracts n v w done × (kept ≡ handles)
+    × IsKept g handles later a × (r ≡ Answer a))
+    (Stays v handles w later × (r ≡ Answer machine.Gone))
+Takes (call.Retract n) v handles w later r = (done : Bool) × Retracts n v w done × (later ≡ handles)
     × (r ≡ (if done then Resized else Answer machine.Refused))
-Takes call.First v handles w kept r = Stays v handles w kept × Finds handles (named_beside.first_live v) r
-Takes call.Last v handles w kept r = Stays v handles w kept × Finds handles (named_beside.last_live v) r
-Takes (call.Before k) v handles w kept r = Stays v handles w kept
+Takes call.First v handles w later r = Stays v handles w later × Finds handles (named_beside.first_live v) r
+Takes call.Last v handles w later r = Stays v handles w later × Finds handles (named_beside.last_live v) r
+Takes (call.Before k) v handles w later r = Stays v handles w later
     × IfNamed (kept_name handles k) (λ x. Finds handles (named_beside.live_before x v) r)
     (r ≡ Answer machine.Gone)
-Takes (call.After k) v handles w kept r = Stays v handles w kept
+Takes (call.After k) v handles w later r = Stays v handles w later
     × IfNamed (kept_name handles k) (λ x. Finds handles (named_beside.live_after x v) r)
     (r ≡ Answer machine.Gone)
 

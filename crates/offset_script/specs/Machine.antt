@@ -138,7 +138,7 @@ pub record State : Type 0 where
   pub limit : ℕ
   -- in space order
   pub blocks : List Block
-  -- the calls so far
+  -- the calls so far, and one more for each block of a run that slid by steps: it only numbers stamps
   pub calls : ℕ
   -- the grants so far
   pub grants : ℕ

@@ -41,8 +41,8 @@ MayBeKept granted v handles = IfSome granted (λ h. IsLive h.name v × ((k : ℕ
 
 -- the answer to a request with this result; the handle of a grant is kept, under the number in the answer
 abbrev pub IsKept : Option Handle → List (Option Handle) → List (Option Handle) → Answer → Type 0
-IsKept None handles kept a = (kept ≡ handles) × (a ≡ machine.Refused)
-IsKept (Some h) handles kept a = (kept ≡ handles ++ Some h ∷ []) × (a ≡ machine.Grant (length kept) h.offset)
+IsKept None handles later a = (later ≡ handles) × (a ≡ machine.Refused)
+IsKept (Some h) handles later a = (later ≡ handles ++ Some h ∷ []) × (a ≡ machine.Grant (length later) h.offset)
 
 -- P holds of a name, or Q where there is none
 abbrev pub IfNamed : Option ℕ → (ℕ → Type 0) → Type 0 → Type 0
@@ -51,23 +51,23 @@ IfNamed (Some x) P Q = P x
 
 -- the same view and the same handles
 abbrev pub Stays : View → List (Option Handle) → View → List (Option Handle) → Type 0
-Stays v handles w kept = (w ≡ v) × (kept ≡ handles)
+Stays v handles w later = (w ≡ v) × (later ≡ handles)
 
 -- the step of a command from the view v to the view w, with this answer: the handles of the grants so far are those in
--- `handles` before it, and in `kept` after it, that of grant k at k - 1 while the grant is live
+-- `handles` before it, and in `later` after it, that of grant k at k - 1 while the grant is live
 abbrev pub Takes : Command → View → List (Option Handle) → View → List (Option Handle) → Answer → Type 0
-Takes (command.Alloc n) v handles w kept a = (r : Option Handle) × Allocates n v w r × IsKept r handles kept a
-Takes (command.Free k) v handles w kept a = IfNamed (kept_name handles k)
-    (λ x. Frees x v w × (kept ≡ slice_set handles (k - 1) None) × (a ≡ machine.Freed))
-    (Stays v handles w kept × (a ≡ machine.Gone))
-Takes (command.Size k) v handles w kept a = Stays v handles w kept
+Takes (command.Alloc n) v handles w later a = (r : Option Handle) × Allocates n v w r × IsKept r handles later a
+Takes (command.Free k) v handles w later a = IfNamed (kept_name handles k)
+    (λ x. Frees x v w × (later ≡ slice_set handles (k - 1) None) × (a ≡ machine.Freed))
+    (Stays v handles w later × (a ≡ machine.Gone))
+Takes (command.Size k) v handles w later a = Stays v handles w later
     × IfNamed (kept_name handles k) (λ x. a ≡ machine.Size (size_of x v)) (a ≡ machine.Gone)
-Takes command.Report v handles w kept a = Stays v handles w kept × (a ≡ machine.Report (reported_free v) (reported_largest v))
-Takes command.Full v handles w kept a = Stays v handles w kept × (a ≡ machine.full_report (free_sizes v.blocks))
-Takes command.Reset v handles w kept a = Resets v w × (length kept ≡ length handles)
-    × ((k : ℕ) → kept_name kept k ≡ None) × (a ≡ machine.Reset)
-Takes (command.Align n align) v handles w kept a = (r : Option Handle) × Aligns n align v w r × IsKept r handles kept a
-Takes (command.Extend more) v handles w kept a = (done : Bool) × Extends more v w done × (kept ≡ handles)
+Takes command.Report v handles w later a = Stays v handles w later × (a ≡ machine.Report (reported_free v) (reported_largest v))
+Takes command.Full v handles w later a = Stays v handles w later × (a ≡ machine.full_report (free_sizes v.blocks))
+Takes command.Reset v handles w later a = Resets v w × (length later ≡ length handles)
+    × ((k : ℕ) → kept_name later k ≡ None) × (a ≡ machine.Reset)
+Takes (command.Align n align) v handles w later a = (r : Option Handle) × Aligns n align v w r × IsKept r handles later a
+Takes (command.Extend more) v handles w later a = (done : Bool) × Extends more v w done × (later ≡ handles)
     × (a ≡ (if done then machine.Extended else machine.Refused))
 
 -- ---- runs
@@ -76,8 +76,8 @@ Takes (command.Extend more) v handles w kept a = (done : Bool) × Extends more v
 abbrev pub AreSteps : {C A : Type 0} → (C → View → List (Option Handle) → View → List (Option Handle) → A → Type 0)
     → View → List (Option Handle) → List C → List A → Type 0
 AreSteps step v handles [] [] = Unit {0}
-AreSteps step v handles (c ∷ cs) (a ∷ others) = (w : View) × (kept : List (Option Handle)) × step c v handles w kept a
-    × IsWellFormed w × AreSteps step w kept cs others
+AreSteps step v handles (c ∷ cs) (a ∷ others) = (w : View) × (later : List (Option Handle)) × step c v handles w later a
+    × IsWellFormed w × AreSteps step w later cs others
 AreSteps step v handles cs found = ⊥
 
 -- the answers are those of a run on a fresh space, where a grant's number means the name that its grant gave

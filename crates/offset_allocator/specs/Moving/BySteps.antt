@@ -7,7 +7,8 @@ use Rattle.offset_allocator.specs.Relations.{SameSpace, SameState}
 use Rattle.offset_allocator.specs.Requests.{HasRoomFor}
 use Rattle.offset_allocator.specs.View.{View, Block, ends_used, free_block, free_part, replace}
 
--- what a free block of n units keeps, which has these blocks after it: what whole steps leave of it, and nothing at the end
+-- what a free block of n units keeps, which has these blocks after it: what whole steps leave of it, or 0 where the list
+-- ends with it
 abbrev pub kept : ℕ → ℕ → List Block → ℕ
 kept s n [] = 0
 kept s n (b ∷ bs) = n % s
@@ -22,12 +23,13 @@ abbrev pub given_up : ℕ → List Block → ℕ
 given_up s [] = 0
 given_up s (b ∷ bs) = (if b.used then 0 else b.size - kept s b.size bs) + given_up s bs
 
--- the free ones that keep nothing
+-- the free ones that keep nothing, whose names become unused (none of them is `used`)
 abbrev pub used_up : ℕ → List Block → List Block
 used_up s [] = []
 used_up s (b ∷ bs) = (if not b.used && nat_eq (kept s b.size bs) 0 then b ∷ [] else []) ++ used_up s bs
 
--- the moves of the used ones of blocks that begin at an offset, if they begin at another one then
+-- the moves of the used ones of blocks that begin at `from`, where they are packed from `to` on, with what the free ones
+-- keep between them
 abbrev pub moves_by : ℕ → ℕ → ℕ → List Block → List Move
 moves_by s from to [] = []
 moves_by s from to (b ∷ bs) = if b.used then move_of from to b ++ moves_by s (from + b.size) (to + b.size) bs else moves_by s (from + b.size) (to + kept s b.size bs) bs
@@ -38,7 +40,7 @@ first_whole s [] = None
 first_whole s (b ∷ []) = None
 first_whole s (b ∷ c ∷ bs) = if not b.used && nat_le s b.size then Some b.name else first_whole s (c ∷ bs)
 
--- there is a name for one more block, or the last block is free, whose name is unused then
+-- the node limit admits one more block, or the last block is free, which gives its name back
 abbrev pub CanStep : View → Type 0
 CanStep v = HasRoomFor 1 v ⊎ (ends_used v.blocks ≡ false)
 
@@ -60,7 +62,8 @@ pub record SlidesBy (s : ℕ) (v w : View) : Type 0 where
   pub names : w.unused ≡ left ++ names_of (used_up s (first ∷ rest))
   pub view : SameSpace (replace v front (first ∷ rest) (stepped s (first ∷ rest) ++ free_block name (given_up s (first ∷ rest)) ∷ []) []) w
 
--- a compaction by steps; it is refused where a name is missing, and nothing changes where no free block has a step
+-- a compaction by steps: where a free block before another has a step, it is refused exactly if `CanStep` fails; where none
+-- has, nothing changes
 abbrev pub CompactsBy : ℕ → View → View → Bool → Type 0
 CompactsBy s v w true = ((first_whole s v.blocks ≡ None) × SameState v w) ⊎ (CanStep v × SlidesBy s v w)
 CompactsBy s v w false = (first_whole s v.blocks ≢ None) × (CanStep v → ⊥) × SameState v w

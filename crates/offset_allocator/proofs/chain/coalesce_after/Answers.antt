@@ -17,9 +17,9 @@ set_spare-requires g c = grind (arith, common_steps, relinked_spare, spare-put, 
 
 pub returns-clause-place : goal.returns-clause-place
 returns-clause-place g c m p h =
-    let room : Cells → ChainCells = λ v. v.chain in
+    let chain_of : Cells → ChainCells = λ v. v.chain in
     coalesce_after_place (g.T.Tables.cells c.point_back.new.tables).chain h c.requires.next c.requires.free c.requires.whole c.after-next.ensures.cell
-    (ap room c.set_end.ensures.cells) c.point_back.ensures.cells c.point_back.ensures.last (rw c.link_to.ensures.number at (ap room c.set_spare.ensures.cells))
+    (ap chain_of c.set_end.ensures.cells) c.point_back.ensures.cells c.point_back.ensures.last (rw c.link_to.ensures.number at (ap chain_of c.set_spare.ensures.cells))
 
 pub point_back-requires-clause-name : goal.point_back-requires-clause-name
 point_back-requires-clause-name g c = rw (c.set_end.ensures.cells, length-put) c.requires.place.2.below
@@ -35,7 +35,7 @@ returns-clause-accesses g c = (omega arith, omega arith)
 
 pub returns-clause-unused : goal.returns-clause-unused
 returns-clause-unused g c =
-    let room : Cells → ChainCells = λ v. v.chain in
+    let chain_of : Cells → ChainCells = λ v. v.chain in
     let h = c.requires.place.2 in
     put_back _ _ _ _ _ (spare_room h) (relinked_spare (back_to _) _ _ _ c.point_back.ensures.cells ∙ rw (c.set_end.ensures.cells, spare-put) refl)
-    (rw c.link_to.ensures.number at (ap room c.set_spare.ensures.cells))
+    (rw c.link_to.ensures.number at (ap chain_of c.set_spare.ensures.cells))

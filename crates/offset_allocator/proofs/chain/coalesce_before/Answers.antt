@@ -20,9 +20,9 @@ set_spare-requires g c = grind (arith, common_steps, relinked_spare, spare-put, 
 
 pub returns-clause-place : goal.returns-clause-place
 returns-clause-place g c m p h =
-    let room : Cells → ChainCells = λ v. v.chain in
+    let chain_of : Cells → ChainCells = λ v. v.chain in
     coalesce_before_place (g.T.Tables.cells c.point_on.new.tables).chain h c.requires.previous c.requires.free c.offset-offset.ensures.cell c.requires.whole c.before-link.ensures.cell
-    (ap room c.set_start.ensures.cells) c.point_on.ensures.cells (rw c.link_to.ensures.number at (ap room c.set_spare.ensures.cells))
+    (ap chain_of c.set_start.ensures.cells) c.point_on.ensures.cells (rw c.link_to.ensures.number at (ap chain_of c.set_spare.ensures.cells))
 
 pub point_on-requires-clause-name : goal.point_on-requires-clause-name
 point_on-requires-clause-name g c = rw (c.set_start.ensures.cells, length-put) c.requires.place.2.below
@@ -38,7 +38,7 @@ returns-clause-accesses g c = (omega arith, omega arith)
 
 pub returns-clause-unused : goal.returns-clause-unused
 returns-clause-unused g c =
-    let room : Cells → ChainCells = λ v. v.chain in
+    let chain_of : Cells → ChainCells = λ v. v.chain in
     let h = c.requires.place.2 in
     put_back _ _ _ _ _ (spare_room h) (relinked_spare (on_to _) _ _ _ c.point_on.ensures.cells ∙ rw (c.set_start.ensures.cells, spare-put) refl)
-    (rw c.link_to.ensures.number at (ap room c.set_spare.ensures.cells))
+    (rw c.link_to.ensures.number at (ap chain_of c.set_spare.ensures.cells))

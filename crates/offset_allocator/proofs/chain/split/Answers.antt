@@ -27,10 +27,10 @@ point_back-requires-clause-name g c =
 
 pub returns-clause-place : goal.returns-clause-place
 returns-clause-place g c m p h =
-    let room : Cells → ChainCells = λ v. v.chain in
+    let chain_of : Cells → ChainCells = λ v. v.chain in
     split_place h c.requires.spare (c.number-rest.ensures.number ∙ c.spare.ensures.cell) c.requires.within c.requires.offset c.requires.whole c.after-next.ensures.cell
     c.link_to-back.ensures c.link_to-on.ensures
-    (ap room c.set_block.ensures.cells) (ap room c.set_end.ensures.cells) c.point_back.ensures.cells c.point_back.ensures.last
+    (ap chain_of c.set_block.ensures.cells) (ap chain_of c.set_end.ensures.cells) c.point_back.ensures.cells c.point_back.ensures.last
 
 pub returns-clause-fresh : goal.returns-clause-fresh
 returns-clause-fresh g c m p h = (top _ h.chain c.requires.spare (c.number-rest.ensures.number ∙ c.spare.ensures.cell)).absent

@@ -27,10 +27,10 @@ point_on-requires-clause-name g c =
 
 pub returns-clause-place : goal.returns-clause-place
 returns-clause-place g c m p h =
-    let room : Cells → ChainCells = λ v. v.chain in
+    let chain_of : Cells → ChainCells = λ v. v.chain in
     split_before_place h c.requires.spare (c.number-front.ensures.number ∙ c.spare.ensures.cell) (omega (arith, c.requires.within, c.size-size.ensures.cell)) c.offset-offset.ensures.cell
     c.size-size.ensures.cell c.before-link.ensures.cell c.link_to-on.ensures c.link_to-back.ensures
-    (ap room c.set_block.ensures.cells) (ap room c.set_start.ensures.cells) c.point_on.ensures.cells
+    (ap chain_of c.set_block.ensures.cells) (ap chain_of c.set_start.ensures.cells) c.point_on.ensures.cells
 
 pub returns-clause-fresh : goal.returns-clause-fresh
 returns-clause-fresh g c m p h = (top _ h.chain c.requires.spare (c.number-front.ensures.number ∙ c.spare.ensures.cell)).absent

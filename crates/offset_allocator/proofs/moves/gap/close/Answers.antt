@@ -24,8 +24,8 @@ point_back-requires g c =
 
 pub returns-clause-place : goal.returns-clause-place
 returns-clause-place g c m p i l =
-    let room : Cells → ChainCells = λ v. v.chain in
-    closed (g.T.Tables.cells c.point_on.new.tables).chain p.before p.block p.after i.there (rw (i.offset, i.size, i.link, l) at (ap room c.set_block.ensures.cells))
+    let chain_of : Cells → ChainCells = λ v. v.chain in
+    closed (g.T.Tables.cells c.point_on.new.tables).chain p.before p.block p.after i.there (rw (i.offset, i.size, i.link, l) at (ap chain_of c.set_block.ensures.cells))
     (rw i.link at c.point_on.ensures.cells)
     (rw l at c.point_back.ensures.cells) (rw l at c.point_back.ensures.last)
 

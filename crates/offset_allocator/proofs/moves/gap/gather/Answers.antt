@@ -16,11 +16,11 @@ overflow_add-gap g c =
 
 pub returns-clause-gap : goal.returns-clause-gap
 returns-clause-gap g c m p b bs i e named idle =
-    let room : Cells → ChainCells = λ v. v.chain in
+    let chain_of : Cells → ChainCells = λ v. v.chain in
     let h = follows i.there e in
     let size = c.requires.more ∙ ap (λ n. (node (g.T.Tables.cells c.args.store.now.tables).chain n).size) (sym named) ∙ next_node p.before p.block b bs h in
     record {
-      there = taken_in p.before p.block b bs h idle (rw (c.link_to.ensures.number, ← named) at (ap room c.set_spare.ensures.cells));
+      there = taken_in p.before p.block b bs h idle (rw (c.link_to.ensures.number, ← named) at (ap chain_of c.set_spare.ensures.cells));
       offset = i.offset;
       size = omega (arith, i.size, size);
       link = i.link;
@@ -28,7 +28,7 @@ returns-clause-gap g c m p b bs i e named idle =
 
 pub returns-clause-unused : goal.returns-clause-unused
 returns-clause-unused g c =
-    let room : Cells → ChainCells = λ v. v.chain in
+    let chain_of : Cells → ChainCells = λ v. v.chain in
     let h = c.requires.place.4.there in
     put_back _ _ _ _ _ (omega (arith, h.full, h.stack, length-append c.requires.place.1.before (c.requires.place.1.block ∷ c.requires.place.1.after), ap length c.requires.place.5)) refl
-    (rw c.link_to.ensures.number at (ap room c.set_spare.ensures.cells))
+    (rw c.link_to.ensures.number at (ap chain_of c.set_spare.ensures.cells))

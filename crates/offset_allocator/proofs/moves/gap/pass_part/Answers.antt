@@ -35,11 +35,11 @@ overflow_add-gap-2 g c =
 
 pub returns-clause-gap : goal.returns-clause-gap
 returns-clause-gap g c m p b bs i e named =
-    let room : Cells → ChainCells = λ v. v.chain in
+    let chain_of : Cells → ChainCells = λ v. v.chain in
     let h = follows i.there e in
     let size = c.requires.more ∙ ap (λ n. (node (g.T.Tables.cells c.args.store.now.tables).chain n).size) (sym named) ∙ next_node p.before p.block b bs h in
     record {
-      there = passed_by p.before p.block b bs h c.args.keep (omega (arith, size, c.requires.within)) (rw (← named, i.offset, i.link) at (ap room c.set_start.ensures.cells)) (rw (i.link, ← named) at c.point_on.ensures.cells);
+      there = passed_by p.before p.block b bs h c.args.keep (omega (arith, size, c.requires.within)) (rw (← named, i.offset, i.link) at (ap chain_of c.set_start.ensures.cells)) (rw (i.link, ← named) at c.point_on.ensures.cells);
       offset = omega (arith, i.offset, units-append p.before (record b { size = c.args.keep } ∷ []));
       size = omega (arith, i.size, size);
       link = c.link_to-gap.ensures ∙ ap (λ n. Some n) (sym named) ∙ sym (last_or-append None p.before (record b { size = c.args.keep } ∷ []));
