@@ -20,6 +20,9 @@ static int checks;
     if (!(condition)) { std::fprintf(stderr, "%s:%d: %s\n", __FILE__, __LINE__, #condition); std::exit(1); } \
 } while (0)
 
+#define ASK(name, in_cpp) space.in_cpp()
+#include "questions.h"
+
 static const uint32 MIB = 1 << 20, WHOLE = 256 * MIB;
 
 // The cases of the original's tests, by the names that these have there.
@@ -370,6 +373,37 @@ static void loops() {
     CHECK(SmallFloat::uintToFloatRoundUp(118) == 39 && SmallFloat::uintToFloatRoundDown(118) == 38 && SmallFloat::floatToUint(39) == 120);
 }
 
+// The table of questions.h, which says what the states are.
+static void questions() {
+    Allocator space(100, 7);
+    QUESTIONS(FRESH)
+    Allocation first = space.allocate(10);
+    space.allocate(20);
+    CHECK(space.free(first));
+    QUESTIONS(USED)
+    for (int i = 0; i < 3; i++) space.allocate(1);
+    QUESTIONS(FULL)
+    Allocator moved(std::move(space));
+    QUESTIONS(NONE)
+}
+
+static void questionsOfTickets() {
+    GuardedAllocator space(100, 7, 5);
+    QUESTIONS(FRESH)
+    QUESTIONS_OF_TICKETS(FRESH)
+    Ticket first = space.allocate(10);
+    space.allocate(20);
+    CHECK(space.free(first));
+    QUESTIONS(USED)
+    QUESTIONS_OF_TICKETS(USED)
+    for (int i = 0; i < 3; i++) space.allocate(1);
+    QUESTIONS(FULL)
+    QUESTIONS_OF_TICKETS(FULL)
+    GuardedAllocator moved(std::move(space));
+    QUESTIONS(NONE)
+    QUESTIONS_OF_TICKETS(NONE)
+}
+
 // Tickets: what a stale handle does by the original's class, and what a stale ticket does.
 static void tickets() {
     Allocator a(100, 16);
@@ -556,6 +590,8 @@ int main() {
     places();
     beside();
     loops();
+    questions();
+    questionsOfTickets();
     tickets();
     std::printf("C++: %d checks pass\n", checks);
 }
