@@ -15,9 +15,9 @@ use Rattle.offset_heaps.specs.declared.refusal.Refusal.TheVariants.{Memory}
 use Rattle.offset_heaps.specs.Changing.{CanResizeAt, CanResizeIn, ResizesAt, Wanted, Less, More, Alters, CompactsAll, CompactsIn, PacksIn, MakesRoomIn, Resizes, ResizesSpace}
 use Rattle.offset_heaps.specs.Extending.{CanExtendIn, ExtendsIf}
 use Rattle.offset_heaps.specs.Heaps.{Heaps, Grants, IsFirstFit, IsGrown, IsNext, IsWhy, NoneFits, Puts, heap_at, is_empty, empties, live_of, numbers, part, slot, AreTotals, free_of, largest_room}
-use Rattle.offset_heaps.specs.{Heaps.room_of, Heaps.size_of, Heaps.total, Histories.ResetsAll, State.quiet, Twins.AreTwins, Twins.IsTwin, Twins.IsTwinIn}
+use Rattle.offset_heaps.specs.{Heaps.room_of, Heaps.units_of_heap, Heaps.total, Histories.ResetsAll, State.quiet, Twins.AreTwins, Twins.IsTwin, Twins.IsTwinIn}
 use Rattle.offset_heaps.specs.declared.totals.Totals.{Totals}
-use Rattle.offset_heaps.specs.Relocating.{HasLive, IsEmptiest, NoneLive, TakesRange, granted, live_at, units_in, units_of}
+use Rattle.offset_heaps.specs.Relocating.{HasLive, IsEmptiest, NoneLive, TakesRange, granted, live_at, units_in, size_of}
 use Rattle.offset_heaps.specs.State as state
 use Rattle.offset_heaps.proofs.{States.slot_quiet, Empties.empty_there, Grants.memory_alone, Grants.none_found, Grants.one_reason, Numbers.slot_there}
 use Rattle.offset_heaps.specs.Calls.{Allocates, TakesAll, Call, Allocate, Allocate_tight, Free, Relocate, Drop_empty, Drop_heap, Give_up, Reset, Resize, Extend_heap, Compact_heap, Compact_all, Make_room, Drops, DropsEmpty, Frees, GivesUp, IsStarved, Lengthens, Relocates, Reply, Requested, Second, Dropped, Was_done, Resized, Extended, Room_made, Takes, TakesRoom, TakesSize, Packs, Notes}
@@ -211,18 +211,18 @@ room_decided k size hs hs' ks ks' is t r r' x y = go (heap_at k hs) refl
 
 -- ---- second ranges
 module _ (p : Place) (hs ks : Heaps) (t : AreTwins hs ks) where
-  units_twins : units_of p ks ≡ units_of p hs
-  units_twins = ap units_in (range_twins hs ks t p)
+  size_twins : size_of p ks ≡ size_of p hs
+  size_twins = ap units_in (range_twins hs ks t p)
 
   live_twins : (k : ℕ) → live_at k ks ≡ live_at k hs
   live_twins k = option_twin (part live_of) (heap_at k hs) (heap_at k ks) (λ g h u. ap live_of (as_twin g h u)) (t.heaps k)
 
   takes_twins : (align k : ℕ) → TakesRange p align hs k → TakesRange p align ks k
   takes_twins align k takes = (
-    subst (λ n. 1 ≤ n) (sym units_twins) takes.0,
+    subst (λ n. 1 ≤ n) (sym size_twins) takes.0,
     record {
       other = takes.1.other;
-      room = let room = takes.1.room in omega (arith, room, units_twins, room_twins hs ks t (blocks_needed align) k);
+      room = let room = takes.1.room in omega (arith, room, size_twins, room_twins hs ks t (blocks_needed align) k);
       stays = λ must. takes.1.stays (must_in_twins ks hs (twins_sym hs ks t) k must);
       full = let full = takes.1.full in omega (arith, full, live_twins p.heap, live_twins k);
     },
@@ -235,8 +235,8 @@ relocates_decided p align hs hs' ks ks' is t (Some q) None x y = absurd (y.none.
 relocates_decided p align hs hs' ks ks' is t (Some q) (Some q') x y =
     let s = twins_sym hs hs' t in
     let number = one_first (TakesRange p align hs) q.heap q'.heap x.first.0 x.first.1 (takes_twins p hs' hs s align q'.heap y.first.0) (λ i l u. y.first.1 i l (takes_twins p hs hs' t align i u)) in
-    let all = grants_decided (units_of p hs) align hs hs' ks ks' (granted q) (granted q') (λ e. absurd (cc)) (known hs is) t number refl x.grants
-    (subst (λ n. Grants n align hs' ks' (granted q')) (units_twins p hs hs' t) y.grants) in
+    let all = grants_decided (size_of p hs) align hs hs' ks ks' (granted q) (granted q') (λ e. absurd (cc)) (known hs is) t number refl x.grants
+    (subst (λ n. Grants n align hs' ks' (granted q')) (size_twins p hs hs' t) y.grants) in
     (ap Some (ap (λ (g : Granted). g.place) all.0), all.1)
 
 -- ---- heaps that are dropped
@@ -340,7 +340,7 @@ totals_decided hs hs' t r r' x y =
     let same : (f : Guard → ℕ) → ((g h : Guard) → IsTwin g h → f h ≡ f g) → total f hs.slots ≡ total f hs'.slots = λ f each.
     sym (total_twins f hs'.slots hs.slots (λ k. option_twin (part f) (heap_at k hs) (heap_at k hs') each (t.heaps k))) in
     let heaps : r.heaps ≡ r'.heaps = x.heaps ∙ same (λ g. 1) (λ g h u. refl) ∙ sym y.heaps in
-    let units : r.units ≡ r'.units = x.units ∙ same size_of (λ g h u. ap size_of (as_twin g h u)) ∙ sym y.units in
+    let units : r.units ≡ r'.units = x.units ∙ same units_of_heap (λ g h u. ap units_of_heap (as_twin g h u)) ∙ sym y.units in
     let live : r.live_units ≡ r'.live_units = x.live_units ∙ same live_of (λ g h u. ap live_of (as_twin g h u)) ∙ sym y.live_units in
     let free : r.free_units ≡ r'.free_units = x.free_units ∙ same free_of (λ g h u. ap free_of (as_twin g h u)) ∙ sym y.free_units in
     let largest : r.largest_free_region ≡ r'.largest_free_region = x.largest ∙ sym (largest_twins hs'.slots hs.slots (room_twins hs hs' t 1)) ∙ sym y.largest in

@@ -12,7 +12,7 @@ use Rattle.offset_heaps.specs.declared.refusal.Refusal.{Refusal}
 use Rattle.offset_heaps.specs.declared.refusal.Refusal.TheVariants.{Empty, Memory}
 use Rattle.offset_heaps.specs.Heaps.{Heaps, FreesIn, Grants, IsFirstFit, IsLive, IsNext, IsSame, IsWhy, NoneFits, Puts, empties, heap_at, is_empty}
 use Rattle.offset_heaps.specs.Histories.{ResetsAll}
-use Rattle.offset_heaps.specs.Relocating.{IsTaker, NoneTakes, granted, units_of}
+use Rattle.offset_heaps.specs.Relocating.{IsTaker, NoneTakes, granted, size_of}
 use Rattle.offset_heaps.specs.State.{IsWellFormed}
 use Rattle.offset_heaps.specs.Tight.{GrantsTight, IsFirstHolding, IsWhyTight, NoneHolds}
 use Rattle.offset_heaps.specs.Twins.{AreTwins}
@@ -48,7 +48,7 @@ pub record Relocates (p : Place) (align : ℕ) (hs ks : Heaps) (r : Option Place
   pub none : r ≡ None ↔ NoneTakes p align hs
   pub same : r ≡ None → IsSame hs ks
   pub first : IfSome r (λ q. IsTaker p align hs q.heap)
-  pub grants : IfSome r (λ q. Grants (units_of p hs) align hs ks (granted q))
+  pub grants : IfSome r (λ q. Grants (size_of p hs) align hs ks (granted q))
 
 -- a range goes to another heap: a second range is granted there, and the first one is freed
 pub record Goes (p q : Place) (hs ks : Heaps) : Type 0 where

@@ -269,8 +269,8 @@ largest_room [] = 0
 largest_room (o ∷ slots) = max (room_of 1 o) (largest_room slots)
 
 -- the units of a heap, and those that are live and free
-abbrev pub size_of : Guard → ℕ
-size_of g = g.space.size
+abbrev pub units_of_heap : Guard → ℕ
+units_of_heap g = g.space.size
 
 abbrev pub live_of : Guard → ℕ
 live_of g = used_units g.space.blocks
@@ -299,7 +299,7 @@ empties slots = total (λ g. if nat_eq (used_of g.space.blocks) 0 then 1 else 0)
 -- the numbers of all heaps
 pub record AreTotals (t : Totals) (slots : List (Option Guard)) : Type 0 where
   pub heaps : t.heaps ≡ heap_count slots
-  pub units : t.units ≡ total size_of slots
+  pub units : t.units ≡ total units_of_heap slots
   pub live_units : t.live_units ≡ total live_of slots
   pub free_units : t.free_units ≡ total free_of slots
   pub largest : t.largest_free_region ≡ largest_room slots

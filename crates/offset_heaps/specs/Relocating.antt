@@ -16,8 +16,8 @@ abbrev pub units_in : Option Range → ℕ
 units_in r = unwrap_or (option_map (λ (r : Range). r.size) r) 0
 
 -- the units of the range of a place, or 0 where it is not live
-abbrev pub units_of : Place → Heaps → ℕ
-units_of p hs = units_in (range_of p hs)
+abbrev pub size_of : Place → Heaps → ℕ
+size_of p hs = units_in (range_of p hs)
 
 -- the live units of the heap of a number
 abbrev pub live_at : ℕ → Heaps → ℕ
@@ -41,8 +41,8 @@ pub record TakesUnits (limits : Limits) (own blocks units live : ℕ) (slots : L
 
 -- a heap takes the range of a place, from a multiple of align on
 abbrev pub TakesRange : Place → ℕ → Heaps → ℕ → Type 0
-TakesRange p align hs k = (1 ≤ units_of p hs)
-    × TakesUnits hs.limits p.heap (blocks_needed align) (units_needed (units_of p hs) align) (live_at p.heap hs) hs.slots k
+TakesRange p align hs k = (1 ≤ size_of p hs)
+    × TakesUnits hs.limits p.heap (blocks_needed align) (units_needed (size_of p hs) align) (live_at p.heap hs) hs.slots k
 
 -- it is the first one that does
 abbrev pub IsTaker : Place → ℕ → Heaps → ℕ → Type 0

@@ -3,7 +3,7 @@ ghost use Rattle.std.specs.Prelude.{◌≡◌, ◌↔◌, ◌+◌, ◌<◌, ◌�
 ghost use Rattle.std.specs.Prelude.{false, option_map, true};
 ghost use Rattle.offset_heaps.specs.Changing.{AltersIn};
 ghost use Rattle.offset_heaps.specs.Extending.{CanExtendIn, ExtendsHeap, ExtendsIf};
-ghost use Rattle.offset_heaps.specs.Heaps.{IsOfKind, MustGrowIn, size_of};
+ghost use Rattle.offset_heaps.specs.Heaps.{IsOfKind, MustGrowIn, units_of_heap};
 ghost use Rattle.offset_heaps.specs.Twins.{AreTwins};
 
 use crate::HeapsOf;
@@ -83,8 +83,8 @@ impl<T: Tables> HeapsOf<T> {
     pub fn extend_heap(&mut self, number: u32, more: u32) -> Result<bool, AllocError>
         // It is done exactly where the number has a heap that can have so many units more.
         ensures done { IfOk result (λ done. IsTrue done ↔ CanExtendIn more (heap_at number self.old)) }
-        ensures size { result ≡ Ok true → option_map size_of (heap_at number self.new)
-            ≡ option_map (λ g. size_of g + more) (heap_at number self.old) }
+        ensures size { result ≡ Ok true → option_map units_of_heap (heap_at number self.new)
+            ≡ option_map (λ g. units_of_heap g + more) (heap_at number self.old) }
         // Every place keeps its range.
         ensures kept { KeepsAll self.old self.new }
         // Where it is not done, no answer tells the heaps from those before.
