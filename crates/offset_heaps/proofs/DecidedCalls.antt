@@ -12,7 +12,7 @@ use Rattle.offset_heaps.specs.declared.place.Granted.{Granted}
 use Rattle.offset_heaps.specs.declared.place.Place.{Place}
 use Rattle.offset_heaps.specs.declared.refusal.Refusal.{Refusal}
 use Rattle.offset_heaps.specs.declared.refusal.Refusal.TheVariants.{Memory}
-use Rattle.offset_heaps.specs.Changing.{CanResizeAt, CanResizeIn, ResizesAt, Wanted, Less, More, Alters, CompactsAll, CompactsIn, PacksIn, MakesRoomIn, Resizes, ResizesSpace}
+use Rattle.offset_heaps.specs.Changing.{CanResizeAt, CanResizeIn, ResizesAt, Wanted, Less, More, Alters, CompactsAll, CompactsIn, CompactsSlot, MakesRoomIn, Resizes, ResizesSpace}
 use Rattle.offset_heaps.specs.Extending.{CanExtendIn, ExtendsIf}
 use Rattle.offset_heaps.specs.Heaps.{Heaps, Grants, IsFirstFit, IsGrown, IsNext, IsWhy, NoneFits, Puts, heap_at, is_empty, empties, live_of, numbers, part, slot, AreTotals, free_of, largest_room}
 use Rattle.offset_heaps.specs.{Heaps.room_of, Heaps.units_of_heap, Heaps.total, Histories.ResetsAll, State.quiet, Twins.AreTwins, Twins.IsTwin, Twins.IsTwinIn}
@@ -20,7 +20,7 @@ use Rattle.offset_heaps.specs.declared.totals.Totals.{Totals}
 use Rattle.offset_heaps.specs.Relocating.{HasLive, IsEmptiest, NoneLive, TakesRange, granted, live_at, units_in, size_of}
 use Rattle.offset_heaps.specs.State as state
 use Rattle.offset_heaps.proofs.{States.slot_quiet, Empties.empty_there, Grants.memory_alone, Grants.none_found, Grants.one_reason, Numbers.slot_there}
-use Rattle.offset_heaps.specs.Calls.{Allocates, TakesAll, Call, Allocate, Allocate_tight, Free, Relocate, Drop_empty, Drop_heap, Give_up, Reset, Resize, Extend_heap, Compact_heap, Compact_all, Make_room, Drops, DropsEmpty, Frees, GivesUp, IsStarved, Lengthens, Relocates, Reply, Requested, Second, Dropped, Was_done, Resized, Extended, Room_made, Takes, TakesRoom, TakesSize, Packs, Notes}
+use Rattle.offset_heaps.specs.Calls.{Allocates, TakesAll, Call, Allocate, Allocate_tight, Free, Relocate, Drop_empty, Drop_heap, Give_up, Reset, Resize, Extend_heap, Compact_heap, Compact_all, Make_room, Drops, DropsEmpty, Frees, GivesUp, IsStarved, Lengthens, Relocates, Reply, Requested, Second, Dropped, Was_done, Resized, Extended, Room_made, Takes, TakesRoom, TakesSize, CompactsOne, Notes}
 use Rattle.offset_heaps.proofs.Decided.{first_twins, grants_decided, grown_twin, known, known_at, must_in_twins, next_twins, none_fit_twins, one_first, one_fit, one_next, puts_twins, same_twins, why_twins}
 use Rattle.offset_heaps.proofs.DecidedTight.{tights_decided}
 use Rattle.offset_heaps.proofs.Growing.{grown_formed}
@@ -162,23 +162,23 @@ lengthens_decided k more hs hs' ks ks' is t (Ok true) (Ok true) x y m n =
     let one = extends_decided more a.by.between.space b.by.between.space a.after.space b.after.space (grown_formed hs.limits k a.before a.by.between a.by.grown well) between.space true true a.by.step b.by.step in
     (refl, alters_twins k P Q hs hs' ks ks' t a b (kept_twins a.before b.before a.after b.after before a.by.serials b.by.serials (λ u. ap is_some (a.by.kept u)) one.1))
 
-pub packs_decided : (k : ℕ) (hs hs' ks ks' : Heaps) → AreTwins hs hs' → (r r' : Bool) → Packs k hs ks r → Packs k hs' ks' r' → (r ≡ r') × AreTwins ks ks'
-packs_decided k hs hs' ks ks' t false false x y = (refl, same_twins hs hs' ks ks' t (x.same refl) (y.same refl))
-packs_decided k hs hs' ks ks' t true false x y = absurd (let e : false ≡ true = y.done.1 (some_twins hs hs' t k ∙ x.done.0 refl) in cc)
-packs_decided k hs hs' ks ks' t false true x y = absurd (let e : false ≡ true = x.done.1 (sym (some_twins hs hs' t k) ∙ y.done.0 refl) in cc)
-packs_decided k hs hs' ks ks' t true true x y =
+pub compacts_one_decided : (k : ℕ) (hs hs' ks ks' : Heaps) → AreTwins hs hs' → (r r' : Bool) → CompactsOne k hs ks r → CompactsOne k hs' ks' r' → (r ≡ r') × AreTwins ks ks'
+compacts_one_decided k hs hs' ks ks' t false false x y = (refl, same_twins hs hs' ks ks' t (x.same refl) (y.same refl))
+compacts_one_decided k hs hs' ks ks' t true false x y = absurd (let e : false ≡ true = y.done.1 (some_twins hs hs' t k ∙ x.done.0 refl) in cc)
+compacts_one_decided k hs hs' ks ks' t false true x y = absurd (let e : false ≡ true = x.done.1 (sym (some_twins hs hs' t k) ∙ y.done.0 refl) in cc)
+compacts_one_decided k hs hs' ks ks' t true true x y =
     let a = x.step refl in
     let b = y.step refl in
     let before = before_twins k CompactsIn CompactsIn hs hs' ks ks' t a b in
     let after = compacts_decided a.before.space b.before.space a.after.space b.after.space before.space a.by.step b.by.step in
     (refl, alters_twins k CompactsIn CompactsIn hs hs' ks ks' t a b (slid_twins a.before b.before a.after b.after before a.by.serials b.by.serials a.by.sizes after))
 
-packed_twins : (o o' p p' : Option Guard) → IsTwinIn o o' → PacksIn o p → PacksIn o' p' → IsTwinIn p p'
-packed_twins None o' p p' twin f f' =
-    let none : p' ≡ None = subst (λ o. PacksIn o p') twin f' in
+compacted_twins : (o o' p p' : Option Guard) → IsTwinIn o o' → CompactsSlot o p → CompactsSlot o' p' → IsTwinIn p p'
+compacted_twins None o' p p' twin f f' =
+    let none : p' ≡ None = subst (λ o. CompactsSlot o p') twin f' in
     subst (λ p. IsTwinIn p p') (sym f) none
-packed_twins (Some g) o' p p' twin f f' =
-    let k : PacksIn (Some twin.0) p' = subst (λ o. PacksIn o p') twin.1 f' in
+compacted_twins (Some g) o' p p' twin f f' =
+    let k : CompactsSlot (Some twin.0) p' = subst (λ o. CompactsSlot o p') twin.1 f' in
     let after = compacts_decided g.space twin.0.space f.0.space k.0.space twin.2.space f.2.step k.2.step in
     twin_some f.0 k.0 p p' f.1 k.1 (slid_twins g twin.0 f.0 k.0 twin.2 f.2.serials k.2.serials f.2.sizes after)
 
@@ -187,7 +187,7 @@ compacts_all_decided hs hs' ks ks' t x y = record {
   limits = ap (λ (h : Heaps). h.limits) y.rest ∙ t.limits ∙ sym (ap (λ (h : Heaps). h.limits) x.rest);
   made = ap (λ (h : Heaps). h.made) y.rest ∙ t.made ∙ sym (ap (λ (h : Heaps). h.made) x.rest);
   realm = ap (λ (h : Heaps). h.realm) y.rest ∙ t.realm ∙ sym (ap (λ (h : Heaps). h.realm) x.rest);
-  heaps = λ k. packed_twins (heap_at k hs) (heap_at k hs') (heap_at k ks) (heap_at k ks') (t.heaps k) (x.heaps k) (y.heaps k);
+  heaps = λ k. compacted_twins (heap_at k hs) (heap_at k hs') (heap_at k ks) (heap_at k ks') (t.heaps k) (x.heaps k) (y.heaps k);
 }
 
 pub room_decided : (k size : ℕ) (hs hs' ks ks' : Heaps) → state.IsWellFormed hs → AreTwins hs hs' → (r r' : Option RoomCost) → TakesRoom k size hs ks r → TakesRoom k size hs' ks' r' → (r ≡ r') × AreTwins ks ks'
@@ -367,7 +367,7 @@ takes_decided (Resize how p) hs hs' ks ks' is t r r' x y m n = let e = size_deci
 takes_decided (Extend_heap k more) hs hs' ks ks' is t r r' x y m n =
     let e = lengthens_decided k more hs hs' ks ks' is t x.0 y.0 x.2 y.2 (λ e q. m (inr (e, x.1 ∙ ap Extended q))) (λ e q. n (inr (e, y.1 ∙ ap Extended q))) in
     (x.1 ∙ ap Extended e.0 ∙ sym y.1, e.1)
-takes_decided (Compact_heap k) hs hs' ks ks' is t r r' x y m n = let e = packs_decided k hs hs' ks ks' t x.0 y.0 x.2 y.2 in (x.1 ∙ ap Was_done e.0 ∙ sym y.1, e.1)
+takes_decided (Compact_heap k) hs hs' ks ks' is t r r' x y m n = let e = compacts_one_decided k hs hs' ks ks' t x.0 y.0 x.2 y.2 in (x.1 ∙ ap Was_done e.0 ∙ sym y.1, e.1)
 takes_decided Compact_all hs hs' ks ks' is t r r' x y m n = (x.0 ∙ sym y.0, compacts_all_decided hs hs' ks ks' t x.1 y.1)
 takes_decided (Make_room k size) hs hs' ks ks' is t r r' x y m n = let e = room_decided k size hs hs' ks ks' is t x.0 y.0 x.2 y.2 in (x.1 ∙ ap Room_made e.0 ∙ sym y.1, e.1)
 

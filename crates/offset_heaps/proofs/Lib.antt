@@ -1,5 +1,6 @@
 pub mod Along
 pub mod Changes
+pub mod Compacted
 pub mod Counting
 pub mod Decided
 pub mod DecidedCalls
@@ -19,7 +20,6 @@ pub mod Holders
 pub mod Longer
 pub mod Numbers
 pub mod OneHeap
-pub mod Packing
 pub mod Places
 pub mod Refusals
 pub mod Rooms

@@ -98,7 +98,7 @@ pub record Lengthens (k more : ℕ) (hs ks : Heaps) (r : Result Bool AllocError)
   pub step : IfOk r (λ d. IsSome (heap_at k hs) → ExtendsHeap k more d hs ks)
 
 -- `compact_heap`
-pub record Packs (k : ℕ) (hs ks : Heaps) (r : Bool) : Type 0 where
+pub record CompactsOne (k : ℕ) (hs ks : Heaps) (r : Bool) : Type 0 where
   pub done : IsTrue r ↔ IsSome (heap_at k hs)
   pub same : r ≡ false → IsSame hs ks
   pub step : r ≡ true → CompactsHeap k hs ks
@@ -154,7 +154,7 @@ Takes (Give_up k) hs ks reply = (r : Bool) × (reply ≡ Was_done r) × GivesUp 
 Takes Reset hs ks reply = (reply ≡ Nothing) × ResetsAll hs ks
 Takes (Resize how p) hs ks reply = (r : Option Bool) × (reply ≡ Resized r) × TakesSize how p hs ks r
 Takes (Extend_heap k more) hs ks reply = (r : Result Bool AllocError) × (reply ≡ Extended r) × Lengthens k more hs ks r
-Takes (Compact_heap k) hs ks reply = (r : Bool) × (reply ≡ Was_done r) × Packs k hs ks r
+Takes (Compact_heap k) hs ks reply = (r : Bool) × (reply ≡ Was_done r) × CompactsOne k hs ks r
 Takes Compact_all hs ks reply = (reply ≡ Nothing) × CompactsAll hs ks
 Takes (Make_room k size) hs ks reply = (r : Option RoomCost) × (reply ≡ Room_made r) × TakesRoom k size hs ks r
 

@@ -144,13 +144,13 @@ abbrev pub IsCalledAt : {A N F : Type 0} → (N → ℕ) → (F → ℕ → Move
 IsCalledAt number step f x g = IsCalledWith number (λ p m q. step p x.0 m q) f x.1 g
 
 -- a heap is compacted, where there is one
-abbrev pub PacksIn : Option Guard → Option Guard → Type 0
-PacksIn None new = new ≡ None
-PacksIn (Some g) new = (h : Guard) × (new ≡ Some h) × CompactsIn g h
+abbrev pub CompactsSlot : Option Guard → Option Guard → Type 0
+CompactsSlot None new = new ≡ None
+CompactsSlot (Some g) new = (h : Guard) × (new ≡ Some h) × CompactsIn g h
 
 -- all heaps are compacted, and nothing else changes
 pub record CompactsAll (hs ks : Heaps) : Type 0 where
-  pub heaps : (k : ℕ) → PacksIn (heap_at k hs) (heap_at k ks)
+  pub heaps : (k : ℕ) → CompactsSlot (heap_at k hs) (heap_at k ks)
   pub rest : ks ≡ record hs { slots = ks.slots; accesses = ks.accesses }
 
 -- room for a request is made in a heap, at a cost: a closure is called with the moves

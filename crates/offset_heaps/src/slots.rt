@@ -9,7 +9,7 @@ ghost use Rattle.offset_allocator.specs.Tight.{CanHold};
 ghost use Rattle.offset_guarded.specs.Guard.{Guard, HasSerialLeft, IsLive};
 ghost use Rattle.offset_allocator.specs.Moving.Compacting.{IsCalledWith};
 ghost use Rattle.offset_heaps.specs.Changing.{AltersIn, CanResize, CanResizeIn, CompactsIn, IsNear, MakesRoomIn, Resizes};
-ghost use Rattle.offset_heaps.specs.Changing.{IsCalledAt, PacksIn, moves_in, numbered, wanted};
+ghost use Rattle.offset_heaps.specs.Changing.{IsCalledAt, CompactsSlot, moves_in, numbered, wanted};
 ghost use Rattle.offset_heaps.specs.Extending.{CanExtendIn, ExtendsIf};
 ghost use Rattle.offset_heaps.specs.Heaps.{IsGrown, IsOfKind, MustGrow, MustGrowIn, is_empty, live_of, part};
 ghost use Rattle.offset_heaps.specs.Heaps.{range_in, room, room_of, slot};
@@ -246,14 +246,14 @@ fn compact_in<T: Tables, F: FnMut(Move<T::Index>)>(slot: &mut Option<GuardedOf<T
 
 // Slides every live range of a heap to the front of its space, where there is one, and calls the closure with its
 // number too.
-fn pack_in<T: Tables, F: FnMut(u32, Move<T::Index>)>(
+fn compact_numbered_in<T: Tables, F: FnMut(u32, Move<T::Index>)>(
     slot: &mut Option<GuardedOf<T>>,
     number: u32,
     moved: &mut F,
 )
     requires callable { F.IsAlwaysCallable moved.old }
     ensures callable { F.IsAlwaysCallable moved.new }
-    ensures change { PacksIn slot.old slot.new }
+    ensures change { CompactsSlot slot.old slot.new }
     ensures moved { FoldsTo (IsCalledAt T.Index.NonMax.number (λ f k range g. F.step f k range tt g)) moved.old
         (numbered number (moves_in slot.old)) moved.new }
 {
@@ -551,7 +551,7 @@ impl<T: Tables> Slots<T> {
 
     /// Slides every live range of the heap of a number to the front of its space, where it has one, and calls the
     /// closure with the number too.
-    pub(crate) fn pack<F: FnMut(u32, Move<T::Index>)>(
+    pub(crate) fn compact_numbered<F: FnMut(u32, Move<T::Index>)>(
         &mut self,
         number: u32,
         moved: &mut F,
@@ -560,13 +560,13 @@ impl<T: Tables> Slots<T> {
         requires there { number < length self.old }
         requires callable { F.IsAlwaysCallable moved.old }
         ensures callable { F.IsAlwaysCallable moved.new }
-        ensures change { Changes number PacksIn self.old self.new }
+        ensures change { Changes number CompactsSlot self.old self.new }
         ensures moved { FoldsTo (IsCalledAt T.Index.NonMax.number (λ f k range g. F.step f k range tt g)) moved.old
             (numbered number (moves_in (slot number self.old))) moved.new }
         ensures accesses { count.new ≡ count.old + 1 }
     {
         count.tick();
-        pack_in(&mut self.heaps[number as usize], number, moved);
+        compact_numbered_in(&mut self.heaps[number as usize], number, moved);
     }
 
     /// Makes room for a request in the heap of a number.

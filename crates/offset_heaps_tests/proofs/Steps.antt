@@ -43,9 +43,9 @@ module _ (hs ks : Heaps) where
   resizes how p (Some d) same step =
       inr (inr (inr (inr (inr (inl (p.heap, record { before = step.before; after = step.after; heap = step.heap; by = step.by.serials.realm; heaps = step.heaps }))))))
 
-  pub packs : (k : ℕ) (b : Bool) → (b ≡ false → IsSame hs ks) → (b ≡ true → CompactsHeap k hs ks) → IsStep hs ks
-  packs k false same step = inl (same refl)
-  packs k true same step =
+  pub compacts : (k : ℕ) (b : Bool) → (b ≡ false → IsSame hs ks) → (b ≡ true → CompactsHeap k hs ks) → IsStep hs ks
+  compacts k false same step = inl (same refl)
+  compacts k true same step =
       let s = step refl in
       inr (inr (inr (inr (inr (inl (k, record { before = s.before; after = s.after; heap = s.heap; by = ap (λ (g : Guard). g.realm) s.by.serials; heaps = s.heaps }))))))
 

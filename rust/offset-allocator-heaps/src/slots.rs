@@ -160,7 +160,7 @@ fn compact_in<T: Tables, F: FnMut(Move<T::Index>)>(slot: &mut Option<GuardedOf<T
 
 // Slides every live range of a heap to the front of its space, where there is one, and calls the closure with its
 // number too.
-fn pack_in<T: Tables, F: FnMut(u32, Move<T::Index>)>(
+fn compact_numbered_in<T: Tables, F: FnMut(u32, Move<T::Index>)>(
     slot: &mut Option<GuardedOf<T>>,
     number: u32,
     moved: &mut F,
@@ -363,14 +363,14 @@ impl<T: Tables> Slots<T> {
 
     /// Slides every live range of the heap of a number to the front of its space, where it has one, and calls the
     /// closure with the number too.
-    pub(crate) fn pack<F: FnMut(u32, Move<T::Index>)>(
+    pub(crate) fn compact_numbered<F: FnMut(u32, Move<T::Index>)>(
         &mut self,
         number: u32,
         moved: &mut F,
         count: &mut Accesses,
     ) {
         count.tick();
-        pack_in(&mut self.heaps[number as usize], number, moved);
+        compact_numbered_in(&mut self.heaps[number as usize], number, moved);
     }
 
     /// Makes room for a request in the heap of a number.
