@@ -8,7 +8,7 @@ use Rattle.offset_guarded.specs.declared.ticket.Ticket.{Ticket}
 use Rattle.offset_heaps.specs.declared.limits.Limits.{Limits}
 use Rattle.offset_heaps.specs.Changing.{CompactsAll, KeepsSizes, CompactsSlot, moves_from, moves_in, numbered}
 use Rattle.offset_heaps.specs.Heaps.{Heaps, IsOfKind, heap_at, range_in, slot}
-use Rattle.offset_heaps.proofs.{Changes.compacted_blocks, Growing.still_left, Sound.kind_kept}
+use Rattle.offset_heaps.proofs.{Changes.compacted_blocks, Raising.still_left, Sound.kind_kept}
 
 -- what is compacted has its realm
 pub realm_compacted : (made : ℕ) (old new : Option Guard) → CompactsSlot old new → IfSome old (λ g. g.realm ≤ made) → IfSome new (λ g. g.realm ≤ made)

@@ -14,16 +14,16 @@ use Rattle.offset_heaps.specs.declared.refusal.Refusal.{Refusal}
 use Rattle.offset_heaps.specs.declared.refusal.Refusal.TheVariants.{Memory}
 use Rattle.offset_heaps.specs.Changing.{CanResizeAt, CanResizeIn, ResizesAt, Wanted, Less, More, Alters, CompactsAll, CompactsIn, CompactsSlot, MakesRoomIn, Resizes, ResizesSpace}
 use Rattle.offset_heaps.specs.Extending.{CanExtendIn, ExtendsIf}
-use Rattle.offset_heaps.specs.Heaps.{Heaps, Grants, IsFirstFit, IsGrown, IsNext, IsWhy, NoneFits, Puts, heap_at, is_empty, empties, live_of, numbers, part, slot, AreTotals, free_of, largest_room}
+use Rattle.offset_heaps.specs.Heaps.{Heaps, Grants, IsFirstFit, IsRaisedAsNeeded, IsNext, IsWhy, NoneFits, Puts, heap_at, is_empty, empties, live_of, numbers, part, slot, AreTotals, free_of, largest_room}
 use Rattle.offset_heaps.specs.{Heaps.room_of, Heaps.units_of_heap, Heaps.total, Histories.ResetsAll, State.quiet, Twins.AreTwins, Twins.IsTwin, Twins.IsTwinIn}
 use Rattle.offset_heaps.specs.declared.totals.Totals.{Totals}
 use Rattle.offset_heaps.specs.Relocating.{HasLive, IsEmptiest, NoneLive, TakesRange, granted, live_at, units_in, size_of}
 use Rattle.offset_heaps.specs.State as state
 use Rattle.offset_heaps.proofs.{States.slot_quiet, Empties.empty_there, Grants.memory_alone, Grants.none_found, Grants.one_reason, Numbers.slot_there}
 use Rattle.offset_heaps.specs.Calls.{Allocates, TakesAll, Call, Allocate, Allocate_tight, Free, Relocate, Drop_empty, Drop_heap, Give_up, Reset, Resize, Extend_heap, Compact_heap, Compact_all, Make_room, Drops, DropsEmpty, Frees, GivesUp, IsStarved, Lengthens, Relocates, Reply, Requested, Second, Dropped, Was_done, Resized, Extended, Room_made, Takes, TakesRoom, TakesSize, CompactsOne, Notes}
-use Rattle.offset_heaps.proofs.Decided.{first_twins, grants_decided, grown_twin, known, known_at, must_in_twins, next_twins, none_fit_twins, one_first, one_fit, one_next, puts_twins, same_twins, why_twins}
+use Rattle.offset_heaps.proofs.Decided.{first_twins, grants_decided, raised_twins, known, known_at, must_in_twins, next_twins, none_fit_twins, one_first, one_fit, one_next, puts_twins, same_twins, why_twins}
 use Rattle.offset_heaps.proofs.DecidedTight.{tights_decided}
-use Rattle.offset_heaps.proofs.Growing.{grown_formed}
+use Rattle.offset_heaps.proofs.Raising.{raised_formed}
 use Rattle.offset_heaps.proofs.Twins.{as_twin, free_twins, kept_twins, none_twins, option_twin, range_twins, reset_twins, room_twins, slid_twins, some_twin, total_twins, twin_some, twin_sym, twins_sym, twins_trans}
 
 -- ---- requests
@@ -157,9 +157,9 @@ lengthens_decided k more hs hs' ks ks' is t (Ok true) (Ok true) x y m n =
     let b = y.step (can_there more (heap_at k hs') (y.done.0 refl)) in
     let before = before_twins k P Q hs hs' ks ks' t a b in
     let well = known_at hs (known hs is) k a.before a.heap in
-    let between = grown_twin hs.limits k a.before b.before a.by.between b.by.between before (twin_sym a.before b.before before) a.by.grown
-    (subst (λ (l : Limits). IsGrown l k b.before b.by.between) t.limits b.by.grown) in
-    let one = extends_decided more a.by.between.space b.by.between.space a.after.space b.after.space (grown_formed hs.limits k a.before a.by.between a.by.grown well) between.space true true a.by.step b.by.step in
+    let between = raised_twins hs.limits k a.before b.before a.by.between b.by.between before (twin_sym a.before b.before before) a.by.raised
+    (subst (λ (l : Limits). IsRaisedAsNeeded l k b.before b.by.between) t.limits b.by.raised) in
+    let one = extends_decided more a.by.between.space b.by.between.space a.after.space b.after.space (raised_formed hs.limits k a.before a.by.between a.by.raised well) between.space true true a.by.step b.by.step in
     (refl, alters_twins k P Q hs hs' ks ks' t a b (kept_twins a.before b.before a.after b.after before a.by.serials b.by.serials (λ u. ap is_some (a.by.kept u)) one.1))
 
 pub compacts_one_decided : (k : ℕ) (hs hs' ks ks' : Heaps) → AreTwins hs hs' → (r r' : Bool) → CompactsOne k hs ks r → CompactsOne k hs' ks' r' → (r ≡ r') × AreTwins ks ks'

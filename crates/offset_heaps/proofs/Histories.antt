@@ -8,7 +8,7 @@ use Rattle.offset_heaps.specs.declared.place.Granted.{Granted}
 use Rattle.offset_heaps.specs.declared.place.Place.{Place}
 use Rattle.offset_heaps.specs.Heaps.{Heaps, FreesIn, Grants, IsBefore, IsLive, IsSame, Puts, heap_at, range_in, range_of, slot}
 use Rattle.offset_heaps.specs.{Changing.CompactsAll, Changing.CompactsSlot, Histories.AreSteps, Histories.IsGone, Histories.IsStep, Histories.Keeps, Histories.ResetsAll, Slots.ResetsIn}
-use Rattle.offset_heaps.proofs.Growing.{grown_realm}
+use Rattle.offset_heaps.proofs.Raising.{raised_realm}
 use Rattle.offset_heaps.proofs.{Numbers.slot_other, Numbers.slot_past, Numbers.slot_same, Numbers.slot_set, Places.none_if}
 
 -- a number has no heap of this realm
@@ -48,7 +48,7 @@ grant_keeps p size align hs ks grant g gone = record {
 
     lacks : p.heap ≡ grant.place.heap → IsBefore size hs grant g.before → Lacks p.ticket.realm (Some g.after)
     lacks e (inl old) = same_realm p.ticket.realm (heap_at p.heap hs) old.1.0 g.after (ap (λ k. heap_at k hs) e ∙ old.1.1)
-        (g.grants.realm.1 ∙ grown_realm hs.limits grant.place.heap old.1.0 g.before old.1.2) gone.other
+        (g.grants.realm.1 ∙ raised_realm hs.limits grant.place.heap old.1.0 g.before old.1.2) gone.other
     lacks e (inr new) = λ r. elim new.2 [
       | inl usual ↦ absurd (omega (arith, usual.1.realm, g.grants.realm.1, r, gone.made))
       | inr larger ↦ absurd (omega (arith, larger.1.realm, g.grants.realm.1, r, gone.made))

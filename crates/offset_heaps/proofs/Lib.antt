@@ -14,7 +14,7 @@ pub mod FaultPlaces
 pub mod Finding
 pub mod Foretold
 pub mod Grants
-pub mod Growing
+pub mod Raising
 pub mod Histories
 pub mod Holders
 pub mod Longer

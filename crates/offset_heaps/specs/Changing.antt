@@ -17,7 +17,7 @@ use Rattle.offset_heaps.specs.declared.limits.Limits.{Limits}
 use Rattle.offset_heaps.specs.declared.place.Place.{Place}
 use Rattle.offset_heaps.specs.declared.resize.Resize.{Resize}
 use Rattle.offset_heaps.specs.declared.resize.Resize.TheVariants.{Shrink, Grow}
-use Rattle.offset_heaps.specs.Heaps.{Heaps, Puts, heap_at, range_of}
+use Rattle.offset_heaps.specs.Heaps.{HasFewNodes, Heaps, Puts, heap_at, range_of}
 
 -- the heap of a number, which is there, is another one now, and all else stays
 pub record Alters (k : ℕ) (P : Guard → Guard → Type 0) (hs ks : Heaps) : Type 0 where
@@ -73,13 +73,9 @@ abbrev pub is_less : Wanted → Bool
 is_less (Less n) = true
 is_less (More n) = false
 
--- few nodes of a usual heap are unused: fewer than four, where its node limit is below the largest one
-abbrev pub IsNear : Limits → ℕ → Guard → Type 0
-IsNear limits k g = (k < limits.most) × (g.space.max_allocs < limits.max_allocs) × (g.space.max_allocs < length g.space.blocks + 4)
-
 -- the nodes of a heap allow it: a range that becomes smaller may add a block
 abbrev pub HasNodesFor : Limits → ℕ → Wanted → Guard → Type 0
-HasNodesFor limits k (Less n) g = IsNear limits k g → ⊥
+HasNodesFor limits k (Less n) g = HasFewNodes 4 limits k g → ⊥
 HasNodesFor limits k (More n) g = Unit {0}
 
 -- how many blocks it may add

@@ -9,7 +9,7 @@ ghost use Rattle.offset_allocator.specs.Requests.{CanGrant, blocks_needed, units
 ghost use Rattle.offset_allocator.specs.declared.reports.StorageReport.{StorageReport};
 ghost use Rattle.offset_guarded.specs.Guard.{Guard, HasSerialLeft, IsRaised};
 ghost use Rattle.offset_heaps.specs.Heaps.{Heaps, room, AreAlike, AreTotals, heap_at, numbers, range_of};
-ghost use Rattle.offset_heaps.specs.Heaps.{Grants, IsFirstFit, IsLive, IsNext, IsUsual, IsWhy, MustGrowIn, Puts};
+ghost use Rattle.offset_heaps.specs.Heaps.{Grants, IsFirstFit, IsLive, IsNext, IsUsual, IsWhy, MustRaiseIn, Puts};
 ghost use Rattle.offset_heaps.specs.Heaps.{IsFirstSize, units_of_heap, total, usual_room, usual_size};
 ghost use Rattle.offset_heaps.specs.Histories.{AreSteps, IsGone, IsStep, ResetsAll};
 ghost use Rattle.offset_heaps.specs.Numbering.{AreOfLive, MeetsPlaces, first_from, live_places, next_place};
@@ -77,14 +77,14 @@ pub fn room_is_that_of_the_largest_limit<T: Tables>(heaps: &HeapsOf<T>, number: 
 }
 
 /// At most one reason of a refusal holds of a request. Where a heap has room for it, none holds but that memory
-/// was refused, and then the first such heap has to grow; and where another may be made for it, none but that
+/// was refused, and then the node limit of the first such heap has to be raised; and where another may be made for it, none but that
 /// its memory was refused.
 pub fn reasons_exclude_one_another()
     ensures one { (size align : ℕ) (hs : Heaps) (r s : Refusal) → IsWhy size align hs r
         → IsWhy size align hs s → r ≡ s }
     ensures found { (size align k : ℕ) (hs : Heaps) (r : Refusal) → 1 ≤ size
         → IsFirstFit (blocks_needed align) (units_needed size align) k hs → IsWhy size align hs r
-        → (r ≡ Memory) × MustGrowIn hs.limits k (heap_at k hs) }
+        → (r ≡ Memory) × MustRaiseIn hs.limits k (heap_at k hs) }
     ensures made { (size align k : ℕ) (hs : Heaps) (r : Refusal) → 1 ≤ size
         → IsNext size k hs → IsWhy size align hs r → r ≡ Memory }
     ensures tight { (size align : ℕ) (hs : Heaps) (r s : Refusal) → IsWhyTight size align hs r
