@@ -1,4 +1,4 @@
--- The same call on heaps that no answer tells apart has the same result, and leaves such heaps.
+-- The same call on twins has the same result, and leaves twins.
 use Rattle.std.proofs.Common.{[], ◌∷◌, replicate, if◌then◌else◌}
 use Rattle.std.proofs.Common.{◌≡◌, ℕ, ◌+◌, ◌<◌, ◌≤◌, ◌⊎◌, Bool, true, length, List, Option, Some, None, IfSome, slice_set, refl, sym, ap, ap₂, subst, subst₂, ◌∙◌, inl, inr, arith}
 use Rattle.std.proofs.lemmas.Bool.{cases_lt}

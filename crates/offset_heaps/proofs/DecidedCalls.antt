@@ -1,4 +1,4 @@
--- Each call on heaps that no answer tells apart has the same result, and leaves such heaps.
+-- Each call on twins has the same result, and leaves twins.
 use Rattle.std.proofs.Common.{[], ◌∷◌, map, suc}
 use Rattle.std.proofs.Common.{◌≡◌, ℕ, ◌+◌, ◌<◌, ◌≤◌, Bool, true, false, List, Option, Some, None, MatchOption, Result, Ok, Err, IsSome, is_some, if◌then◌else◌, nat_eq, refl, sym, ap, ap₂, subst, subst₂, ◌∙◌, inl, inr, arith}
 use Rattle.std.proofs.lemmas.Bool.{cases_Bool, cases_eq, cases_lt}

@@ -86,7 +86,7 @@ pub realm_longer : (limits : Limits) (k more : ℕ) (done : Bool) (g h : Guard) 
 realm_longer limits k more true g h e = e.serials.realm
 realm_longer limits k more false g h e = e.1.realm
 
--- every ticket keeps its range, and what can't be done leaves what no answer tells from the heap before
+-- every ticket keeps its range, and what can't be done leaves a heap that later calls answer as the one before
 pub twin_same : (g h : Guard) → guarded.IsSame g h → IsTwin g h
 twin_same g h s = record { space = s.0; serials = λ x live. s.1.cells x; given = s.1.given; realm = s.1.realm }
 
