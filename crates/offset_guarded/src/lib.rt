@@ -24,7 +24,6 @@ ghost use Rattle.offset_guarded.specs.Guard.{HasSerialLeft, IsCopy, IsLive, IsRa
 ghost use Rattle.offset_guarded.specs.Guard.{last_serial, range_of, serial_of};
 
 mod allocate;
-mod beside;
 pub mod laws;
 mod moves;
 #[doc(hidden)]
@@ -37,6 +36,7 @@ mod serials;
 mod state;
 mod ticket;
 mod values;
+mod walks;
 
 pub use offset_allocator::ReadError;
 use offset_allocator::laws::is_well_formed;

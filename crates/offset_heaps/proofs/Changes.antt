@@ -63,7 +63,7 @@ module _ (k : ℕ) (P : Guard → Guard → Type 0) (hs ks : Heaps) (there : k <
     ]
   ]
 
-  -- heaps that no answer tells apart
+  -- every later call returns the same for both heaps
   pub alike : IsTwin a.before a.after → AreTwins hs ks
   alike twin = record {
     limits = ap (λ (h : Heaps). h.limits) a.heaps;

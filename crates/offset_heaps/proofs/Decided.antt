@@ -1,4 +1,4 @@
--- The same call on heaps that no answer tells apart has the same result, and leaves such heaps.
+-- The same call on twins has the same result, and leaves twins.
 use Rattle.std.proofs.Common.{[], ◌∷◌, replicate, if◌then◌else◌}
 use Rattle.std.proofs.Common.{◌≡◌, ℕ, ◌+◌, ◌<◌, ◌≤◌, ◌⊎◌, Bool, true, length, List, Option, Some, None, IfSome, slice_set, refl, sym, ap, ap₂, subst, subst₂, ◌∙◌, inl, inr, arith}
 use Rattle.std.proofs.lemmas.Bool.{cases_lt}
@@ -11,11 +11,11 @@ use Rattle.offset_heaps.specs.declared.place.Granted.{Granted}
 use Rattle.offset_heaps.specs.declared.place.Place.{Place}
 use Rattle.offset_heaps.specs.declared.refusal.Refusal.{Refusal}
 use Rattle.offset_heaps.specs.declared.refusal.Refusal.TheVariants.{Empty, TooLarge, Full, Memory}
-use Rattle.offset_heaps.specs.Heaps.{Heaps, Grants, IsBefore, IsFirstFit, IsGrown, IsNew, IsNext, IsSame, IsSpareLarger, IsSpareUsual, IsUsual, IsWhy, MayEverFit, MustGrow, MustGrowIn, NoneFits, Puts, grown_limit, heap_at, larger_limit, room_of, slot, usual_room, usual_size}
+use Rattle.offset_heaps.specs.Heaps.{Heaps, Grants, IsBefore, IsFirstFit, IsRaisedAsNeeded, IsNew, IsNext, IsSame, IsSpareLarger, IsSpareUsual, IsUsual, IsWhy, MayEverFit, MustRaise, MustRaiseIn, NoneFits, Puts, raised_limit, heap_at, larger_limit, room_of, slot, usual_room, usual_size}
 use Rattle.offset_heaps.specs.State as state
 use Rattle.offset_heaps.specs.Twins.{AreTwins, IsTwin, IsTwinIn}
 use Rattle.offset_heaps.proofs.Doubling.{size_low}
-use Rattle.offset_heaps.proofs.Growing.{grown_formed}
+use Rattle.offset_heaps.proofs.Raising.{raised_formed}
 use Rattle.offset_heaps.proofs.Twins.{as_twin, grant_twins, none_twins, own_twin, put_twins, room_twins, same_ticket, some_twin, twin_sym, twins_sym}
 
 -- ---- what a request finds
@@ -49,16 +49,16 @@ module _ (hs ks : Heaps) (t : AreTwins hs ks) where
     λ j l. subst (λ n. n < units) (sym (room_twins hs ks t blocks j)) (f.1 j l),
   )
 
--- ---- a heap that has to grow
-must_twin : (limits : Limits) (k : ℕ) (g h : Guard) → IsTwin g h → MustGrow limits k g → MustGrow limits k h
-must_twin limits k g h t must = subst (MustGrow limits k) (sym (as_twin g h t)) must
+-- ---- a heap whose node limit has to be raised
+must_twin : (limits : Limits) (k : ℕ) (g h : Guard) → IsTwin g h → MustRaise limits k g → MustRaise limits k h
+must_twin limits k g h t must = subst (MustRaise limits k) (sym (as_twin g h t)) must
 
-must_twin_in : (limits : Limits) (k : ℕ) (o p : Option Guard) → IsTwinIn o p → MustGrowIn limits k o → MustGrowIn limits k p
+must_twin_in : (limits : Limits) (k : ℕ) (o p : Option Guard) → IsTwinIn o p → MustRaiseIn limits k o → MustRaiseIn limits k p
 must_twin_in limits k None p t must = absurd must
-must_twin_in limits k (Some g) p t must = subst (MustGrowIn limits k) (sym t.1) (must_twin limits k g t.0 t.2 must)
+must_twin_in limits k (Some g) p t must = subst (MustRaiseIn limits k) (sym t.1) (must_twin limits k g t.0 t.2 must)
 
-pub must_in_twins : (hs ks : Heaps) → AreTwins hs ks → (k : ℕ) → MustGrowIn hs.limits k (heap_at k hs) → MustGrowIn ks.limits k (heap_at k ks)
-must_in_twins hs ks t k must = subst (λ (l : Limits). MustGrowIn l k (heap_at k ks)) (sym t.limits) (must_twin_in hs.limits k (heap_at k hs) (heap_at k ks) (t.heaps k) must)
+pub must_in_twins : (hs ks : Heaps) → AreTwins hs ks → (k : ℕ) → MustRaiseIn hs.limits k (heap_at k hs) → MustRaiseIn ks.limits k (heap_at k ks)
+must_in_twins hs ks t k must = subst (λ (l : Limits). MustRaiseIn l k (heap_at k ks)) (sym t.limits) (must_twin_in hs.limits k (heap_at k hs) (heap_at k ks) (t.heaps k) must)
 
 -- under the doubled limit it is a twin of the other one under it
 raised_twin : (limit limit' : ℕ) (g h : Guard) → limit' ≡ limit → IsTwin g h
@@ -70,12 +70,12 @@ raised_twin limit limit' g h same t = record {
   realm = t.realm;
 }
 
-pub grown_twin : (limits : Limits) (k : ℕ) (g g' h h' : Guard) → IsTwin g g' → (IsTwin g' g) → IsGrown limits k g h → IsGrown limits k g' h' → IsTwin h h'
-grown_twin limits k g g' h h' t s (inl a) (inl b) =
-    subst₂ IsTwin (sym a.1) (sym b.1) (raised_twin (grown_limit limits g) (grown_limit limits g') g g' (ap (grown_limit limits) (as_twin g g' t)) t)
-grown_twin limits k g g' h h' t s (inl a) (inr b) = absurd (b.0 (must_twin limits k g g' t a.0))
-grown_twin limits k g g' h h' t s (inr a) (inl b) = absurd (a.0 (must_twin limits k g' g s b.0))
-grown_twin limits k g g' h h' t s (inr a) (inr b) = subst₂ IsTwin (sym a.1) (sym b.1) t
+pub raised_twins : (limits : Limits) (k : ℕ) (g g' h h' : Guard) → IsTwin g g' → (IsTwin g' g) → IsRaisedAsNeeded limits k g h → IsRaisedAsNeeded limits k g' h' → IsTwin h h'
+raised_twins limits k g g' h h' t s (inl a) (inl b) =
+    subst₂ IsTwin (sym a.1) (sym b.1) (raised_twin (raised_limit limits g) (raised_limit limits g') g g' (ap (raised_limit limits) (as_twin g g' t)) t)
+raised_twins limits k g g' h h' t s (inl a) (inr b) = absurd (b.0 (must_twin limits k g g' t a.0))
+raised_twins limits k g g' h h' t s (inr a) (inl b) = absurd (a.0 (must_twin limits k g' g s b.0))
+raised_twins limits k g g' h h' t s (inr a) (inr b) = subst₂ IsTwin (sym a.1) (sym b.1) t
 
 pub next_twins : (hs ks : Heaps) → AreTwins hs ks → (units k : ℕ) → IsNext units k hs → IsNext units k ks
 next_twins hs ks t units k n =
@@ -193,8 +193,8 @@ module _ (size align : ℕ) (hs hs' ks ks' : Heaps) (grant grant' : Granted) (sm
       let k : ℕ = grant.place.heap in
       let there : heap_at k hs' ≡ Some b.1.0 = ap (λ k. heap_at k hs') number ∙ b.1.1 in
       let was = some_twin a.1.0 b.1.0 (heap_at k hs) (heap_at k hs') a.1.1 there (t.heaps k) in
-      let grown = subst₂ (λ (l : Limits) (j : ℕ). IsGrown l j b.1.0 h) t.limits (sym number) b.1.2 in
-      (grown_twin hs.limits k a.1.0 b.1.0 g h was (twin_sym a.1.0 b.1.0 was) a.1.2 grown, grown_formed hs.limits k a.1.0 g a.1.2 (known_at hs is k a.1.0 a.1.1))
+      let raised = subst₂ (λ (l : Limits) (j : ℕ). IsRaisedAsNeeded l j b.1.0 h) t.limits (sym number) b.1.2 in
+      (raised_twins hs.limits k a.1.0 b.1.0 g h was (twin_sym a.1.0 b.1.0 was) a.1.2 raised, raised_formed hs.limits k a.1.0 g a.1.2 (known_at hs is k a.1.0 a.1.1))
   befores g h (inl a) (inr b) = absurd (let e = sym a.0 ∙ new ∙ b.0 in cc)
   befores g h (inr a) (inl b) = absurd (let e = sym b.0 ∙ sym new ∙ a.0 in cc)
   befores g h (inr a) (inr b) =

@@ -1,4 +1,4 @@
--- Each call on heaps that no answer tells apart has the same result, and leaves such heaps.
+-- Each call on twins has the same result, and leaves twins.
 use Rattle.std.proofs.Common.{[], ◌∷◌, map, suc}
 use Rattle.std.proofs.Common.{◌≡◌, ℕ, ◌+◌, ◌<◌, ◌≤◌, Bool, true, false, List, Option, Some, None, MatchOption, Result, Ok, Err, IsSome, is_some, if◌then◌else◌, nat_eq, refl, sym, ap, ap₂, subst, subst₂, ◌∙◌, inl, inr, arith}
 use Rattle.std.proofs.lemmas.Bool.{cases_Bool, cases_eq, cases_lt}
@@ -12,18 +12,18 @@ use Rattle.offset_heaps.specs.declared.place.Granted.{Granted}
 use Rattle.offset_heaps.specs.declared.place.Place.{Place}
 use Rattle.offset_heaps.specs.declared.refusal.Refusal.{Refusal}
 use Rattle.offset_heaps.specs.declared.refusal.Refusal.TheVariants.{Memory}
-use Rattle.offset_heaps.specs.Changing.{CanResizeAt, CanResizeIn, ResizesAt, Wanted, Less, More, Alters, CompactsAll, CompactsIn, PacksIn, MakesRoomIn, Resizes, ResizesSpace}
+use Rattle.offset_heaps.specs.Changing.{CanResizeAt, CanResizeIn, ResizesAt, Wanted, Less, More, Alters, CompactsAll, CompactsIn, CompactsSlot, MakesRoomIn, Resizes, ResizesSpace}
 use Rattle.offset_heaps.specs.Extending.{CanExtendIn, ExtendsIf}
-use Rattle.offset_heaps.specs.Heaps.{Heaps, Grants, IsFirstFit, IsGrown, IsNext, IsWhy, NoneFits, Puts, heap_at, is_empty, empties, live_of, numbers, part, slot, AreTotals, free_of, largest_room}
-use Rattle.offset_heaps.specs.{Heaps.room_of, Heaps.size_of, Heaps.total, Histories.ResetsAll, State.quiet, Twins.AreTwins, Twins.IsTwin, Twins.IsTwinIn}
+use Rattle.offset_heaps.specs.Heaps.{Heaps, Grants, IsFirstFit, IsRaisedAsNeeded, IsNext, IsWhy, NoneFits, Puts, heap_at, is_empty, empties, live_of, numbers, part, slot, AreTotals, free_of, largest_room}
+use Rattle.offset_heaps.specs.{Heaps.room_of, Heaps.units_of_heap, Heaps.total, Histories.ResetsAll, State.quiet, Twins.AreTwins, Twins.IsTwin, Twins.IsTwinIn}
 use Rattle.offset_heaps.specs.declared.totals.Totals.{Totals}
-use Rattle.offset_heaps.specs.Relocating.{HasLive, IsEmptiest, NoneLive, TakesRange, granted, live_at, units_in, units_of}
+use Rattle.offset_heaps.specs.Relocating.{HasLive, IsEmptiest, NoneLive, TakesRange, granted, live_at, units_in, size_of}
 use Rattle.offset_heaps.specs.State as state
 use Rattle.offset_heaps.proofs.{States.slot_quiet, Empties.empty_there, Grants.memory_alone, Grants.none_found, Grants.one_reason, Numbers.slot_there}
-use Rattle.offset_heaps.specs.Calls.{Allocates, TakesAll, Call, Allocate, Allocate_tight, Free, Relocate, Drop_empty, Drop_heap, Give_up, Reset, Resize, Extend_heap, Compact_heap, Compact_all, Make_room, Drops, DropsEmpty, Frees, GivesUp, IsStarved, Lengthens, Relocates, Reply, Requested, Second, Dropped, Was_done, Resized, Extended, Room_made, Takes, TakesRoom, TakesSize, Packs, Notes}
-use Rattle.offset_heaps.proofs.Decided.{first_twins, grants_decided, grown_twin, known, known_at, must_in_twins, next_twins, none_fit_twins, one_first, one_fit, one_next, puts_twins, same_twins, why_twins}
+use Rattle.offset_heaps.specs.Calls.{Allocates, TakesAll, Call, Allocate, Allocate_tight, Free, Relocate, Drop_empty, Drop_heap, Give_up, Reset, Resize, Extend_heap, Compact_heap, Compact_all, Make_room, Drops, DropsEmpty, Frees, GivesUp, IsStarved, Lengthens, Relocates, Reply, Requested, Second, Dropped, Was_done, Resized, Extended, Room_made, Takes, TakesRoom, TakesSize, CompactsOne, Notes}
+use Rattle.offset_heaps.proofs.Decided.{first_twins, grants_decided, raised_twins, known, known_at, must_in_twins, next_twins, none_fit_twins, one_first, one_fit, one_next, puts_twins, same_twins, why_twins}
 use Rattle.offset_heaps.proofs.DecidedTight.{tights_decided}
-use Rattle.offset_heaps.proofs.Growing.{grown_formed}
+use Rattle.offset_heaps.proofs.Raising.{raised_formed}
 use Rattle.offset_heaps.proofs.Twins.{as_twin, free_twins, kept_twins, none_twins, option_twin, range_twins, reset_twins, room_twins, slid_twins, some_twin, total_twins, twin_some, twin_sym, twins_sym, twins_trans}
 
 -- ---- requests
@@ -157,28 +157,28 @@ lengthens_decided k more hs hs' ks ks' is t (Ok true) (Ok true) x y m n =
     let b = y.step (can_there more (heap_at k hs') (y.done.0 refl)) in
     let before = before_twins k P Q hs hs' ks ks' t a b in
     let well = known_at hs (known hs is) k a.before a.heap in
-    let between = grown_twin hs.limits k a.before b.before a.by.between b.by.between before (twin_sym a.before b.before before) a.by.grown
-    (subst (λ (l : Limits). IsGrown l k b.before b.by.between) t.limits b.by.grown) in
-    let one = extends_decided more a.by.between.space b.by.between.space a.after.space b.after.space (grown_formed hs.limits k a.before a.by.between a.by.grown well) between.space true true a.by.step b.by.step in
+    let between = raised_twins hs.limits k a.before b.before a.by.between b.by.between before (twin_sym a.before b.before before) a.by.raised
+    (subst (λ (l : Limits). IsRaisedAsNeeded l k b.before b.by.between) t.limits b.by.raised) in
+    let one = extends_decided more a.by.between.space b.by.between.space a.after.space b.after.space (raised_formed hs.limits k a.before a.by.between a.by.raised well) between.space true true a.by.step b.by.step in
     (refl, alters_twins k P Q hs hs' ks ks' t a b (kept_twins a.before b.before a.after b.after before a.by.serials b.by.serials (λ u. ap is_some (a.by.kept u)) one.1))
 
-pub packs_decided : (k : ℕ) (hs hs' ks ks' : Heaps) → AreTwins hs hs' → (r r' : Bool) → Packs k hs ks r → Packs k hs' ks' r' → (r ≡ r') × AreTwins ks ks'
-packs_decided k hs hs' ks ks' t false false x y = (refl, same_twins hs hs' ks ks' t (x.same refl) (y.same refl))
-packs_decided k hs hs' ks ks' t true false x y = absurd (let e : false ≡ true = y.done.1 (some_twins hs hs' t k ∙ x.done.0 refl) in cc)
-packs_decided k hs hs' ks ks' t false true x y = absurd (let e : false ≡ true = x.done.1 (sym (some_twins hs hs' t k) ∙ y.done.0 refl) in cc)
-packs_decided k hs hs' ks ks' t true true x y =
+pub compacts_one_decided : (k : ℕ) (hs hs' ks ks' : Heaps) → AreTwins hs hs' → (r r' : Bool) → CompactsOne k hs ks r → CompactsOne k hs' ks' r' → (r ≡ r') × AreTwins ks ks'
+compacts_one_decided k hs hs' ks ks' t false false x y = (refl, same_twins hs hs' ks ks' t (x.same refl) (y.same refl))
+compacts_one_decided k hs hs' ks ks' t true false x y = absurd (let e : false ≡ true = y.done.1 (some_twins hs hs' t k ∙ x.done.0 refl) in cc)
+compacts_one_decided k hs hs' ks ks' t false true x y = absurd (let e : false ≡ true = x.done.1 (sym (some_twins hs hs' t k) ∙ y.done.0 refl) in cc)
+compacts_one_decided k hs hs' ks ks' t true true x y =
     let a = x.step refl in
     let b = y.step refl in
     let before = before_twins k CompactsIn CompactsIn hs hs' ks ks' t a b in
     let after = compacts_decided a.before.space b.before.space a.after.space b.after.space before.space a.by.step b.by.step in
     (refl, alters_twins k CompactsIn CompactsIn hs hs' ks ks' t a b (slid_twins a.before b.before a.after b.after before a.by.serials b.by.serials a.by.sizes after))
 
-packed_twins : (o o' p p' : Option Guard) → IsTwinIn o o' → PacksIn o p → PacksIn o' p' → IsTwinIn p p'
-packed_twins None o' p p' twin f f' =
-    let none : p' ≡ None = subst (λ o. PacksIn o p') twin f' in
+compacted_twins : (o o' p p' : Option Guard) → IsTwinIn o o' → CompactsSlot o p → CompactsSlot o' p' → IsTwinIn p p'
+compacted_twins None o' p p' twin f f' =
+    let none : p' ≡ None = subst (λ o. CompactsSlot o p') twin f' in
     subst (λ p. IsTwinIn p p') (sym f) none
-packed_twins (Some g) o' p p' twin f f' =
-    let k : PacksIn (Some twin.0) p' = subst (λ o. PacksIn o p') twin.1 f' in
+compacted_twins (Some g) o' p p' twin f f' =
+    let k : CompactsSlot (Some twin.0) p' = subst (λ o. CompactsSlot o p') twin.1 f' in
     let after = compacts_decided g.space twin.0.space f.0.space k.0.space twin.2.space f.2.step k.2.step in
     twin_some f.0 k.0 p p' f.1 k.1 (slid_twins g twin.0 f.0 k.0 twin.2 f.2.serials k.2.serials f.2.sizes after)
 
@@ -187,7 +187,7 @@ compacts_all_decided hs hs' ks ks' t x y = record {
   limits = ap (λ (h : Heaps). h.limits) y.rest ∙ t.limits ∙ sym (ap (λ (h : Heaps). h.limits) x.rest);
   made = ap (λ (h : Heaps). h.made) y.rest ∙ t.made ∙ sym (ap (λ (h : Heaps). h.made) x.rest);
   realm = ap (λ (h : Heaps). h.realm) y.rest ∙ t.realm ∙ sym (ap (λ (h : Heaps). h.realm) x.rest);
-  heaps = λ k. packed_twins (heap_at k hs) (heap_at k hs') (heap_at k ks) (heap_at k ks') (t.heaps k) (x.heaps k) (y.heaps k);
+  heaps = λ k. compacted_twins (heap_at k hs) (heap_at k hs') (heap_at k ks) (heap_at k ks') (t.heaps k) (x.heaps k) (y.heaps k);
 }
 
 pub room_decided : (k size : ℕ) (hs hs' ks ks' : Heaps) → state.IsWellFormed hs → AreTwins hs hs' → (r r' : Option RoomCost) → TakesRoom k size hs ks r → TakesRoom k size hs' ks' r' → (r ≡ r') × AreTwins ks ks'
@@ -211,18 +211,18 @@ room_decided k size hs hs' ks ks' is t r r' x y = go (heap_at k hs) refl
 
 -- ---- second ranges
 module _ (p : Place) (hs ks : Heaps) (t : AreTwins hs ks) where
-  units_twins : units_of p ks ≡ units_of p hs
-  units_twins = ap units_in (range_twins hs ks t p)
+  size_twins : size_of p ks ≡ size_of p hs
+  size_twins = ap units_in (range_twins hs ks t p)
 
   live_twins : (k : ℕ) → live_at k ks ≡ live_at k hs
   live_twins k = option_twin (part live_of) (heap_at k hs) (heap_at k ks) (λ g h u. ap live_of (as_twin g h u)) (t.heaps k)
 
   takes_twins : (align k : ℕ) → TakesRange p align hs k → TakesRange p align ks k
   takes_twins align k takes = (
-    subst (λ n. 1 ≤ n) (sym units_twins) takes.0,
+    subst (λ n. 1 ≤ n) (sym size_twins) takes.0,
     record {
       other = takes.1.other;
-      room = let room = takes.1.room in omega (arith, room, units_twins, room_twins hs ks t (blocks_needed align) k);
+      room = let room = takes.1.room in omega (arith, room, size_twins, room_twins hs ks t (blocks_needed align) k);
       stays = λ must. takes.1.stays (must_in_twins ks hs (twins_sym hs ks t) k must);
       full = let full = takes.1.full in omega (arith, full, live_twins p.heap, live_twins k);
     },
@@ -235,8 +235,8 @@ relocates_decided p align hs hs' ks ks' is t (Some q) None x y = absurd (y.none.
 relocates_decided p align hs hs' ks ks' is t (Some q) (Some q') x y =
     let s = twins_sym hs hs' t in
     let number = one_first (TakesRange p align hs) q.heap q'.heap x.first.0 x.first.1 (takes_twins p hs' hs s align q'.heap y.first.0) (λ i l u. y.first.1 i l (takes_twins p hs hs' t align i u)) in
-    let all = grants_decided (units_of p hs) align hs hs' ks ks' (granted q) (granted q') (λ e. absurd (cc)) (known hs is) t number refl x.grants
-    (subst (λ n. Grants n align hs' ks' (granted q')) (units_twins p hs hs' t) y.grants) in
+    let all = grants_decided (size_of p hs) align hs hs' ks ks' (granted q) (granted q') (λ e. absurd (cc)) (known hs is) t number refl x.grants
+    (subst (λ n. Grants n align hs' ks' (granted q')) (size_twins p hs hs' t) y.grants) in
     (ap Some (ap (λ (g : Granted). g.place) all.0), all.1)
 
 -- ---- heaps that are dropped
@@ -340,7 +340,7 @@ totals_decided hs hs' t r r' x y =
     let same : (f : Guard → ℕ) → ((g h : Guard) → IsTwin g h → f h ≡ f g) → total f hs.slots ≡ total f hs'.slots = λ f each.
     sym (total_twins f hs'.slots hs.slots (λ k. option_twin (part f) (heap_at k hs) (heap_at k hs') each (t.heaps k))) in
     let heaps : r.heaps ≡ r'.heaps = x.heaps ∙ same (λ g. 1) (λ g h u. refl) ∙ sym y.heaps in
-    let units : r.units ≡ r'.units = x.units ∙ same size_of (λ g h u. ap size_of (as_twin g h u)) ∙ sym y.units in
+    let units : r.units ≡ r'.units = x.units ∙ same units_of_heap (λ g h u. ap units_of_heap (as_twin g h u)) ∙ sym y.units in
     let live : r.live_units ≡ r'.live_units = x.live_units ∙ same live_of (λ g h u. ap live_of (as_twin g h u)) ∙ sym y.live_units in
     let free : r.free_units ≡ r'.free_units = x.free_units ∙ same free_of (λ g h u. ap free_of (as_twin g h u)) ∙ sym y.free_units in
     let largest : r.largest_free_region ≡ r'.largest_free_region = x.largest ∙ sym (largest_twins hs'.slots hs.slots (room_twins hs hs' t 1)) ∙ sym y.largest in
@@ -367,7 +367,7 @@ takes_decided (Resize how p) hs hs' ks ks' is t r r' x y m n = let e = size_deci
 takes_decided (Extend_heap k more) hs hs' ks ks' is t r r' x y m n =
     let e = lengthens_decided k more hs hs' ks ks' is t x.0 y.0 x.2 y.2 (λ e q. m (inr (e, x.1 ∙ ap Extended q))) (λ e q. n (inr (e, y.1 ∙ ap Extended q))) in
     (x.1 ∙ ap Extended e.0 ∙ sym y.1, e.1)
-takes_decided (Compact_heap k) hs hs' ks ks' is t r r' x y m n = let e = packs_decided k hs hs' ks ks' t x.0 y.0 x.2 y.2 in (x.1 ∙ ap Was_done e.0 ∙ sym y.1, e.1)
+takes_decided (Compact_heap k) hs hs' ks ks' is t r r' x y m n = let e = compacts_one_decided k hs hs' ks ks' t x.0 y.0 x.2 y.2 in (x.1 ∙ ap Was_done e.0 ∙ sym y.1, e.1)
 takes_decided Compact_all hs hs' ks ks' is t r r' x y m n = (x.0 ∙ sym y.0, compacts_all_decided hs hs' ks ks' t x.1 y.1)
 takes_decided (Make_room k size) hs hs' ks ks' is t r r' x y m n = let e = room_decided k size hs hs' ks ks' is t x.0 y.0 x.2 y.2 in (x.1 ∙ ap Room_made e.0 ∙ sym y.1, e.1)
 

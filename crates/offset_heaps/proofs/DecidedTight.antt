@@ -11,10 +11,10 @@ use Rattle.offset_heaps.specs.declared.place.Place.{Place}
 use Rattle.offset_heaps.specs.declared.refusal.Refusal.{Refusal}
 use Rattle.offset_heaps.specs.declared.refusal.Refusal.TheVariants.{Empty, TooLarge, Full, Memory}
 use Rattle.offset_heaps.specs.Calls.{AllocatesTight}
-use Rattle.offset_heaps.specs.Heaps.{Heaps, IsGrown, IsNext, Puts, heap_at}
+use Rattle.offset_heaps.specs.Heaps.{Heaps, IsRaisedAsNeeded, IsNext, Puts, heap_at}
 use Rattle.offset_heaps.specs.{Slots.CanHoldIn, State.IsWellFormed, Tight.GrantsTight, Tight.IsFirstHolding, Tight.IsWhyTight, Tight.NoneHolds, Twins.AreTwins, Twins.IsTwin, Twins.IsTwinIn}
-use Rattle.offset_heaps.proofs.Decided.{grants_decided, grown_twin, known, known_at, may_twins, must_in_twins, next_twins, one_first, one_next, puts_twins, same_twins}
-use Rattle.offset_heaps.proofs.{Growing.grown_formed, Holders.one_reason_tight, Holders.tight_refused, Numbers.slot_there, Twins.as_twin, Twins.grant_twins, Twins.same_ticket, Twins.some_twin, Twins.twin_sym, Twins.twins_sym}
+use Rattle.offset_heaps.proofs.Decided.{grants_decided, raised_twins, known, known_at, may_twins, must_in_twins, next_twins, one_first, one_next, puts_twins, same_twins}
+use Rattle.offset_heaps.proofs.{Raising.raised_formed, Holders.one_reason_tight, Holders.tight_refused, Numbers.slot_there, Twins.as_twin, Twins.grant_twins, Twins.same_ticket, Twins.some_twin, Twins.twin_sym, Twins.twins_sym}
 
 -- ---- what a request finds
 holds_twin : (size align : ℕ) (o p : Option Guard) → IsTwinIn o p → CanHoldIn size align o → CanHoldIn size align p
@@ -55,12 +55,12 @@ module _ (size align : ℕ) (hs hs' ks ks' : Heaps) (p p' : Place) (is : IsWellF
   was = some_twin s.was s'.was (heap_at p.heap hs) (heap_at p.heap hs') s.heap there (t.heaps p.heap)
 
   before : IsTwin s.before s'.before
-  before = grown_twin hs.limits p.heap s.was s'.was s.before s'.before was (twin_sym s.was s'.was was) s.grown
-      (subst₂ (λ (l : Limits) (j : ℕ). IsGrown l j s'.was s'.before) t.limits (sym number) s'.grown)
+  before = raised_twins hs.limits p.heap s.was s'.was s.before s'.before was (twin_sym s.was s'.was was) s.raised
+      (subst₂ (λ (l : Limits) (j : ℕ). IsRaisedAsNeeded l j s'.was s'.before) t.limits (sym number) s'.raised)
 
   step : (Some (handle_in p.ticket) ≡ Some (handle_in p'.ticket)) × SameState s.after.space s'.after.space
   step = tight_decided size align s.before.space s'.before.space s.after.space s'.after.space
-      (grown_formed hs.limits p.heap s.was s.before s.grown (known_at hs (known hs is) p.heap s.was s.heap)) before.space
+      (raised_formed hs.limits p.heap s.was s.before s.raised (known_at hs (known hs is) p.heap s.was s.heap)) before.space
       (Some (handle_in p.ticket)) (Some (handle_in p'.ticket)) s.step s'.step
 
   ticket : p.ticket ≡ p'.ticket

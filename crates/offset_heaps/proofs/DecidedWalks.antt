@@ -1,4 +1,4 @@
--- The places that walks of live ranges meet, of heaps that no answer tells apart.
+-- The places that walks of live ranges meet, of twins.
 use Rattle.std.proofs.Common.{◌≡◌, ℕ, ◌≤◌, ◌++◌, Bool, true, false, List, [], ◌∷◌, Option, Some, None, IfSome, IsSome, is_some, if◌then◌else◌, nat_eq, option_map, reverse, refl, sym, ap, ap₂, subst}
 use Rattle.std.proofs.Common.{◌∙◌, inl, inr, arith}
 use Rattle.std.proofs.lemmas.List.{reverse-append}

@@ -6,7 +6,7 @@ use Rattle.offset_heaps.specs.declared.place.Granted.{Granted}
 use Rattle.offset_heaps.specs.declared.refusal.Refusal.{Refusal}
 use Rattle.offset_heaps.specs.declared.refusal.Refusal.TheVariants.{Memory}
 use Rattle.offset_heaps.specs.{Asking.IsRefusedFor, Asking.IsServed, Calls.Allocates, Calls.AllocatesTight, Tight.IsRefusedForTight, Tight.IsServedTight}
-use Rattle.offset_heaps.specs.Heaps.{Heaps, Grants, IsBefore, IsUsual, heap_at, size_of, slot, usual_size}
+use Rattle.offset_heaps.specs.Heaps.{Heaps, Grants, IsBefore, IsUsual, heap_at, units_of_heap, slot, usual_size}
 use Rattle.offset_heaps.proofs.{DecidedCalls.refused, Grants.memory_alone, Grants.none_found, Grants.one_reason, Holders.holds_memory, Holders.next_memory, Holders.one_reason_tight, Holders.tight_refused, Numbers.slot_same, Shapes.size_tight}
 
 pub foretold : (size align : ℕ) (hs ks : Heaps) (why : Option Refusal) (r : Result Granted Refusal) → MatchOption why (IsServed size align hs) (IsRefusedFor size align hs)
@@ -42,8 +42,8 @@ module _ (size align : ℕ) (hs ks : Heaps) (grant : Granted) (g : Grants size a
     | inr a ↦ size_tight size 1 g.before.space g.after.space (handle_in grant.place.ticket) a.2
   ]
 
-  pub usual_units : IsUsual size hs → option_map size_of (heap_at grant.place.heap ks) ≡ Some (usual_size hs.limits grant.place.heap)
-  usual_units usual = ap (option_map size_of) now ∙ ap Some (same ∙ go g.heap)
+  pub usual_units : IsUsual size hs → option_map units_of_heap (heap_at grant.place.heap ks) ≡ Some (usual_size hs.limits grant.place.heap)
+  usual_units usual = ap (option_map units_of_heap) now ∙ ap Some (same ∙ go g.heap)
     where
       go : IsBefore size hs grant g.before → g.before.space.size ≡ usual_size hs.limits grant.place.heap
       go (inl old) = absurd (let e = old.0 in cc)
@@ -52,8 +52,8 @@ module _ (size align : ℕ) (hs ks : Heaps) (grant : Granted) (g : Grants size a
         | inr l ↦ absurd (l.0 usual)
       ]
 
-  pub larger_units : (IsUsual size hs → ⊥) → option_map size_of (heap_at grant.place.heap ks) ≡ Some size
-  larger_units unusual = ap (option_map size_of) now ∙ ap Some (same ∙ go g.heap)
+  pub larger_units : (IsUsual size hs → ⊥) → option_map units_of_heap (heap_at grant.place.heap ks) ≡ Some size
+  larger_units unusual = ap (option_map units_of_heap) now ∙ ap Some (same ∙ go g.heap)
     where
       go : IsBefore size hs grant g.before → g.before.space.size ≡ size
       go (inl old) = absurd (let e = old.0 in cc)

@@ -10,9 +10,9 @@ use Rattle.offset_heaps.specs.declared.limits.Limits.{Limits}
 use Rattle.offset_heaps.specs.declared.place.Granted.{Granted}
 use Rattle.offset_heaps.specs.declared.refusal.Refusal.{Refusal}
 use Rattle.offset_heaps.specs.declared.refusal.Refusal.TheVariants.{Empty, TooLarge, Full, Memory}
-use Rattle.offset_heaps.specs.Heaps.{Heaps, Adds, Grants, IsBefore, IsFirstFit, IsForRoom, IsNext, IsWhy, MayEverFit, NoneFits, IsNew, IsSame, IsSpareLarger, IsSpareUsual, IsUsual, KeepsOthers, IsGrown, MustGrowIn, heap_at, usual_size}
-use Rattle.offset_heaps.specs.{Heaps.larger_limit, Heaps.last_realm, Heaps.range_in, Heaps.range_of, Heaps.slot, Slots.Changes, Slots.GrowsIn, Slots.KeepsOthersIn, Slots.Serves, Slots.ServesTight}
-use Rattle.offset_heaps.proofs.{Growing.grown_range, Growing.must_in, Growing.set_twice}
+use Rattle.offset_heaps.specs.Heaps.{Heaps, Adds, Grants, IsBefore, IsFirstFit, IsForRoom, IsNext, IsWhy, MayEverFit, NoneFits, IsNew, IsSame, IsSpareLarger, IsSpareUsual, IsUsual, KeepsOthers, IsRaisedAsNeeded, MustRaiseIn, heap_at, usual_size}
+use Rattle.offset_heaps.specs.{Heaps.larger_limit, Heaps.last_realm, Heaps.range_in, Heaps.range_of, Heaps.slot, Slots.Changes, Slots.RaisesIn, Slots.KeepsOthersIn, Slots.Serves, Slots.ServesTight}
+use Rattle.offset_heaps.proofs.{Raising.raised_range, Raising.must_in, Raising.set_twice}
 use Rattle.offset_heaps.proofs.{Numbers.slot_same, Places.none_if, Places.put_keeps, Places.same_realm, Places.shown, Rooms.fresh_none, Rooms.some_same}
 
 -- a grant at a number
@@ -20,7 +20,7 @@ abbrev pub grant_at : ℕ → ℕ → Ticket → Granted
 grant_at number realm ticket = record { place = record { heap = number; realm = realm; ticket = ticket }; is_new = false }
 
 pub granted_at : (slots now : List (Option Guard)) (limits : Limits) (made realm before after number size align : ℕ) (ticket : Ticket) → number < length slots
-    → (MustGrowIn limits number (slot number slots) → ⊥) → Changes number (λ o p. Serves size align o p ticket) slots now
+    → (MustRaiseIn limits number (slot number slots) → ⊥) → Changes number (λ o p. Serves size align o p ticket) slots now
     → Grants size align (shown slots limits made realm before) (shown now limits made realm after) (grant_at number realm ticket)
 granted_at slots now limits made realm before after number size align ticket there stays change =
     let by = change.by in
@@ -68,24 +68,24 @@ module _ (hs ks : Heaps) (number size align : ℕ) (o : Option Guard) (ticket : 
         heaps = subst (λ o. Adds number o hs ks) by.is adds;
       }
 
--- a heap that grew, and need not grow again, is one that was there
-pub grown_once : (limits : Limits) (number : ℕ) (o now : Option Guard) → GrowsIn limits number o now → (g h : Guard) → now ≡ Some g → IsGrown limits number g h → (MustGrowIn limits number now → ⊥)
-    → (b : Guard) × (o ≡ Some b) × IsGrown limits number b h
-grown_once limits number None now grows g h e grown stays = absurd (let none = sym grows ∙ e in cc)
-grown_once limits number (Some b) now grows g h e (inl up) stays = absurd (stays (must_in limits number now g e up.0))
-grown_once limits number (Some b) now grows g h e (inr kept) stays =
-    let same : grows.0 ≡ g = some_same grows.0 g (sym grows.1 ∙ e) in
-    (b, refl, subst (IsGrown limits number b) (same ∙ sym kept.1) grows.2)
+-- a heap that was raised as needed, and need not be raised again, is one that was there
+pub raised_once : (limits : Limits) (number : ℕ) (o now : Option Guard) → RaisesIn limits number o now → (g h : Guard) → now ≡ Some g → IsRaisedAsNeeded limits number g h → (MustRaiseIn limits number now → ⊥)
+    → (b : Guard) × (o ≡ Some b) × IsRaisedAsNeeded limits number b h
+raised_once limits number None now raises g h e raised stays = absurd (let none = sym raises ∙ e in cc)
+raised_once limits number (Some b) now raises g h e (inl up) stays = absurd (stays (must_in limits number now g e up.0))
+raised_once limits number (Some b) now raises g h e (inr kept) stays =
+    let same : raises.0 ≡ g = some_same raises.0 g (sym raises.1 ∙ e) in
+    (b, refl, subst (IsRaisedAsNeeded limits number b) (same ∙ sym kept.1) raises.2)
 
--- a grant in a heap that grew before, is one of the heap that was there
-module _ (hs between ks : Heaps) (size align number : ℕ) (grant : Granted) (there : number < length hs.slots) (change : Changes number (GrowsIn hs.limits number) hs.slots between.slots)
-    (rest : between ≡ record hs { slots = between.slots; accesses = between.accesses }) (none : MustGrowIn hs.limits number (slot number between.slots) → ⊥) (old : grant.is_new ≡ false)
+-- a grant in a heap that was raised before is one of the heap that was there
+module _ (hs between ks : Heaps) (size align number : ℕ) (grant : Granted) (there : number < length hs.slots) (change : Changes number (RaisesIn hs.limits number) hs.slots between.slots)
+    (rest : between ≡ record hs { slots = between.slots; accesses = between.accesses }) (none : MustRaiseIn hs.limits number (slot number between.slots) → ⊥) (old : grant.is_new ≡ false)
     (at : grant.place.heap ≡ number) where
   found : slot number between.slots ≡ change.now
   found = ap (slot number) change.slots ∙ slot_same hs.slots number change.now there
 
-  pub granted_grown : Grants size align between ks grant → Grants size align hs ks grant
-  granted_grown given =
+  pub granted_raised : Grants size align between ks grant → Grants size align hs ks grant
+  granted_raised given =
       let g : Grants size align (record hs { slots = between.slots; accesses = between.accesses }) ks grant = subst (λ (h : Heaps). Grants size align h ks grant) rest given in
       record {
         before = g.before;
@@ -108,9 +108,9 @@ module _ (hs between ks : Heaps) (size align number : ℕ) (grant : Granted) (th
         | inr new ↦ absurd (let e = sym old ∙ new.0 in cc)
         | inl is ↦
             let e : change.now ≡ Some is.1.0 = sym found ∙ ap (λ k. slot k between.slots) (sym at) ∙ is.1.1 in
-            let w = grown_once hs.limits number (slot number hs.slots) change.now change.by is.1.0 g.before e (subst (λ k. IsGrown hs.limits k is.1.0 g.before) at is.1.2)
-            (λ must. none (subst (MustGrowIn hs.limits number) (sym found) must)) in
-            inl (is.0, (w.0, ap (λ k. slot k hs.slots) at ∙ w.1, subst (λ k. IsGrown hs.limits k w.0 g.before) (sym at) w.2))
+            let w = raised_once hs.limits number (slot number hs.slots) change.now change.by is.1.0 g.before e (subst (λ k. IsRaisedAsNeeded hs.limits k is.1.0 g.before) at is.1.2)
+            (λ must. none (subst (MustRaiseIn hs.limits number) (sym found) must)) in
+            inl (is.0, (w.0, ap (λ k. slot k hs.slots) at ∙ w.1, subst (λ k. IsRaisedAsNeeded hs.limits k w.0 g.before) (sym at) w.2))
       ]
 
 -- a count of accesses changes nothing of a grant
@@ -157,7 +157,7 @@ module _ (size align : ℕ) (hs ks : Heaps) (grant : Granted) (g : Grants size a
   not_live_before = none_if (nat_eq grant.place.realm hs.realm) (range_in grant.place.ticket (heap_at grant.place.heap hs)) (none g.heap)
     where
       none : IsBefore size hs grant g.before → range_in grant.place.ticket (heap_at grant.place.heap hs) ≡ None
-      none (inl old) = ap (range_in grant.place.ticket) old.1.1 ∙ sym (grown_range hs.limits grant.place.heap grant.place.ticket old.1.0 g.before old.1.2) ∙ g.grants.not_live
+      none (inl old) = ap (range_in grant.place.ticket) old.1.1 ∙ sym (raised_range hs.limits grant.place.heap grant.place.ticket old.1.0 g.before old.1.2) ∙ g.grants.not_live
       none (inr new) = ap (range_in grant.place.ticket) new.1
 
   pub others_kept : KeepsOthers grant.place hs ks
@@ -169,7 +169,7 @@ module _ (size align : ℕ) (hs ks : Heaps) (grant : Granted) (g : Grants size a
       fresh t (inr larger) = fresh_none size larger_limit (hs.made + 1) g.before t larger.1
 
       kept : IsBefore size hs grant g.before → KeepsOthersIn grant.place.ticket (slot grant.place.heap hs.slots) (Some g.after)
-      kept (inl old) u apart = g.grants.others u apart ∙ grown_range hs.limits grant.place.heap u old.1.0 g.before old.1.2 ∙ sym (ap (range_in u) old.1.1)
+      kept (inl old) u apart = g.grants.others u apart ∙ raised_range hs.limits grant.place.heap u old.1.0 g.before old.1.2 ∙ sym (ap (range_in u) old.1.1)
       kept (inr new) u apart = g.grants.others u apart ∙ fresh u new.2 ∙ sym (ap (range_in u) new.1)
 
 -- what is made for a request may be large enough for it
@@ -247,13 +247,13 @@ one_found blocks units k j hs a b = elim (cases_lt k j) [
 
 -- where a heap has room, none but memory, for more nodes of the first
 pub none_found : (size align k : ℕ) (hs : Heaps) (r : Refusal) → 1 ≤ size → IsFirstFit (blocks_needed align) (units_needed size align) k hs → IsWhy size align hs r
-    → (r ≡ Memory) × MustGrowIn hs.limits k (heap_at k hs)
+    → (r ≡ Memory) × MustRaiseIn hs.limits k (heap_at k hs)
 none_found size align k hs Empty some first why = absurd (omega (arith, some, why))
 none_found size align k hs TooLarge some first why = absurd (let less = why.0.1 k in let fits = first.0 in omega (arith, less, fits))
 none_found size align k hs Full some first why = absurd (let less = why.0.1 k in let fits = first.0 in omega (arith, less, fits))
 none_found size align k hs Memory some first (inl why) = absurd (let less = why.0.1 k in let fits = first.0 in omega (arith, less, fits))
 none_found size align k hs Memory some first (inr why) =
-    (refl, subst (λ j. MustGrowIn hs.limits j (heap_at j hs)) (one_found (blocks_needed align) (units_needed size align) why.1.0 k hs why.1.1 first) why.1.2)
+    (refl, subst (λ j. MustRaiseIn hs.limits j (heap_at j hs)) (one_found (blocks_needed align) (units_needed size align) why.1.0 k hs why.1.1 first) why.1.2)
 
 -- and where another heap may be made, no reason but its memory
 pub memory_alone : (size align k : ℕ) (hs : Heaps) (r : Refusal) → 1 ≤ size → IsNext size k hs → IsWhy size align hs r → r ≡ Memory

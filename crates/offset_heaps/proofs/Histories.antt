@@ -7,8 +7,8 @@ use Rattle.offset_guarded.specs.Guard.{Guard}
 use Rattle.offset_heaps.specs.declared.place.Granted.{Granted}
 use Rattle.offset_heaps.specs.declared.place.Place.{Place}
 use Rattle.offset_heaps.specs.Heaps.{Heaps, FreesIn, Grants, IsBefore, IsLive, IsSame, Puts, heap_at, range_in, range_of, slot}
-use Rattle.offset_heaps.specs.{Changing.CompactsAll, Changing.PacksIn, Histories.AreSteps, Histories.IsGone, Histories.IsStep, Histories.Keeps, Histories.ResetsAll, Slots.ResetsIn}
-use Rattle.offset_heaps.proofs.Growing.{grown_realm}
+use Rattle.offset_heaps.specs.{Changing.CompactsAll, Changing.CompactsSlot, Histories.AreSteps, Histories.IsGone, Histories.IsStep, Histories.Keeps, Histories.ResetsAll, Slots.ResetsIn}
+use Rattle.offset_heaps.proofs.Raising.{raised_realm}
 use Rattle.offset_heaps.proofs.{Numbers.slot_other, Numbers.slot_past, Numbers.slot_same, Numbers.slot_set, Places.none_if}
 
 -- a number has no heap of this realm
@@ -48,7 +48,7 @@ grant_keeps p size align hs ks grant g gone = record {
 
     lacks : p.heap ≡ grant.place.heap → IsBefore size hs grant g.before → Lacks p.ticket.realm (Some g.after)
     lacks e (inl old) = same_realm p.ticket.realm (heap_at p.heap hs) old.1.0 g.after (ap (λ k. heap_at k hs) e ∙ old.1.1)
-        (g.grants.realm.1 ∙ grown_realm hs.limits grant.place.heap old.1.0 g.before old.1.2) gone.other
+        (g.grants.realm.1 ∙ raised_realm hs.limits grant.place.heap old.1.0 g.before old.1.2) gone.other
     lacks e (inr new) = λ r. elim new.2 [
       | inl usual ↦ absurd (omega (arith, usual.1.realm, g.grants.realm.1, r, gone.made))
       | inr larger ↦ absurd (omega (arith, larger.1.realm, g.grants.realm.1, r, gone.made))
@@ -90,13 +90,13 @@ reset_keeps p hs ks r gone = record {
     lacks None new is was = subst (Lacks p.ticket.realm) (sym is) tt
     lacks (Some before) new is was = subst (Lacks p.ticket.realm) (sym is.1) (same_realm p.ticket.realm (Some before) before is.0 refl (ap (λ (g : Guard). g.realm) is.3) was)
 
-pack_keeps : (p : Place) (hs ks : Heaps) → CompactsAll hs ks → IsGone p hs → IsGone p ks
-pack_keeps p hs ks r gone = record {
+compact_keeps : (p : Place) (hs ks : Heaps) → CompactsAll hs ks → IsGone p hs → IsGone p ks
+compact_keeps p hs ks r gone = record {
   made = subst (λ n. p.ticket.realm ≤ n) (sym (ap (λ (h : Heaps). h.made) r.rest)) gone.made;
   other = lacks (heap_at p.heap hs) (heap_at p.heap ks) (r.heaps p.heap) gone.other;
 }
   where
-    lacks : (o new : Option Guard) → PacksIn o new → Lacks p.ticket.realm o → Lacks p.ticket.realm new
+    lacks : (o new : Option Guard) → CompactsSlot o new → Lacks p.ticket.realm o → Lacks p.ticket.realm new
     lacks None new is was = subst (Lacks p.ticket.realm) (sym is) tt
     lacks (Some before) new is was =
         subst (Lacks p.ticket.realm) (sym is.1) (same_realm p.ticket.realm (Some before) before is.0 refl (ap (λ (g : Guard). g.realm) is.2.serials) was)
@@ -115,7 +115,7 @@ stays_gone p hs ks gone (inr (inr (inl free))) = free_keeps p free.0 hs ks free.
 stays_gone p hs ks gone (inr (inr (inr (inl drop)))) = drop_keeps p drop.0 hs ks drop.1 gone
 stays_gone p hs ks gone (inr (inr (inr (inr (inl reset))))) = reset_keeps p hs ks reset gone
 stays_gone p hs ks gone (inr (inr (inr (inr (inr (inl alter)))))) = alter_keeps p alter.0 hs ks alter.1 gone
-stays_gone p hs ks gone (inr (inr (inr (inr (inr (inr pack)))))) = pack_keeps p hs ks pack gone
+stays_gone p hs ks gone (inr (inr (inr (inr (inr (inr compacts)))))) = compact_keeps p hs ks compacts gone
 
 -- no place of it is live
 gone_range : (p : Place) (o : Option Guard) → Lacks p.ticket.realm o → range_in p.ticket o ≡ None

@@ -11,10 +11,10 @@ use Rattle.offset_heaps.specs.declared.place.Place.{Place}
 use Rattle.offset_heaps.specs.declared.refusal.Refusal.{Refusal}
 use Rattle.offset_heaps.specs.declared.refusal.Refusal.TheVariants.{Empty, TooLarge, Full, Memory}
 use Rattle.offset_heaps.specs.Asking.{IsWhyNone}
-use Rattle.offset_heaps.specs.Heaps.{Heaps, Grants, IsForRoom, IsGrown, IsNext, IsSame, IsWhy, KeepsOthers, MustGrowIn, NoneFits, heap_at, range_in, range_of, room, slot}
-use Rattle.offset_heaps.specs.{Slots.CanHoldIn, Slots.Changes, Slots.Fills, Slots.GrowsIn}
+use Rattle.offset_heaps.specs.Heaps.{Heaps, Grants, IsForRoom, IsRaisedAsNeeded, IsNext, IsSame, IsWhy, KeepsOthers, MustRaiseIn, NoneFits, heap_at, range_in, range_of, room, slot}
+use Rattle.offset_heaps.specs.{Slots.CanHoldIn, Slots.Changes, Slots.Fills, Slots.RaisesIn}
 use Rattle.offset_heaps.specs.Tight.{GrantsTight, IsFirstHolding, IsRefusedForTight, IsServedTight, IsWhyTight, NoneHolds}
-use Rattle.offset_heaps.proofs.{Grants.granted_since, Grants.grown_once, Grants.next_fits, Grants.not_live_before, Grants.others_kept, Grants.range_granted, Growing.grown_range, Growing.must_in, Growing.set_twice}
+use Rattle.offset_heaps.proofs.{Grants.granted_since, Grants.raised_once, Grants.next_fits, Grants.not_live_before, Grants.others_kept, Grants.range_granted, Raising.raised_range, Raising.must_in, Raising.set_twice}
 use Rattle.offset_heaps.proofs.{Numbers.slot_same, Numbers.slot_there, Places.none_if, Places.put_keeps, Places.same_realm, Places.shown, Rooms.can}
 
 -- ---- what a heap holds
@@ -25,23 +25,23 @@ holds_less size align g known some power none = elim (cases_lt (room (blocks_nee
   | inr fits ↦ absurd (let c = can (blocks_needed align) (units_needed size align) g known (omega (arith, some, power)) fits in none (c.0, grant_holds g.space known size align power c.1))
 ]
 
--- a heap that grew holds what it held
-holds_grown : (limits : Limits) (k size align : ℕ) (g h : Guard) → IsGrown limits k g h → CanHoldIn size align (Some g) → CanHoldIn size align (Some h)
-holds_grown limits k size align g h (inr kept) c = subst (λ (z : Guard). CanHoldIn size align (Some z)) (sym kept.1) c
-holds_grown limits k size align g h (inl up) c = subst (λ (z : Guard). CanHoldIn size align (Some z)) (sym up.1) (c.0, (omega (arith, c.1.0, up.0.1), c.1.1))
+-- a heap whose limit was raised holds what it held
+holds_raised : (limits : Limits) (k size align : ℕ) (g h : Guard) → IsRaisedAsNeeded limits k g h → CanHoldIn size align (Some g) → CanHoldIn size align (Some h)
+holds_raised limits k size align g h (inr kept) c = subst (λ (z : Guard). CanHoldIn size align (Some z)) (sym kept.1) c
+holds_raised limits k size align g h (inl up) c = subst (λ (z : Guard). CanHoldIn size align (Some z)) (sym up.1) (c.0, (omega (arith, c.1.0, up.0.1), c.1.1))
 
-holds_grows : (limits : Limits) (k size align : ℕ) (o new : Option Guard) → GrowsIn limits k o new → CanHoldIn size align o → CanHoldIn size align new
-holds_grows limits k size align None new grows c = absurd c
-holds_grows limits k size align (Some g) new grows c = subst (CanHoldIn size align) (sym grows.1) (holds_grown limits k size align g grows.0 grows.2 c)
+holds_raises : (limits : Limits) (k size align : ℕ) (o new : Option Guard) → RaisesIn limits k o new → CanHoldIn size align o → CanHoldIn size align new
+holds_raises limits k size align None new raises c = absurd c
+holds_raises limits k size align (Some g) new raises c = subst (CanHoldIn size align) (sym raises.1) (holds_raised limits k size align g raises.0 raises.2 c)
 
-pub holds_after : (limits : Limits) (number size align : ℕ) (slots now : List (Option Guard)) → number < length slots → Changes number (GrowsIn limits number) slots now
+pub holds_after : (limits : Limits) (number size align : ℕ) (slots now : List (Option Guard)) → number < length slots → Changes number (RaisesIn limits number) slots now
     → CanHoldIn size align (slot number slots) → CanHoldIn size align (slot number now)
 holds_after limits number size align slots now there change c = subst (CanHoldIn size align) (sym (ap (slot number) change.slots ∙ slot_same slots number change.now there))
-    (holds_grows limits number size align (slot number slots) change.now change.by c)
+    (holds_raises limits number size align (slot number slots) change.now change.by c)
 
 -- ---- what a grant leaves
 pub filled_at : (slots now : List (Option Guard)) (limits : Limits) (made realm before after number size align : ℕ) (ticket : Ticket) → number < length slots
-    → (MustGrowIn limits number (slot number slots) → ⊥) → Changes number (λ o p. Fills size align o p ticket) slots now
+    → (MustRaiseIn limits number (slot number slots) → ⊥) → Changes number (λ o p. Fills size align o p ticket) slots now
     → GrantsTight size align (shown slots limits made realm before) (shown now limits made realm after) (record { heap = number; realm = realm; ticket = ticket })
 filled_at slots now limits made realm before after number size align ticket there stays change =
     let by = change.by in
@@ -50,7 +50,7 @@ filled_at slots now limits made realm before after number size align ticket ther
       before = by.before;
       after = by.after;
       heap = by.was;
-      grown = inr (λ must. stays (must_in limits number (slot number slots) by.before by.was must), refl);
+      raised = inr (λ must. stays (must_in limits number (slot number slots) by.before by.was must), refl);
       step = by.step;
       grants = by.grants;
       accesses = by.accesses;
@@ -58,22 +58,22 @@ filled_at slots now limits made realm before after number size align ticket ther
       heaps = ap (λ s. shown s limits made realm after) (change.slots ∙ ap (slice_set slots number) by.is);
     }
 
--- in a heap that grew before, it is one of the heap that was there
-pub filled_grown : (hs between ks : Heaps) (size align number : ℕ) (p : Place) → number < length hs.slots → Changes number (GrowsIn hs.limits number) hs.slots between.slots
-    → between ≡ record hs { slots = between.slots; accesses = between.accesses } → (MustGrowIn hs.limits number (slot number between.slots) → ⊥) → p.heap ≡ number
+-- in a heap that was raised before, it is one of the heap that was there
+pub filled_raised : (hs between ks : Heaps) (size align number : ℕ) (p : Place) → number < length hs.slots → Changes number (RaisesIn hs.limits number) hs.slots between.slots
+    → between ≡ record hs { slots = between.slots; accesses = between.accesses } → (MustRaiseIn hs.limits number (slot number between.slots) → ⊥) → p.heap ≡ number
     → GrantsTight size align between ks p → GrantsTight size align hs ks p
-filled_grown hs between ks size align number p there change rest none at given =
+filled_raised hs between ks size align number p there change rest none at given =
     let g : GrantsTight size align (record hs { slots = between.slots; accesses = between.accesses }) ks p = subst (λ (h : Heaps). GrantsTight size align h ks p) rest given in
     let found : slot number between.slots ≡ change.now = ap (slot number) change.slots ∙ slot_same hs.slots number change.now there in
     let e : change.now ≡ Some g.was = sym found ∙ ap (λ k. slot k between.slots) (sym at) ∙ g.heap in
-    let w = grown_once hs.limits number (slot number hs.slots) change.now change.by g.was g.before e (subst (λ k. IsGrown hs.limits k g.was g.before) at g.grown)
-    (λ must. none (subst (MustGrowIn hs.limits number) (sym found) must)) in
+    let w = raised_once hs.limits number (slot number hs.slots) change.now change.by g.was g.before e (subst (λ k. IsRaisedAsNeeded hs.limits k g.was g.before) at g.raised)
+    (λ must. none (subst (MustRaiseIn hs.limits number) (sym found) must)) in
     record {
       was = w.0;
       before = g.before;
       after = g.after;
       heap = ap (λ k. slot k hs.slots) at ∙ w.1;
-      grown = subst (λ k. IsGrown hs.limits k w.0 g.before) (sym at) w.2;
+      raised = subst (λ k. IsRaisedAsNeeded hs.limits k w.0 g.before) (sym at) w.2;
       step = g.step;
       grants = g.grants;
       accesses = g.accesses;
@@ -87,7 +87,7 @@ filled_grown hs between ks size align number p there change rest none at given =
 pub filled_since : (size align : ℕ) (hs ks ls : Heaps) (p : Place) → IsSame hs ks → GrantsTight size align ks ls p → GrantsTight size align hs ls p
 filled_since size align hs ks ls p same g =
     let h : GrantsTight size align (record hs { accesses = ks.accesses }) ls p = subst (λ (k : Heaps). GrantsTight size align k ls p) same g in
-    record { was = h.was; before = h.before; after = h.after; heap = h.heap; grown = h.grown; step = h.step; grants = h.grants; accesses = h.accesses; realm = h.realm; heaps = h.heaps }
+    record { was = h.was; before = h.before; after = h.after; heap = h.heap; raised = h.raised; step = h.step; grants = h.grants; accesses = h.accesses; realm = h.realm; heaps = h.heaps }
 
 pub filled_if_since : (size align : ℕ) (hs ks ls : Heaps) (r : Result Granted Refusal) → IsSame hs ks → IfOk r (λ g. GrantsTight size align ks ls g.place)
     → IfOk r (λ g. g.is_new ≡ false → GrantsTight size align hs ls g.place)
@@ -109,11 +109,11 @@ module _ (size align : ℕ) (hs ks : Heaps) (p : Place) (g : GrantsTight size al
 
   not_live_filled : range_of p hs ≡ None
   not_live_filled = none_if (nat_eq p.realm hs.realm) (range_in p.ticket (heap_at p.heap hs))
-      (ap (range_in p.ticket) g.heap ∙ sym (grown_range hs.limits p.heap p.ticket g.was g.before g.grown) ∙ g.grants.not_live)
+      (ap (range_in p.ticket) g.heap ∙ sym (raised_range hs.limits p.heap p.ticket g.was g.before g.raised) ∙ g.grants.not_live)
 
   others_filled : KeepsOthers p hs ks
   others_filled = put_keeps hs ks p.heap (Some g.after) slots realms there p refl g.realm
-      (λ u apart. g.grants.others u apart ∙ grown_range hs.limits p.heap u g.was g.before g.grown ∙ sym (ap (range_in u) g.heap))
+      (λ u apart. g.grants.others u apart ∙ raised_range hs.limits p.heap u g.was g.before g.raised ∙ sym (ap (range_in u) g.heap))
 
 -- a request is granted in a heap that was there, or in a new one
 pub not_filled : (size align : ℕ) (hs ks : Heaps) (r : Result Granted Refusal) (P : Granted → Type 0) → IfOk r (λ g. (g.is_new ≡ true) × P g)

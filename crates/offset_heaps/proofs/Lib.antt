@@ -1,5 +1,6 @@
 pub mod Along
 pub mod Changes
+pub mod Compacted
 pub mod Counting
 pub mod Decided
 pub mod DecidedCalls
@@ -13,13 +14,12 @@ pub mod FaultPlaces
 pub mod Finding
 pub mod Foretold
 pub mod Grants
-pub mod Growing
+pub mod Raising
 pub mod Histories
 pub mod Holders
 pub mod Longer
 pub mod Numbers
 pub mod OneHeap
-pub mod Packing
 pub mod Places
 pub mod Refusals
 pub mod Rooms

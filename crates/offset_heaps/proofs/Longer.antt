@@ -5,10 +5,10 @@ use Rattle.offset_guarded.specs.Guard.{Guard}
 use Rattle.offset_guarded.specs.Guard as guarded
 use Rattle.offset_heaps.specs.declared.limits.Limits.{Limits}
 use Rattle.offset_heaps.specs.Extending.{ExtendsIf, ExtendsIn}
-use Rattle.offset_heaps.specs.Heaps.{HasNodesLeft, IsFirstLimit, IsGrown, IsOfKind, MustGrow, grown_limit}
+use Rattle.offset_heaps.specs.Heaps.{HasNodesLeft, IsFirstLimit, IsRaisedAsNeeded, IsOfKind, MustRaise, raised_limit}
 use Rattle.offset_heaps.specs.Twins.{IsTwin}
 use Rattle.offset_heaps.proofs.Twins.{range_twin}
-use Rattle.offset_heaps.proofs.Growing.{enough_left, grown_kind, grown_stays, usual_left}
+use Rattle.offset_heaps.proofs.Raising.{enough_left, raised_kind, raised_stays, usual_left}
 
 -- ---- what becomes of a space
 extended_blocks : (more : ℕ) (v w : View) → Extends more v w true → length w.blocks ≤ length v.blocks + 2
@@ -26,26 +26,26 @@ extended_limit more v w (inr s) = ap (λ (z : View). z.max_allocs) s.2.view
 
 -- ---- whether it can be done
 module _ (limits : Limits) (k more : ℕ) (g h : Guard) (has : k < limits.most → HasNodesLeft limits g) where
-  -- a heap that has to grow has nodes
-  can_before : MustGrow limits k g → g.space.size + more ≤ 4294967295 → CanExtend more g.space
+  -- a heap whose node limit has to be raised has nodes
+  can_before : MustRaise limits k g → g.space.size + more ≤ 4294967295 → CanExtend more g.space
   can_before must fits = let left = has must.0 in (fits, inl (omega (arith, left.2, must.1)))
 
-  can_after : MustGrow limits k g → guarded.IsRaised (grown_limit limits g) g h → g.space.size + more ≤ 4294967295 → CanExtend more h.space
+  can_after : MustRaise limits k g → guarded.IsRaised (raised_limit limits g) g h → g.space.size + more ≤ 4294967295 → CanExtend more h.space
   can_after must raised fits =
       let left = has must.0 in
       let size : h.space.size ≡ g.space.size = ap (λ (z : Guard). z.space.size) raised in
-      let limit : h.space.max_allocs ≡ grown_limit limits g = ap (λ (z : Guard). z.space.max_allocs) raised in
+      let limit : h.space.max_allocs ≡ raised_limit limits g = ap (λ (z : Guard). z.space.max_allocs) raised in
       let blocks : length h.space.blocks ≡ length g.space.blocks = ap (λ (z : Guard). length z.space.blocks) raised in
       (omega (arith, fits, size), inl (omega (arith, left.2, must.1, limit, blocks)))
 
-  pub can_grown : IsGrown limits k g h → g.space.size + more ≤ 4294967295 → (1 ≤ more → CanExtend more h.space) ↔ (1 ≤ more → CanExtend more g.space)
-  can_grown (inl up) fits = (λ _ _. can_before up.0 fits, λ _ _. can_after up.0 up.1 fits)
-  can_grown (inr kept) fits = (λ c some. subst (λ (z : Guard). CanExtend more z.space) kept.1 (c some), λ c some. subst (λ (z : Guard). CanExtend more z.space) (sym kept.1) (c some))
+  pub can_raised : IsRaisedAsNeeded limits k g h → g.space.size + more ≤ 4294967295 → (1 ≤ more → CanExtend more h.space) ↔ (1 ≤ more → CanExtend more g.space)
+  can_raised (inl up) fits = (λ _ _. can_before up.0 fits, λ _ _. can_after up.0 up.1 fits)
+  can_raised (inr kept) fits = (λ c some. subst (λ (z : Guard). CanExtend more z.space) kept.1 (c some), λ c some. subst (λ (z : Guard). CanExtend more z.space) (sym kept.1) (c some))
 
 -- ---- the heap is of its kind, and keeps its realm
 extended_kind : (limits : Limits) (k more : ℕ) (g h : Guard) → IsFirstLimit limits → ExtendsIn limits k more g h → IsOfKind limits k g → IsOfKind limits k h
 extended_kind limits k more g h first e kind =
-    let between = grown_kind limits k g e.between first e.grown kind in
+    let between = raised_kind limits k g e.between first e.raised kind in
     let limit = extended_limit more e.between.space h.space e.step in
     let blocks = extended_blocks more e.between.space h.space e.step in
     let size = e.size in
@@ -58,15 +58,15 @@ extended_kind limits k more g h first e kind =
             (
               omega (arith, limit, left.0),
               omega (arith, limit, left.1),
-              enough_left limits k e.between h (grown_stays limits k g e.between first (usual_left limits k g (inl u)) e.grown) blocks limit u.0 left,
+              enough_left limits k e.between h (raised_stays limits k g e.between first (usual_left limits k g (inl u)) e.raised) blocks limit u.0 left,
             ),
           )
-      | inr l ↦ inr (l.0, omega (arith, size, l.1), limit ∙ grown_four e.grown l ∙ l.2)
+      | inr l ↦ inr (l.0, omega (arith, size, l.1), limit ∙ raised_four e.raised l ∙ l.2)
     ]
   where
-    grown_four : IsGrown limits k g e.between → (limits.most ≤ k) × (1 ≤ g.space.size) × (g.space.max_allocs ≡ 4) → e.between.space.max_allocs ≡ g.space.max_allocs
-    grown_four (inl up) l = absurd (omega (arith, up.0.0, l.0))
-    grown_four (inr kept) l = ap (λ (z : Guard). z.space.max_allocs) kept.1
+    raised_four : IsRaisedAsNeeded limits k g e.between → (limits.most ≤ k) × (1 ≤ g.space.size) × (g.space.max_allocs ≡ 4) → e.between.space.max_allocs ≡ g.space.max_allocs
+    raised_four (inl up) l = absurd (omega (arith, up.0.0, l.0))
+    raised_four (inr kept) l = ap (λ (z : Guard). z.space.max_allocs) kept.1
 
 pub kind_longer : (limits : Limits) (k more : ℕ) (done : Bool) (old new : Option Guard) (before after : Guard) → old ≡ Some before → new ≡ Some after → IsFirstLimit limits
     → ExtendsIf limits k more done before after → IfSome old (IsOfKind limits k) → IfSome new (IsOfKind limits k)
@@ -86,7 +86,7 @@ pub realm_longer : (limits : Limits) (k more : ℕ) (done : Bool) (g h : Guard) 
 realm_longer limits k more true g h e = e.serials.realm
 realm_longer limits k more false g h e = e.1.realm
 
--- every ticket keeps its range, and what can't be done leaves what no answer tells from the heap before
+-- every ticket keeps its range, and what can't be done leaves a heap that later calls answer as the one before
 pub twin_same : (g h : Guard) → guarded.IsSame g h → IsTwin g h
 twin_same g h s = record { space = s.0; serials = λ x live. s.1.cells x; given = s.1.given; realm = s.1.realm }
 

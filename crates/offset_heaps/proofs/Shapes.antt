@@ -5,7 +5,7 @@ use Rattle.offset_guarded.specs.Guard.{Guard, handle_in}
 use Rattle.offset_guarded.specs.declared.ticket.Ticket.{Ticket}
 use Rattle.offset_heaps.specs.declared.limits.Limits.{Limits}
 use Rattle.offset_heaps.specs.{Heaps.IsFirstLimit, Heaps.IsNew, Heaps.IsOfKind, Heaps.larger_limit, Heaps.usual_size, Slots.Serves, Slots.ServesTight}
-use Rattle.offset_heaps.proofs.{Growing.begun_left, Growing.split_blocks, Rooms.some_same, Sound.kind_kept}
+use Rattle.offset_heaps.proofs.{Raising.begun_left, Raising.split_blocks, Rooms.some_same, Sound.kind_kept}
 
 pub size_tight : (n align : ℕ) (v w : View) (h : Handle) → AlignsTight n align v w (Some h) → w.size ≡ v.size
 size_tight n align v w h (inl a) = ap (λ (v : View). v.size) a.1.view

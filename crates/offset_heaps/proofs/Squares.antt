@@ -13,11 +13,11 @@ use Rattle.offset_guarded.specs.Guard.{Guard, handle_in}
 use Rattle.offset_guarded.specs.Guard as guarded
 use Rattle.offset_heaps.specs.Calls.{GoAll, Goes}
 use Rattle.offset_heaps.specs.declared.place.Place.{Place}
-use Rattle.offset_heaps.specs.Heaps.{Heaps, FreesIn, Grants, heap_at, live_of, part, range_in, size_of, slot, total}
-use Rattle.offset_heaps.specs.Relocating.{TakesRange, granted, live_at, square_of, squares, units_in, units_of}
+use Rattle.offset_heaps.specs.Heaps.{Heaps, FreesIn, Grants, heap_at, live_of, part, range_in, units_of_heap, slot, total}
+use Rattle.offset_heaps.specs.Relocating.{TakesRange, granted, live_at, square_of, squares, units_in, size_of}
 use Rattle.offset_heaps.specs.State as state
 use Rattle.offset_heaps.proofs.Decided.{known, known_at}
-use Rattle.offset_heaps.proofs.{Growing.must_in, Numbers.slot_other, Numbers.slot_there}
+use Rattle.offset_heaps.proofs.{Raising.must_in, Numbers.slot_other, Numbers.slot_there}
 
 -- ---- the live units of one heap
 used_part : (x n : ℕ) → used_units (free_part x n) ≡ 0
@@ -98,7 +98,7 @@ gained a b c d u old new less more full sums =
 
 -- the square of the units of a heap
 abbrev pub square_most : Guard → ℕ
-square_most g = size_of g * size_of g
+square_most g = units_of_heap g * units_of_heap g
 
 pub squares_most : (hs : Heaps) → state.IsWellFormed hs → squares hs ≤ total square_most hs.slots
 squares_most hs w = total_most square_of square_most hs.slots (λ k. go (heap_at k hs) (λ g e. known_at hs (known hs w) k g e))
@@ -107,14 +107,14 @@ squares_most hs w = total_most square_of square_most hs.slots (λ k. go (heap_at
     go None is = omega arith
     go (Some g) is =
         let all = adds_up g.space (is g refl) in
-        mul-le (live_of g) (live_of g) (size_of g) (size_of g) (omega (arith, all)) (omega (arith, all))
+        mul-le (live_of g) (live_of g) (units_of_heap g) (units_of_heap g) (omega (arith, all)) (omega (arith, all))
 
 -- ---- a range goes to another heap
 module _ (p q : Place) (hs ks : Heaps) (known_well : state.IsWellFormed hs) (goes : Goes p q hs ks) where
   abbrev ls : Heaps
   ls = goes.between
 
-  s : Grants (units_of p hs) goes.align hs ls (granted q)
+  s : Grants (size_of p hs) goes.align hs ls (granted q)
   s = goes.grants.grants
 
   takes : TakesRange p goes.align hs q.heap
@@ -138,20 +138,20 @@ module _ (p q : Place) (hs ks : Heaps) (known_well : state.IsWellFormed hs) (goe
   from : heap_at p.heap hs ≡ Some f.before
   from = sym (slot_other hs.slots q.heap p.heap (Some s.after) (λ e. takes.1.other (sym e))) ∙ sym (ap (slot p.heap) slots) ∙ f.heap
 
-  grown : live_of s.after ≡ live_of s.before + units_of p hs
+  grown : live_of s.after ≡ live_of s.before + size_of p hs
   grown = elim s.step [
-    | inl a ↦ splits_units (units_needed (units_of p hs) goes.align) (units_of p hs) (padding_to goes.align) s.before.space s.after.space (handle_in q.ticket) a.1.1
+    | inl a ↦ splits_units (units_needed (size_of p hs) goes.align) (size_of p hs) (padding_to goes.align) s.before.space s.after.space (handle_in q.ticket) a.1.1
     | inr a ↦ absurd (let e : false ≡ true = a.0 in cc)
   ]
 
-  grown_size : size_of s.after ≡ size_of s.before
+  grown_size : units_of_heap s.after ≡ units_of_heap s.before
   grown_size = elim s.step [
     | inl a ↦ ap (λ (v : View). v.size) a.1.1.view
     | inr a ↦ absurd (let e : false ≡ true = a.0 in cc)
   ]
 
   -- the units of the range are those of the block that is freed
-  freed : units_of p hs ≡ f.step.block.size
+  freed : size_of p hs ≡ f.step.block.size
   freed =
       let of_heap = units_if (nat_eq p.realm hs.realm) (range_in p.ticket (heap_at p.heap hs)) takes.0 ∙ ap (λ (o : Option Guard). units_in (range_in p.ticket o)) from in
       let some : 1 ≤ units_in (guarded.range_of p.ticket f.before) = subst (λ n. 1 ≤ n) of_heap takes.0 in
@@ -159,10 +159,10 @@ module _ (p q : Place) (hs ks : Heaps) (known_well : state.IsWellFormed hs) (goe
       ∙ units_if (guarded.fits p.ticket f.before) (named.range_of p.ticket.name f.before.space) some
       ∙ freed_size p.ticket.name f.before.space f.after.space f.step (known_at hs (known hs known_well) p.heap f.before from)
 
-  lost : live_of f.after + units_of p hs ≡ live_of f.before
+  lost : live_of f.after + size_of p hs ≡ live_of f.before
   lost = omega (arith, freed, freed_units p.ticket.name f.before.space f.after.space f.step)
 
-  lost_size : size_of f.after ≡ size_of f.before
+  lost_size : units_of_heap f.after ≡ units_of_heap f.before
   lost_size = ap (λ (v : View). v.size) f.step.view
 
   both_put : (g : Guard → ℕ) → total g ks.slots + g f.before + g s.before ≡ total g hs.slots + g s.after + g f.after
@@ -175,16 +175,16 @@ module _ (p q : Place) (hs ks : Heaps) (known_well : state.IsWellFormed hs) (goe
       let target = ap (part g) to in
       omega (arith, first, second, there, last, source, target)
 
-  pub squares_grow : squares ks ≡ squares hs + 2 * (units_of p hs * (live_at q.heap hs - live_at p.heap hs)) + 2 * (units_of p hs * units_of p hs)
+  pub squares_grow : squares ks ≡ squares hs + 2 * (size_of p hs * (live_at q.heap hs - live_at p.heap hs)) + 2 * (size_of p hs * size_of p hs)
   squares_grow =
       let source : live_at p.heap hs ≡ live_of f.before = ap (part live_of) from in
       let target : live_at q.heap hs ≡ live_of s.before = ap (part live_of) to in
       let full = takes.1.full in
-      gained (live_at p.heap hs) (live_at q.heap hs) (live_of f.after) (live_of s.after) (units_of p hs) (squares hs) (squares ks) (omega (arith, lost, source)) (omega (arith, grown, target))
+      gained (live_at p.heap hs) (live_at q.heap hs) (live_of f.after) (live_of s.after) (size_of p hs) (squares hs) (squares ks) (omega (arith, lost, source)) (omega (arith, grown, target))
       full (omega (arith, both_put square_of, ap (λ n. n * n) source, ap (λ n. n * n) target))
 
   pub squares_more : squares hs + 2 ≤ squares ks
-  squares_more = let one = mul-le 1 1 (units_of p hs) (units_of p hs) takes.0 takes.0 in omega (arith, squares_grow, one)
+  squares_more = let one = mul-le 1 1 (size_of p hs) (size_of p hs) takes.0 takes.0 in omega (arith, squares_grow, one)
 
   pub sizes_stay : total square_most ks.slots ≡ total square_most hs.slots
   sizes_stay = omega (arith, both_put square_most, ap (λ n. n * n) grown_size, ap (λ n. n * n) lost_size)

@@ -6,7 +6,7 @@ use Rattle.offset_guarded.specs.Guard.{Guard}
 use Rattle.offset_heaps.specs.declared.limits.Limits.{Limits}
 use Rattle.offset_heaps.specs.declared.place.Place.{Place}
 use Rattle.offset_heaps.specs.Heaps.{Heaps, heap_at, live_of, part, range_in, room_of, slot}
-use Rattle.offset_heaps.specs.Relocating.{TakesUnits, TakesRange, live_at, units_in, units_of}
+use Rattle.offset_heaps.specs.Relocating.{TakesUnits, TakesRange, live_at, units_in, size_of}
 use Rattle.offset_heaps.proofs.{Numbers.room_there, Places.same_realm}
 
 -- before the first heap that has room, and behind the last number, none takes units
@@ -34,13 +34,13 @@ taker_there limits own blocks units live count from slots None long h = tt
 taker_there limits own blocks units live count from slots (Some i) long h = let l = h.0 in omega (arith, long, l)
 
 module _ (p : Place) (align : ℕ) (hs : Heaps) (size live : ℕ) (here : p.realm ≡ hs.realm) (u : size ≡ units_in (range_in p.ticket (heap_at p.heap hs))) (l : live ≡ part live_of (heap_at p.heap hs)) where
-  pub units_here : size ≡ units_of p hs
-  units_here = u ∙ ap units_in (sym (same_realm p hs here))
+  pub size_here : size ≡ size_of p hs
+  size_here = u ∙ ap units_in (sym (same_realm p hs here))
 
   pub takes_range : (k : ℕ) → 1 ≤ size → TakesUnits hs.limits p.heap (blocks_needed align) (units_needed size align) live hs.slots k → TakesRange p align hs k
-  takes_range k some t = subst (λ n. (1 ≤ n) × TakesUnits hs.limits p.heap (blocks_needed align) (units_needed n align) (live_at p.heap hs) hs.slots k) units_here
+  takes_range k some t = subst (λ n. (1 ≤ n) × TakesUnits hs.limits p.heap (blocks_needed align) (units_needed n align) (live_at p.heap hs) hs.slots k) size_here
       (some, subst (λ n. TakesUnits hs.limits p.heap (blocks_needed align) (units_needed size align) n hs.slots k) l t)
 
   pub takes_units : (k : ℕ) → TakesRange p align hs k → TakesUnits hs.limits p.heap (blocks_needed align) (units_needed size align) live hs.slots k
-  takes_units k t = subst (λ n. TakesUnits hs.limits p.heap (blocks_needed align) (units_needed n align) live hs.slots k) (sym units_here)
-      (subst (λ n. TakesUnits hs.limits p.heap (blocks_needed align) (units_needed (units_of p hs) align) n hs.slots k) (sym l) t.1)
+  takes_units k t = subst (λ n. TakesUnits hs.limits p.heap (blocks_needed align) (units_needed n align) live hs.slots k) (sym size_here)
+      (subst (λ n. TakesUnits hs.limits p.heap (blocks_needed align) (units_needed (size_of p hs) align) n hs.slots k) (sym l) t.1)

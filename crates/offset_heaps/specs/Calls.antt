@@ -12,7 +12,7 @@ use Rattle.offset_heaps.specs.declared.refusal.Refusal.{Refusal}
 use Rattle.offset_heaps.specs.declared.refusal.Refusal.TheVariants.{Empty, Memory}
 use Rattle.offset_heaps.specs.Heaps.{Heaps, FreesIn, Grants, IsFirstFit, IsLive, IsNext, IsSame, IsWhy, NoneFits, Puts, empties, heap_at, is_empty}
 use Rattle.offset_heaps.specs.Histories.{ResetsAll}
-use Rattle.offset_heaps.specs.Relocating.{IsTaker, NoneTakes, granted, units_of}
+use Rattle.offset_heaps.specs.Relocating.{IsTaker, NoneTakes, granted, size_of}
 use Rattle.offset_heaps.specs.State.{IsWellFormed}
 use Rattle.offset_heaps.specs.Tight.{GrantsTight, IsFirstHolding, IsWhyTight, NoneHolds}
 use Rattle.offset_heaps.specs.Twins.{AreTwins}
@@ -48,7 +48,7 @@ pub record Relocates (p : Place) (align : ℕ) (hs ks : Heaps) (r : Option Place
   pub none : r ≡ None ↔ NoneTakes p align hs
   pub same : r ≡ None → IsSame hs ks
   pub first : IfSome r (λ q. IsTaker p align hs q.heap)
-  pub grants : IfSome r (λ q. Grants (units_of p hs) align hs ks (granted q))
+  pub grants : IfSome r (λ q. Grants (size_of p hs) align hs ks (granted q))
 
 -- a range goes to another heap: a second range is granted there, and the first one is freed
 pub record Goes (p q : Place) (hs ks : Heaps) : Type 0 where
@@ -98,7 +98,7 @@ pub record Lengthens (k more : ℕ) (hs ks : Heaps) (r : Result Bool AllocError)
   pub step : IfOk r (λ d. IsSome (heap_at k hs) → ExtendsHeap k more d hs ks)
 
 -- `compact_heap`
-pub record Packs (k : ℕ) (hs ks : Heaps) (r : Bool) : Type 0 where
+pub record CompactsOne (k : ℕ) (hs ks : Heaps) (r : Bool) : Type 0 where
   pub done : IsTrue r ↔ IsSome (heap_at k hs)
   pub same : r ≡ false → IsSame hs ks
   pub step : r ≡ true → CompactsHeap k hs ks
@@ -154,7 +154,7 @@ Takes (Give_up k) hs ks reply = (r : Bool) × (reply ≡ Was_done r) × GivesUp 
 Takes Reset hs ks reply = (reply ≡ Nothing) × ResetsAll hs ks
 Takes (Resize how p) hs ks reply = (r : Option Bool) × (reply ≡ Resized r) × TakesSize how p hs ks r
 Takes (Extend_heap k more) hs ks reply = (r : Result Bool AllocError) × (reply ≡ Extended r) × Lengthens k more hs ks r
-Takes (Compact_heap k) hs ks reply = (r : Bool) × (reply ≡ Was_done r) × Packs k hs ks r
+Takes (Compact_heap k) hs ks reply = (r : Bool) × (reply ≡ Was_done r) × CompactsOne k hs ks r
 Takes Compact_all hs ks reply = (reply ≡ Nothing) × CompactsAll hs ks
 Takes (Make_room k size) hs ks reply = (r : Option RoomCost) × (reply ≡ Room_made r) × TakesRoom k size hs ks r
 

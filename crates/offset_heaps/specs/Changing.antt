@@ -17,7 +17,7 @@ use Rattle.offset_heaps.specs.declared.limits.Limits.{Limits}
 use Rattle.offset_heaps.specs.declared.place.Place.{Place}
 use Rattle.offset_heaps.specs.declared.resize.Resize.{Resize}
 use Rattle.offset_heaps.specs.declared.resize.Resize.TheVariants.{Shrink, Grow}
-use Rattle.offset_heaps.specs.Heaps.{Heaps, Puts, heap_at, range_of}
+use Rattle.offset_heaps.specs.Heaps.{HasFewNodes, Heaps, Puts, heap_at, range_of}
 
 -- the heap of a number, which is there, is another one now, and all else stays
 pub record Alters (k : ℕ) (P : Guard → Guard → Type 0) (hs ks : Heaps) : Type 0 where
@@ -73,13 +73,9 @@ abbrev pub is_less : Wanted → Bool
 is_less (Less n) = true
 is_less (More n) = false
 
--- few nodes of a usual heap are unused: fewer than four, where its node limit is below the largest one
-abbrev pub IsNear : Limits → ℕ → Guard → Type 0
-IsNear limits k g = (k < limits.most) × (g.space.max_allocs < limits.max_allocs) × (g.space.max_allocs < length g.space.blocks + 4)
-
 -- the nodes of a heap allow it: a range that becomes smaller may add a block
 abbrev pub HasNodesFor : Limits → ℕ → Wanted → Guard → Type 0
-HasNodesFor limits k (Less n) g = IsNear limits k g → ⊥
+HasNodesFor limits k (Less n) g = HasFewNodes 4 limits k g → ⊥
 HasNodesFor limits k (More n) g = Unit {0}
 
 -- how many blocks it may add
@@ -144,13 +140,13 @@ abbrev pub IsCalledAt : {A N F : Type 0} → (N → ℕ) → (F → ℕ → Move
 IsCalledAt number step f x g = IsCalledWith number (λ p m q. step p x.0 m q) f x.1 g
 
 -- a heap is compacted, where there is one
-abbrev pub PacksIn : Option Guard → Option Guard → Type 0
-PacksIn None new = new ≡ None
-PacksIn (Some g) new = (h : Guard) × (new ≡ Some h) × CompactsIn g h
+abbrev pub CompactsSlot : Option Guard → Option Guard → Type 0
+CompactsSlot None new = new ≡ None
+CompactsSlot (Some g) new = (h : Guard) × (new ≡ Some h) × CompactsIn g h
 
 -- all heaps are compacted, and nothing else changes
 pub record CompactsAll (hs ks : Heaps) : Type 0 where
-  pub heaps : (k : ℕ) → PacksIn (heap_at k hs) (heap_at k ks)
+  pub heaps : (k : ℕ) → CompactsSlot (heap_at k hs) (heap_at k ks)
   pub rest : ks ≡ record hs { slots = ks.slots; accesses = ks.accesses }
 
 -- room for a request is made in a heap, at a cost: a closure is called with the moves

@@ -5,17 +5,17 @@ use Rattle.offset_guarded.specs.Guard.{Guard}
 use Rattle.offset_guarded.specs.Guard as guarded
 use Rattle.offset_heaps.specs.declared.limits.Limits.{Limits}
 use Rattle.offset_heaps.specs.Changing.{Alters}
-use Rattle.offset_heaps.specs.Heaps.{Heaps, IsGrown}
+use Rattle.offset_heaps.specs.Heaps.{Heaps, IsRaisedAsNeeded}
 
 -- the heap of a number, where there is one, can have so many units more
 abbrev pub CanExtendIn : ℕ → Option Guard → Type 0
 CanExtendIn more None = ⊥
 CanExtendIn more (Some g) = 1 ≤ more → CanExtend more g.space
 
--- a heap gets so many units more at its end, and every ticket keeps its range. Before, it grows where it has to for a grant
+-- a heap gets so many units more at its end, and every ticket keeps its range. Before, it is raised as needed for a grant
 pub record ExtendsIn (limits : Limits) (k more : ℕ) (g h : Guard) : Type 0 where
   pub between : Guard
-  pub grown : IsGrown limits k g between
+  pub raised : IsRaisedAsNeeded limits k g between
   pub step : Extends more between.space h.space true
   pub size : h.space.size ≡ g.space.size + more
   pub serials : guarded.KeepsSerials g h

@@ -96,24 +96,27 @@ IsNext size k hs = (hs.made < last_realm)
     × ((IsUsual size hs × IsSpareUsual size k hs × ((j : ℕ) → j < k → IsSpareUsual size j hs → ⊥))
     ⊎ ((IsUsual size hs → ⊥) × IsSpareLarger k hs × ((j : ℕ) → j < k → IsSpareLarger j hs → ⊥)))
 
--- the node limit of a usual heap has to grow before a grant: it is below the largest one, and fewer than five
--- nodes are unused
-abbrev pub MustGrow : Limits → ℕ → Guard → Type 0
-MustGrow limits k g = (k < limits.most) × (g.space.max_allocs < limits.max_allocs) × (g.space.max_allocs < length g.space.blocks + 5)
+-- fewer than n nodes of a usual heap are unused, and its node limit is below the largest one
+abbrev pub HasFewNodes : ℕ → Limits → ℕ → Guard → Type 0
+HasFewNodes n limits k g = (k < limits.most) × (g.space.max_allocs < limits.max_allocs) × (g.space.max_allocs < length g.space.blocks + n)
+
+-- the node limit of the heap of a number has to be raised before a grant
+abbrev pub MustRaise : Limits → ℕ → Guard → Type 0
+MustRaise limits k g = HasFewNodes 5 limits k g
 
 -- the same of the heap of a number, where there is one
-abbrev pub MustGrowIn : Limits → ℕ → Option Guard → Type 0
-MustGrowIn limits k None = ⊥
-MustGrowIn limits k (Some g) = MustGrow limits k g
+abbrev pub MustRaiseIn : Limits → ℕ → Option Guard → Type 0
+MustRaiseIn limits k None = ⊥
+MustRaiseIn limits k (Some g) = MustRaise limits k g
 
 -- the limit that it has then: twice as much, and at most the largest one
-abbrev pub grown_limit : Limits → Guard → ℕ
-grown_limit limits g = min (2 * g.space.max_allocs) limits.max_allocs
+abbrev pub raised_limit : Limits → Guard → ℕ
+raised_limit limits g = min (2 * g.space.max_allocs) limits.max_allocs
 
--- a heap as a grant finds it: under that limit exactly where it has to grow, and else as it was
-abbrev pub IsGrown : Limits → ℕ → Guard → Guard → Type 0
-IsGrown limits k g h = (MustGrow limits k g × guarded.IsRaised (grown_limit limits g) g h)
-    ⊎ ((MustGrow limits k g → ⊥) × (h ≡ g))
+-- a heap as a grant finds it: under that limit exactly where it has to be raised, and else as it was
+abbrev pub IsRaisedAsNeeded : Limits → ℕ → Guard → Guard → Type 0
+IsRaisedAsNeeded limits k g h = (MustRaise limits k g × guarded.IsRaised (raised_limit limits g) g h)
+    ⊎ ((MustRaise limits k g → ⊥) × (h ≡ g))
 
 -- no heap has room for a request of at least one unit
 abbrev pub IsUnmet : ℕ → ℕ → Heaps → Type 0
@@ -125,13 +128,13 @@ MayEverFit size hs = IsUsual size hs ⊎ (1 ≤ hs.limits.most_larger)
 
 -- why a request is refused. Empty: it is for no unit. TooLarge: no heap has room, and none may ever be large enough. Full:
 -- no heap has room, and though one may be large enough, none may be made for it now. Memory: none has room, and one may be
--- made; or the first one that has room has to grow; but the memory for that was refused
+-- made; or the limit of the first one that has room has to be raised; but the memory for that was refused
 abbrev pub IsWhy : ℕ → ℕ → Heaps → Refusal → Type 0
 IsWhy size align hs Empty = size ≡ 0
 IsWhy size align hs TooLarge = IsUnmet size align hs × (MayEverFit size hs → ⊥)
 IsWhy size align hs Full = IsUnmet size align hs × MayEverFit size hs × ((k : ℕ) → IsNext size k hs → ⊥)
 IsWhy size align hs Memory = (IsUnmet size align hs × ((k : ℕ) × IsNext size k hs))
-    ⊎ ((1 ≤ size) × ((k : ℕ) × IsFirstFit (blocks_needed align) (units_needed size align) k hs × MustGrowIn hs.limits k (heap_at k hs)))
+    ⊎ ((1 ≤ size) × ((k : ℕ) × IsFirstFit (blocks_needed align) (units_needed size align) k hs × MustRaiseIn hs.limits k (heap_at k hs)))
 
 -- a refusal for room
 abbrev pub IsForRoom : Result Granted Refusal → Type 0
@@ -169,11 +172,11 @@ abbrev pub IsOfKind : Limits → ℕ → Guard → Type 0
 IsOfKind limits k g = ((k < limits.most) × (usual_size limits k ≤ g.space.size) × HasNodesLeft limits g)
     ⊎ ((limits.most ≤ k) × (1 ≤ g.space.size) × (g.space.max_allocs ≡ larger_limit))
 
--- the heap of a grant, as it was before: one that was there, grown where it has to; a new usual one of its number, or one of
+-- the heap of a grant, as it was before: one that was there, raised as needed; a new usual one of its number, or one of
 -- the request's own size
 abbrev pub IsBefore : ℕ → Heaps → Granted → Guard → Type 0
 IsBefore size hs grant g = ((grant.is_new ≡ false)
-    × ((was : Guard) × (heap_at grant.place.heap hs ≡ Some was) × IsGrown hs.limits grant.place.heap was g))
+    × ((was : Guard) × (heap_at grant.place.heap hs ≡ Some was) × IsRaisedAsNeeded hs.limits grant.place.heap was g))
     ⊎ ((grant.is_new ≡ true) × (heap_at grant.place.heap hs ≡ None)
     × ((IsUsual size hs × IsNew (usual_size hs.limits grant.place.heap) hs.limits.first_allocs (hs.made + 1) g)
     ⊎ ((IsUsual size hs → ⊥) × IsNew size larger_limit (hs.made + 1) g)))
@@ -268,9 +271,9 @@ abbrev pub largest_room : List (Option Guard) → ℕ
 largest_room [] = 0
 largest_room (o ∷ slots) = max (room_of 1 o) (largest_room slots)
 
--- the units of a heap, and those that are live and free
-abbrev pub size_of : Guard → ℕ
-size_of g = g.space.size
+-- the units of a heap, and those of them that are live and free
+abbrev pub units_of_heap : Guard → ℕ
+units_of_heap g = g.space.size
 
 abbrev pub live_of : Guard → ℕ
 live_of g = used_units g.space.blocks
@@ -299,7 +302,7 @@ empties slots = total (λ g. if nat_eq (used_of g.space.blocks) 0 then 1 else 0)
 -- the numbers of all heaps
 pub record AreTotals (t : Totals) (slots : List (Option Guard)) : Type 0 where
   pub heaps : t.heaps ≡ heap_count slots
-  pub units : t.units ≡ total size_of slots
+  pub units : t.units ≡ total units_of_heap slots
   pub live_units : t.live_units ≡ total live_of slots
   pub free_units : t.free_units ≡ total free_of slots
   pub largest : t.largest_free_region ≡ largest_room slots

@@ -9,15 +9,15 @@ use Rattle.offset_guarded.specs.declared.ticket.Ticket.{Ticket}
 use Rattle.offset_heaps.specs.declared.place.Place.{Place}
 use Rattle.offset_heaps.specs.declared.limits.Limits.{Limits}
 use Rattle.offset_heaps.specs.declared.place.Granted.{Granted}
-use Rattle.offset_heaps.specs.Heaps.{Heaps, MustGrowIn, heap_at, live_of, part, range_of, room_of, slot, total}
+use Rattle.offset_heaps.specs.Heaps.{Heaps, MustRaiseIn, heap_at, live_of, part, range_of, room_of, slot, total}
 
 -- the units of a range, or 0 where there is none
 abbrev pub units_in : Option Range → ℕ
 units_in r = unwrap_or (option_map (λ (r : Range). r.size) r) 0
 
 -- the units of the range of a place, or 0 where it is not live
-abbrev pub units_of : Place → Heaps → ℕ
-units_of p hs = units_in (range_of p hs)
+abbrev pub size_of : Place → Heaps → ℕ
+size_of p hs = units_in (range_of p hs)
 
 -- the live units of the heap of a number
 abbrev pub live_at : ℕ → Heaps → ℕ
@@ -32,17 +32,17 @@ abbrev pub squares : Heaps → ℕ
 squares hs = total square_of hs.slots
 
 -- a heap other than `own` takes a range of `own`, which has `live` live units: it has room for the units and the blocks,
--- and need not grow for them, and it has at least as many live units
+-- and its node limit need not be raised for them, and it has at least as many live units
 pub record TakesUnits (limits : Limits) (own blocks units live : ℕ) (slots : List (Option Guard)) (k : ℕ) : Type 0 where
   pub other : k ≢ own
   pub room : units ≤ room_of blocks (slot k slots)
-  pub stays : MustGrowIn limits k (slot k slots) → ⊥
+  pub stays : MustRaiseIn limits k (slot k slots) → ⊥
   pub full : live ≤ part live_of (slot k slots)
 
 -- a heap takes the range of a place, from a multiple of align on
 abbrev pub TakesRange : Place → ℕ → Heaps → ℕ → Type 0
-TakesRange p align hs k = (1 ≤ units_of p hs)
-    × TakesUnits hs.limits p.heap (blocks_needed align) (units_needed (units_of p hs) align) (live_at p.heap hs) hs.slots k
+TakesRange p align hs k = (1 ≤ size_of p hs)
+    × TakesUnits hs.limits p.heap (blocks_needed align) (units_needed (size_of p hs) align) (live_at p.heap hs) hs.slots k
 
 -- it is the first one that does
 abbrev pub IsTaker : Place → ℕ → Heaps → ℕ → Type 0

@@ -8,7 +8,7 @@ use Rattle.offset_guarded.specs.Guard.{Guard, HasSerialLeft, handle_in}
 use Rattle.offset_guarded.specs.Guard as guarded
 use Rattle.offset_guarded.specs.declared.ticket.Ticket.{Ticket}
 use Rattle.offset_heaps.specs.declared.limits.Limits.{Limits}
-use Rattle.offset_heaps.specs.Heaps.{IsGrown, slot, range_in}
+use Rattle.offset_heaps.specs.Heaps.{IsRaisedAsNeeded, slot, range_in}
 
 -- a heap grants a request
 pub record Serves (size align : ℕ) (old new : Option Guard) (t : Ticket) : Type 0 where
@@ -21,10 +21,10 @@ pub record Serves (size align : ℕ) (old new : Option Guard) (t : Ticket) : Typ
   pub accesses : after.space.accesses ≤ before.space.accesses + 128
   pub aligned : t.offset % align ≡ 0
 
--- a heap grows where it has to, before a grant
-abbrev pub GrowsIn : Limits → ℕ → Option Guard → Option Guard → Type 0
-GrowsIn limits k None new = new ≡ None
-GrowsIn limits k (Some g) new = (h : Guard) × (new ≡ Some h) × IsGrown limits k g h
+-- the node limit of a heap is raised as needed, before a grant
+abbrev pub RaisesIn : Limits → ℕ → Option Guard → Option Guard → Type 0
+RaisesIn limits k None new = new ≡ None
+RaisesIn limits k (Some g) new = (h : Guard) × (new ≡ Some h) × IsRaisedAsNeeded limits k g h
 
 -- a heap has a serial left, and a free block that holds a request, with room for the blocks that it may add
 abbrev pub CanHoldIn : ℕ → ℕ → Option Guard → Type 0

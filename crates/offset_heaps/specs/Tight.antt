@@ -7,7 +7,7 @@ use Rattle.offset_guarded.specs.Guard as guarded
 use Rattle.offset_heaps.specs.declared.place.Place.{Place}
 use Rattle.offset_heaps.specs.declared.refusal.Refusal.{Refusal}
 use Rattle.offset_heaps.specs.declared.refusal.Refusal.TheVariants.{Empty, TooLarge, Full, Memory}
-use Rattle.offset_heaps.specs.Heaps.{Heaps, IsGrown, IsNext, MayEverFit, MustGrowIn, Puts, heap_at}
+use Rattle.offset_heaps.specs.Heaps.{Heaps, IsRaisedAsNeeded, IsNext, MayEverFit, MustRaiseIn, Puts, heap_at}
 use Rattle.offset_heaps.specs.Slots.{CanHoldIn}
 
 -- no heap holds a request
@@ -18,13 +18,13 @@ NoneHolds size align hs = (k : ℕ) → CanHoldIn size align (heap_at k hs) → 
 abbrev pub IsFirstHolding : ℕ → ℕ → ℕ → Heaps → Type 0
 IsFirstHolding size align k hs = CanHoldIn size align (heap_at k hs) × ((j : ℕ) → j < k → CanHoldIn size align (heap_at j hs) → ⊥)
 
--- a tight grant in a heap that was there, grown where it has to: a step of that heap, which all others do not see
+-- a tight grant in a heap that was there, raised as needed: a step of that heap, which all others do not see
 pub record GrantsTight (size align : ℕ) (hs ks : Heaps) (p : Place) : Type 0 where
   pub was : Guard
   pub before : Guard
   pub after : Guard
   pub heap : heap_at p.heap hs ≡ Some was
-  pub grown : IsGrown hs.limits p.heap was before
+  pub raised : IsRaisedAsNeeded hs.limits p.heap was before
   pub step : AlignsTight size align before.space after.space (Some (handle_in p.ticket))
   pub grants : guarded.Grants size before after p.ticket
   pub accesses : after.space.accesses ≤ before.space.accesses + 140 + 6 * length (listed_from (down size) before.space.bins)
@@ -37,13 +37,13 @@ IsUnheld size align hs = (1 ≤ size) × NoneHolds size align hs
 
 -- why a tight request is refused. Empty: it is for no unit. TooLarge: no heap holds it, and none may ever be large enough.
 -- Full: no heap holds it, and though one may be large enough, none may be made for it now. Memory: none holds it, and one may
--- be made; or the first one that holds it has to grow; but the memory for that was refused
+-- be made; or the limit of the first one that holds it has to be raised; but the memory for that was refused
 abbrev pub IsWhyTight : ℕ → ℕ → Heaps → Refusal → Type 0
 IsWhyTight size align hs Empty = size ≡ 0
 IsWhyTight size align hs TooLarge = IsUnheld size align hs × (MayEverFit size hs → ⊥)
 IsWhyTight size align hs Full = IsUnheld size align hs × MayEverFit size hs × ((k : ℕ) → IsNext size k hs → ⊥)
 IsWhyTight size align hs Memory = (IsUnheld size align hs × ((k : ℕ) × IsNext size k hs))
-    ⊎ ((1 ≤ size) × ((k : ℕ) × IsFirstHolding size align k hs × MustGrowIn hs.limits k (heap_at k hs)))
+    ⊎ ((1 ≤ size) × ((k : ℕ) × IsFirstHolding size align k hs × MustRaiseIn hs.limits k (heap_at k hs)))
 
 -- such a request would be granted, if memory is given: some heap holds it, or another may be made
 abbrev pub IsServedTight : ℕ → ℕ → Heaps → Type 0

@@ -1,11 +1,11 @@
--- Heaps that no answer tells apart.
+-- Heaps of which every later call returns the same.
 use Rattle.std.specs.Prelude.{◌≡◌, ℕ, Option, Some, None}
 use Rattle.offset_allocator.specs.Ranges as named
 use Rattle.offset_allocator.specs.Relations.{SameState}
 use Rattle.offset_guarded.specs.Guard.{Guard, serial_of}
 use Rattle.offset_heaps.specs.Heaps.{Heaps, heap_at}
 
--- no answer tells one heap from the other: their spaces are in the same state, and each live name has the same serial
+-- every later call returns the same for both heaps: their spaces are in the same state, and each live name has the same serial
 pub record IsTwin (g h : Guard) : Type 0 where
   pub space : SameState g.space h.space
   pub serials : (x : ℕ) → named.IsLive x g.space → serial_of x h ≡ serial_of x g

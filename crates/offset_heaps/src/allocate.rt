@@ -3,7 +3,7 @@
 ghost use Rattle.std.specs.Prelude.{ℕ, ◌≡◌, ◌↔◌, ◌+◌, ◌*◌, ◌%◌, ◌^◌, ◌<◌, ◌≤◌, ◌⊎◌, None, Some, Ok, Err};
 ghost use Rattle.std.specs.Prelude.{false, true, length, IsErr, IsTrue, IfOk, IfErr, IfSome, MatchOption, OnErr};
 ghost use Rattle.offset_allocator.specs.Requests.{blocks_needed, units_needed};
-ghost use Rattle.offset_heaps.specs.Slots.{Changes, GrowsIn, IsBelow};
+ghost use Rattle.offset_heaps.specs.Slots.{Changes, RaisesIn, IsBelow};
 
 use crate::index::LARGER_KEY;
 use crate::limits::usual_room;
@@ -33,7 +33,7 @@ impl<T: Tables> HeapsOf<T> {
     ghost use Rattle.offset_heaps.specs.Heaps.{heap_at, range_of, KeepsOthers, Grants, IsFirstFit, IsNext};
     ghost use Rattle.offset_heaps.specs.Heaps.{IsSame, IsSpareLarger, IsSpareUsual, IsUsual, IsWhy, NoneFits};
     ghost use Rattle.offset_heaps.specs.Heaps.{TakesFewSteps, Adds, IsForRoom, IsOfKind, IsWhyNotMade};
-    ghost use Rattle.offset_heaps.specs.Heaps.{MustGrowIn, last_realm, numbers, room_of};
+    ghost use Rattle.offset_heaps.specs.Heaps.{MustRaiseIn, last_realm, numbers, room_of};
 
     // The first heap that has room for a request.
     pub(crate) fn first_fit(&mut self, units: u64, align: u32) -> Option<u32>
@@ -91,31 +91,31 @@ impl<T: Tables> HeapsOf<T> {
             .first_at_least(LARGER_KEY as u64, &mut self.accesses)
     }
 
-    // Doubles the node limit of the heap of a number, where it has to grow before a grant.
-    pub(crate) fn grow(&mut self, number: u32) -> Result<(), AllocError>
+    // Doubles the node limit of the heap of a number, where it has to be raised before a grant.
+    pub(crate) fn raise(&mut self, number: u32) -> Result<(), AllocError>
         requires there { number < length self.old.slots }
-        ensures grows { IfOk result (λ _.
-            Changes number (GrowsIn self.old.limits number) self.old.slots self.new.slots) }
+        ensures raises { IfOk result (λ _.
+            Changes number (RaisesIn self.old.limits number) self.old.slots self.new.slots) }
         ensures rest { self.new ≡ record self.old { slots = self.new.slots; accesses = self.new.accesses } }
-        // It need not grow again, and has room for as much as before.
-        ensures stays { IfOk result (λ _. MustGrowIn self.old.limits number (heap_at number self.new) → ⊥) }
+        // The limit need not be raised again, and the heap has room for as much as before.
+        ensures stays { IfOk result (λ _. MustRaiseIn self.old.limits number (heap_at number self.new) → ⊥) }
         ensures room { IfOk result (λ _. (blocks : ℕ) → blocks ≤ 2
             → room_of blocks (heap_at number self.new) ≡ room_of blocks (heap_at number self.old)) }
-        ensures must { IsErr result → MustGrowIn self.old.limits number (heap_at number self.old) }
+        ensures must { IsErr result → MustRaiseIn self.old.limits number (heap_at number self.old) }
         ensures same { IsErr result → IsSame self.old self.new }
         ensures steps { self.new.accesses ≡ self.old.accesses + 1 }
     {
         self.slots
-            .grow(self.alloc, number, self.limits, &mut self.accesses)
+            .raise(self.alloc, number, self.limits, &mut self.accesses)
     }
 
-    // Grants a request in the heap of a number, which has room for it and need not grow.
+    // Grants a request in the heap of a number, which has room for it, and whose node limit need not be raised.
     pub(crate) fn grant_at(&mut self, number: u32, size: u32, align: u32) -> Granted
         requires there { number < length self.old.slots }
         requires some { 1 ≤ units_needed size align }
         requires alignment { 1 ≤ align }
         requires room { units_needed size align ≤ room_of (blocks_needed align) (heap_at number self.old) }
-        requires stays { MustGrowIn self.old.limits number (heap_at number self.old) → ⊥ }
+        requires stays { MustRaiseIn self.old.limits number (heap_at number self.old) → ⊥ }
         ensures grants { Grants size align self.old self.new result }
         ensures number { result.place.heap ≡ number }
         ensures found { result.is_new ≡ false }
@@ -136,7 +136,7 @@ impl<T: Tables> HeapsOf<T> {
         }
     }
 
-    // Grants a request in the first heap that has room for it, which grows where it has to.
+    // Grants a request in the first heap that has room for it, and raises its node limit first where it has to.
     fn grant_first(&mut self, number: u32, size: u32, align: u32) -> Result<Granted, Refusal>
         requires there { number < length self.old.slots }
         requires units { 1 ≤ size }
@@ -151,7 +151,7 @@ impl<T: Tables> HeapsOf<T> {
         ensures steps { (bits : ℕ) → numbers self.old ≤ 2 ^ bits
             → self.new.accesses ≤ self.old.accesses + 12 * bits + 11 }
     {
-        match self.grow(number) {
+        match self.raise(number) {
             Err(_) => Err(Refusal::Memory),
             Ok(_) => Ok(self.grant_at(number, size, align)),
         }

@@ -68,7 +68,7 @@ impl<T: Tables> HeapsOf<T> {
     }
 
     /// Why `allocate(size)` would be refused now, or `None` where it would be granted, if memory for another
-    /// heap is given: what `refusal_aligned(size, 1)` returns.
+    /// heap or for more nodes is given: what `refusal_aligned(size, 1)` returns.
     ///
     /// ```
     /// assert_eq!(heaps.refusal(300), None);

@@ -5,7 +5,7 @@ ghost use Rattle.std.specs.Prelude.{length, true};
 ghost use Rattle.std.specs.List.{FoldsTo};
 ghost use Rattle.offset_allocator.specs.Moving.Compacting.{IsCalledWith, moves};
 ghost use Rattle.offset_heaps.specs.Changing.{CompactsAll, CompactsHeap, CompactsIn, IsCalledAt, KeepsSizes};
-ghost use Rattle.offset_heaps.specs.Changing.{MakesRoomAt, PacksIn, moves_from, moves_in, numbered};
+ghost use Rattle.offset_heaps.specs.Changing.{MakesRoomAt, CompactsSlot, moves_from, moves_in, numbered};
 ghost use Rattle.offset_heaps.specs.Heaps.{slot};
 ghost use Rattle.offset_heaps.specs.Soundness.{IsNoted, IsWide};
 
@@ -45,7 +45,7 @@ fn compact_all<T: Tables, F: FnMut(u32, Move<T::Index>)>(
     requires wide { IsWide slots.old index.old }
     requires noted { (k : ℕ) → IsNoted limits slots.old index.old k }
     requires callable { F.IsAlwaysCallable moved.old }
-    ensures done { (k : ℕ) → PacksIn (slot k slots.old) (slot k slots.new) }
+    ensures done { (k : ℕ) → CompactsSlot (slot k slots.old) (slot k slots.new) }
     ensures moved { FoldsTo (IsCalledAt T.Index.NonMax.number (λ f k range g. F.step f k range tt g)) moved.old
         (moves_from 0 slots.old) moved.new }
     ensures len { length slots.new ≡ length slots.old }
@@ -55,7 +55,7 @@ fn compact_all<T: Tables, F: FnMut(u32, Move<T::Index>)>(
     ensures accesses { count.new ≤ count.old + length slots.old * (12 * index.old.one.height + 10) }
 {
     for number in 0..limits.most + limits.most_larger {
-        slots.pack(number, moved, count);
+        slots.compact_numbered(number, moved, count);
         index.note(slots, number, limits, count);
     }
 }

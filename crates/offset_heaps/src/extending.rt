@@ -3,17 +3,17 @@ ghost use Rattle.std.specs.Prelude.{◌≡◌, ◌↔◌, ◌+◌, ◌<◌, ◌�
 ghost use Rattle.std.specs.Prelude.{false, option_map, true};
 ghost use Rattle.offset_heaps.specs.Changing.{AltersIn};
 ghost use Rattle.offset_heaps.specs.Extending.{CanExtendIn, ExtendsHeap, ExtendsIf};
-ghost use Rattle.offset_heaps.specs.Heaps.{IsOfKind, MustGrowIn, size_of};
+ghost use Rattle.offset_heaps.specs.Heaps.{IsOfKind, MustRaiseIn, units_of_heap};
 ghost use Rattle.offset_heaps.specs.Twins.{AreTwins};
 
 use crate::HeapsOf;
 use crate::limits::Limits;
-use crate::slots::grow_heap;
+use crate::slots::raise_heap;
 use offset_allocator::Tables;
 use offset_guarded::GuardedOf;
 use std::alloc::{AllocError, Global};
 
-// Adds units at the end of a heap, which grows first where it has to for a grant.
+// Adds units at the end of a heap, whose node limit is raised first where it would be for a grant.
 fn extend_heap<T: Tables>(
     alloc: Global,
     heap: &mut GuardedOf<T>,
@@ -25,14 +25,14 @@ fn extend_heap<T: Tables>(
     requires kind { IsOfKind limits number heap.old }
     ensures done { IfOk result (λ done. IsTrue done ↔ CanExtendIn more (Some heap.old)) }
     ensures change { IfOk result (λ done. ExtendsIf limits number more done heap.old heap.new) }
-    ensures must { IsErr result → MustGrowIn limits number (Some heap.old)
+    ensures must { IsErr result → MustRaiseIn limits number (Some heap.old)
         × CanExtendIn more (Some heap.old) }
     ensures same { IsErr result → heap.new ≡ heap.old }
 {
     if more > u32::MAX - heap.allocator().size() {
         return Ok(false);
     }
-    grow_heap(alloc, heap, number, limits)?;
+    raise_heap(alloc, heap, number, limits)?;
     Ok(heap.extend(more))
 }
 
@@ -49,7 +49,7 @@ pub(crate) fn extend_in<T: Tables>(
     requires kind { IfSome slot.old (IsOfKind limits number) }
     ensures done { IfOk result (λ done. IsTrue done ↔ CanExtendIn more slot.old) }
     ensures change { IfOk result (λ done. AltersIn (ExtendsIf limits number more done) slot.old slot.new) }
-    ensures must { IsErr result → MustGrowIn limits number slot.old × CanExtendIn more slot.old }
+    ensures must { IsErr result → MustRaiseIn limits number slot.old × CanExtendIn more slot.old }
     ensures same { IsErr result → slot.new ≡ slot.old }
 {
     match slot {
@@ -67,8 +67,8 @@ impl<T: Tables> HeapsOf<T> {
     ///
     /// `false` is returned where the number has no heap, where the heap would have more than 4294967295 units,
     /// or where its last block is used and no further block may exist; then all is as it was. With 0 units it is
-    /// `true` where the number has a heap, which may grow too. A usual heap that has fewer than five unused nodes, and a
-    /// node limit below `max_allocs`, first has that doubled, as before a grant.
+    /// `true` where the number has a heap. A usual heap that has fewer than five unused nodes, and a node limit
+    /// below `max_allocs`, first has that doubled, as before a grant: with 0 units too.
     ///
     /// # Errors
     ///
@@ -83,14 +83,14 @@ impl<T: Tables> HeapsOf<T> {
     pub fn extend_heap(&mut self, number: u32, more: u32) -> Result<bool, AllocError>
         // It is done exactly where the number has a heap that can have so many units more.
         ensures done { IfOk result (λ done. IsTrue done ↔ CanExtendIn more (heap_at number self.old)) }
-        ensures size { result ≡ Ok true → option_map size_of (heap_at number self.new)
-            ≡ option_map (λ g. size_of g + more) (heap_at number self.old) }
+        ensures size { result ≡ Ok true → option_map units_of_heap (heap_at number self.new)
+            ≡ option_map (λ g. units_of_heap g + more) (heap_at number self.old) }
         // Every place keeps its range.
         ensures kept { KeepsAll self.old self.new }
-        // Where it is not done, no answer tells the heaps from those before.
+        // Where it is not done, every later call returns what it would have returned before.
         ensures refused { result ≡ Ok false → AreTwins self.old self.new }
-        // Memory is requested only for a heap that has to grow, and that can be extended.
-        ensures must { IsErr result → MustGrowIn self.old.limits number (heap_at number self.old)
+        // Memory is requested only for a heap whose node limit has to be raised, and that can be extended.
+        ensures must { IsErr result → MustRaiseIn self.old.limits number (heap_at number self.old)
             × CanExtendIn more (heap_at number self.old) }
         ensures same { OnErr result (IsSame self.old self.new) }
         ensures none { heap_at number self.old ≡ None → IsSame self.old self.new }

@@ -9,17 +9,17 @@ ghost use Rattle.offset_allocator.specs.Requests.{CanGrant, blocks_needed, units
 ghost use Rattle.offset_allocator.specs.declared.reports.StorageReport.{StorageReport};
 ghost use Rattle.offset_guarded.specs.Guard.{Guard, HasSerialLeft, IsRaised};
 ghost use Rattle.offset_heaps.specs.Heaps.{Heaps, room, AreAlike, AreTotals, heap_at, numbers, range_of};
-ghost use Rattle.offset_heaps.specs.Heaps.{Grants, IsFirstFit, IsLive, IsNext, IsUsual, IsWhy, MustGrowIn, Puts};
-ghost use Rattle.offset_heaps.specs.Heaps.{IsFirstSize, size_of, total, usual_room, usual_size};
+ghost use Rattle.offset_heaps.specs.Heaps.{Grants, IsFirstFit, IsLive, IsNext, IsUsual, IsWhy, MustRaiseIn, Puts};
+ghost use Rattle.offset_heaps.specs.Heaps.{IsFirstSize, units_of_heap, total, usual_room, usual_size};
 ghost use Rattle.offset_heaps.specs.Histories.{AreSteps, IsGone, IsStep, ResetsAll};
 ghost use Rattle.offset_heaps.specs.Numbering.{AreOfLive, MeetsPlaces, first_from, live_places, next_place};
 ghost use Rattle.offset_heaps.specs.State.{IsCopy, IsStateOf, IsWellFormed, SameHeaps};
 ghost use Rattle.offset_heaps.specs.Relocating.{IsEmptiest, NoneLive, last_place, place_before};
-ghost use Rattle.offset_heaps.specs.Relocating.{live_at, squares, units_of};
+ghost use Rattle.offset_heaps.specs.Relocating.{live_at, squares, size_of};
 ghost use Rattle.offset_heaps.specs.Tight.{IsRefusedForTight, IsServedTight, IsWhyTight};
 ghost use Rattle.offset_heaps.specs.Twins.{AreTwins};
 ghost use Rattle.offset_heaps.specs.Calls.{Allocates, AllocatesTight, TakesAll, Call, Drops, DropsEmpty, Frees, GivesUp};
-ghost use Rattle.offset_heaps.specs.Calls.{GoAll, Goes, Lengthens, Packs, Relocates, Reply, TakesRoom, TakesSize};
+ghost use Rattle.offset_heaps.specs.Calls.{GoAll, Goes, Lengthens, CompactsOne, Relocates, Reply, TakesRoom, TakesSize};
 ghost use Rattle.offset_heaps.specs.Asking.{IsRefusedFor, IsServed};
 ghost use Rattle.offset_heaps.specs.Changing.{CompactsAll, Wanted};
 ghost use Rattle.offset_allocator.specs.declared.moves.room.RoomCost.{RoomCost};
@@ -77,14 +77,14 @@ pub fn room_is_that_of_the_largest_limit<T: Tables>(heaps: &HeapsOf<T>, number: 
 }
 
 /// At most one reason of a refusal holds of a request. Where a heap has room for it, none holds but that memory
-/// was refused, and then the first such heap has to grow; and where another may be made for it, none but that
+/// was refused, and then the node limit of the first such heap has to be raised; and where another may be made for it, none but that
 /// its memory was refused.
 pub fn reasons_exclude_one_another()
     ensures one { (size align : ℕ) (hs : Heaps) (r s : Refusal) → IsWhy size align hs r
         → IsWhy size align hs s → r ≡ s }
     ensures found { (size align k : ℕ) (hs : Heaps) (r : Refusal) → 1 ≤ size
         → IsFirstFit (blocks_needed align) (units_needed size align) k hs → IsWhy size align hs r
-        → (r ≡ Memory) × MustGrowIn hs.limits k (heap_at k hs) }
+        → (r ≡ Memory) × MustRaiseIn hs.limits k (heap_at k hs) }
     ensures made { (size align k : ℕ) (hs : Heaps) (r : Refusal) → 1 ≤ size
         → IsNext size k hs → IsWhy size align hs r → r ≡ Memory }
     ensures tight { (size align : ℕ) (hs : Heaps) (r s : Refusal) → IsWhyTight size align hs r
@@ -113,9 +113,9 @@ pub fn tight_refusals_are_foretold()
 pub fn new_heaps_have_their_units()
     ensures usual { (size align : ℕ) (hs ks : Heaps) (g : Granted) → Grants size align hs ks g
         → g.is_new ≡ true → IsUsual size hs
-        → option_map size_of (heap_at g.place.heap ks) ≡ Some (usual_size hs.limits g.place.heap) }
+        → option_map units_of_heap (heap_at g.place.heap ks) ≡ Some (usual_size hs.limits g.place.heap) }
     ensures larger { (size align : ℕ) (hs ks : Heaps) (g : Granted) → Grants size align hs ks g
-        → g.is_new ≡ true → (IsUsual size hs → ⊥) → option_map size_of (heap_at g.place.heap ks) ≡ Some size }
+        → g.is_new ≡ true → (IsUsual size hs → ⊥) → option_map units_of_heap (heap_at g.place.heap ks) ≡ Some size }
 {}
 
 /// Usual heaps double: that of number 0 has `first_size` units, and each later one twice as many as the one
@@ -159,11 +159,11 @@ pub fn dropped_heaps_stay_dropped<T: Tables>(heaps: &HeapsOf<T>)
 /// From a heap of `a` live units to one of `b`, `u` units add `2 u (b - a) + 2 u²` to that sum.
 pub fn relocations_end()
     ensures grows { (p q : Place) (hs ks : Heaps) → IsWellFormed hs → Goes p q hs ks → squares ks ≡ squares hs
-        + 2 * (units_of p hs * (live_at q.heap hs - live_at p.heap hs)) + 2 * (units_of p hs * units_of p hs) }
+        + 2 * (size_of p hs * (live_at q.heap hs - live_at p.heap hs)) + 2 * (size_of p hs * size_of p hs) }
     ensures some { (p q : Place) (hs ks : Heaps) → Goes p q hs ks
-        → (1 ≤ units_of p hs) × (live_at p.heap hs ≤ live_at q.heap hs) }
+        → (1 ≤ size_of p hs) × (live_at p.heap hs ≤ live_at q.heap hs) }
     ensures ends { (ps : List Place) (hs ks : Heaps) → IsWellFormed hs → GoAll hs ps ks
-        → squares hs + 2 * length ps ≤ total (λ g. size_of g * size_of g) hs.slots }
+        → squares hs + 2 * length ps ≤ total (λ g. units_of_heap g * units_of_heap g) hs.slots }
 {}
 
 /// A walk from `first_place` on by `place_after` meets the places of all live ranges, by the numbers of their
@@ -240,7 +240,7 @@ pub fn a_state_decides_each_step()
         → ((e : AllocError) → r ≡ Err e → ⊥) → ((e : AllocError) → r' ≡ Err e → ⊥)
         → (r ≡ r') × AreTwins ks ks' }
     ensures compact_heap { (k : ℕ) (hs hs' ks ks' : Heaps) → AreTwins hs hs' → (r r' : Bool)
-        → Packs k hs ks r → Packs k hs' ks' r' → (r ≡ r') × AreTwins ks ks' }
+        → CompactsOne k hs ks r → CompactsOne k hs' ks' r' → (r ≡ r') × AreTwins ks ks' }
     ensures compact { (hs hs' ks ks' : Heaps) → AreTwins hs hs' → CompactsAll hs ks → CompactsAll hs' ks'
         → AreTwins ks ks' }
     ensures make_room { (k size : ℕ) (hs hs' ks ks' : Heaps) → IsWellFormed hs → AreTwins hs hs'

@@ -29,7 +29,6 @@ ghost use Rattle.offset_heaps.specs.Soundness.{IsNoted, IsWide};
 
 mod allocate;
 mod asking;
-mod beside;
 mod compacting;
 mod copying;
 mod drop;
@@ -52,6 +51,7 @@ mod slots;
 mod state;
 mod tight;
 mod totals;
+mod walks;
 
 pub use dumping::json_of;
 use index::Index;

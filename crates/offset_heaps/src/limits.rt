@@ -7,7 +7,7 @@ use offset_allocator::small_float::{float_to_uint, uint_to_float_round_down};
 /// What the heaps of a `Heaps` are, and how many there may be.
 #[derive(Clone, Copy, PartialEq, Eq, Debug)]
 pub struct Limits {
-    /// The most units that a usual heap is made with.
+    /// The most units of a heap: no usual one is made with more.
     pub size: u32,
     /// The units of the usual heap of number 0: `size`, and then all have that size; or at least 1 and at most
     /// `size`, and then the one of number 1 has twice as many, that of number 2 four times, and so on, up to
@@ -16,7 +16,7 @@ pub struct Limits {
     pub first_size: u32,
     /// The largest node limit of such a heap: at least 4, and at most `T::Index::MAX - 2`.
     pub max_allocs: u32,
-    /// The node limit that such a heap begins with: `max_allocs`, and then no heap ever grows; or at least 8
+    /// The node limit that such a heap begins with: `max_allocs`, and then no limit is ever raised; or at least 8
     /// and at most `max_allocs`, and then a heap has its limit doubled as its grants need nodes, up to
     /// `max_allocs`. It takes memory for the nodes of its limit alone: of `max_allocs: 65536` and
     /// `first_allocs: 64`, for what is live in it, and nobody has to guess how much that will be.

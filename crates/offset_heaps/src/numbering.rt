@@ -1,7 +1,7 @@
 //! Which numbers have heaps, and of how many units; and the live places of all heaps, one after another. It
 //! changes nothing.
 ghost use Rattle.std.specs.Prelude.{◌≡◌, ◌+◌, ◌≤◌, ◌<◌, None, IfSome, MatchOption, length, option_map};
-ghost use Rattle.offset_heaps.specs.Heaps.{IsLive, heap_at, numbers, size_of};
+ghost use Rattle.offset_heaps.specs.Heaps.{IsLive, heap_at, numbers, units_of_heap};
 ghost use Rattle.offset_heaps.specs.Numbering.{IsHeapFrom, NoHeapFrom, first_from, next_place};
 
 use crate::HeapsOf;
@@ -45,7 +45,7 @@ impl<T: Tables> HeapsOf<T> {
     /// assert_eq!((mesh.is_new, heaps.units_of_heap(mesh.place.heap)), (true, Some(1000)));
     /// ```
     pub fn units_of_heap(&self, number: u32) -> Option<u32>
-        ensures { result ≡ option_map size_of (heap_at number self.now) }
+        ensures { result ≡ option_map units_of_heap (heap_at number self.now) }
     {
         match self.heap(number) {
             None => None,

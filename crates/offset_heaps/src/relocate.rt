@@ -24,7 +24,7 @@ pub fn emptiest_counted<T: Tables>(heaps: &HeapsOf<T>, count: &mut Accesses) -> 
 
 impl<T: Tables> HeapsOf<T> {
     ghost use Rattle.offset_heaps.specs.Heaps.{Grants, IsSame, KeepsOthers, range_of};
-    ghost use Rattle.offset_heaps.specs.Relocating.{IsTaker, NoneTakes, granted, units_of};
+    ghost use Rattle.offset_heaps.specs.Relocating.{IsTaker, NoneTakes, granted, size_of};
 
     // The first heap that takes a range of the heap `own`, which has `live` live units.
     fn taker(&mut self, own: u32, units: u64, align: u32, live: u32) -> Option<u32>
@@ -65,7 +65,7 @@ impl<T: Tables> HeapsOf<T> {
     /// release of its old range before the next one, come to an end, since the sum of the squares of the
     /// heaps' live units grows at each: see `laws::relocations_end`. With later releases a range may go to
     /// and fro: make one pass, free what it left, then begin the next. No heap is made, and no memory is
-    /// taken: a heap that would have to grow for it, as `Limits::first_allocs` says, takes no range. The range is what `GuardedOf::allocate` grants there: for one at an alignment see
+    /// taken: a heap whose node limit would have to be raised for it, as `Limits::first_allocs` says, takes no range. The range is what `GuardedOf::allocate` grants there: for one at an alignment see
     /// `relocate_aligned`.
     ///
     /// `None` is returned where no heap takes the range, and where the place is not live; then nothing
@@ -90,11 +90,11 @@ impl<T: Tables> HeapsOf<T> {
         // one: so the old one does.
         ensures not_live { IfSome result (λ q. range_of q self.old ≡ None) }
         ensures range { IfSome result (λ q. range_of q self.new
-            ≡ Some (record { offset = q.ticket.offset; size = units_of place self.old })) }
+            ≡ Some (record { offset = q.ticket.offset; size = size_of place self.old })) }
         ensures others { IfSome result (λ q. KeepsOthers q self.old self.new) }
         ensures stays { range_of place self.new ≡ range_of place self.old }
         // The step of its heap: a grant of these units. All other heaps are as they were.
-        ensures grants { IfSome result (λ q. Grants (units_of place self.old) 1 self.old self.new
+        ensures grants { IfSome result (λ q. Grants (size_of place self.old) 1 self.old self.new
             (granted q)) }
         ensures steps { (bits : ℕ) → numbers self.old ≤ 2 ^ bits
             → self.new.accesses ≤ self.old.accesses + numbers self.old + 16 * bits + 32 }
@@ -125,12 +125,12 @@ impl<T: Tables> HeapsOf<T> {
         // place keeps its range, if it has one: so the old one does.
         ensures not_live { IfSome result (λ q. range_of q self.old ≡ None) }
         ensures range { IfSome result (λ q. range_of q self.new
-            ≡ Some (record { offset = q.ticket.offset; size = units_of place self.old })) }
+            ≡ Some (record { offset = q.ticket.offset; size = size_of place self.old })) }
         ensures aligned { IfSome result (λ q. q.ticket.offset % align ≡ 0) }
         ensures others { IfSome result (λ q. KeepsOthers q self.old self.new) }
         ensures stays { range_of place self.new ≡ range_of place self.old }
         // The step of its heap: a grant of these units. All other heaps are as they were.
-        ensures grants { IfSome result (λ q. Grants (units_of place self.old) align self.old self.new
+        ensures grants { IfSome result (λ q. Grants (size_of place self.old) align self.old self.new
             (granted q)) }
         ensures steps { (bits : ℕ) → numbers self.old ≤ 2 ^ bits
             → self.new.accesses ≤ self.old.accesses + numbers self.old + 16 * bits + 32 }

@@ -8,14 +8,15 @@ ghost use Rattle.offset_allocator.specs.Requests.{blocks_needed, units_needed};
 ghost use Rattle.offset_allocator.specs.Tight.{CanHold};
 ghost use Rattle.offset_guarded.specs.Guard.{Guard, HasSerialLeft, IsLive};
 ghost use Rattle.offset_allocator.specs.Moving.Compacting.{IsCalledWith};
-ghost use Rattle.offset_heaps.specs.Changing.{AltersIn, CanResize, CanResizeIn, CompactsIn, IsNear, MakesRoomIn, Resizes};
-ghost use Rattle.offset_heaps.specs.Changing.{IsCalledAt, PacksIn, moves_in, numbered, wanted};
+ghost use Rattle.offset_heaps.specs.Changing.{AltersIn, CanResize, CanResizeIn, CompactsIn, MakesRoomIn, Resizes};
+ghost use Rattle.offset_heaps.specs.Changing.{IsCalledAt, CompactsSlot, moves_in, numbered, wanted};
 ghost use Rattle.offset_heaps.specs.Extending.{CanExtendIn, ExtendsIf};
-ghost use Rattle.offset_heaps.specs.Heaps.{IsGrown, IsOfKind, MustGrow, MustGrowIn, is_empty, live_of, part};
+ghost use Rattle.offset_heaps.specs.Heaps.{HasFewNodes, IsOfKind, IsRaisedAsNeeded, MustRaise, MustRaiseIn, is_empty};
+ghost use Rattle.offset_heaps.specs.Heaps.{live_of, part};
 ghost use Rattle.offset_heaps.specs.Heaps.{range_in, room, room_of, slot};
 ghost use Rattle.offset_heaps.specs.Numbering.{IsHeapFrom, NoHeapFrom};
 ghost use Rattle.offset_heaps.specs.Relocating.{HasLive, IsEmptiest, NoneLive, TakesUnits, units_in};
-ghost use Rattle.offset_heaps.specs.Slots.{CanHoldIn, Changes, Fills, FreesIn, GrowsIn, KeepsOthersIn};
+ghost use Rattle.offset_heaps.specs.Slots.{CanHoldIn, Changes, Fills, FreesIn, RaisesIn, KeepsOthersIn};
 ghost use Rattle.offset_heaps.specs.Slots.{IsMore, ResetsIn, Serves, ServesTight};
 
 use crate::compacting::compact_numbered;
@@ -53,28 +54,28 @@ fn room_at<T: Tables>(heap: &GuardedOf<T>, align: u32) -> u32
     if align == 1 { one } else { two }
 }
 
-// Whether the heap of a number has to grow before a grant: a grant adds two blocks at most, so after it at least
+// Whether the node limit of a heap has to be raised before a grant: a grant adds two blocks at most, so after it at least
 // three nodes are unused, or the limit is the largest one. A report is then that of the largest limit.
-fn must_grow<T: Tables>(heap: &GuardedOf<T>, number: u32, limits: Limits) -> bool
-    ensures { IsTrue result ↔ MustGrow limits number heap.now }
+fn must_raise<T: Tables>(heap: &GuardedOf<T>, number: u32, limits: Limits) -> bool
+    ensures { IsTrue result ↔ MustRaise limits number heap.now }
 {
     let space = heap.allocator();
     number < limits.most && space.max_allocs() < limits.max_allocs && unused_nodes(space) < 5
 }
 
-/// Doubles the node limit of the heap of a number, where it has to grow.
-pub(crate) fn grow_heap<T: Tables>(
+/// Doubles the node limit of the heap of a number, where it has to be raised.
+pub(crate) fn raise_heap<T: Tables>(
     alloc: Global,
     heap: &mut GuardedOf<T>,
     number: u32,
     limits: Limits,
 ) -> Result<(), AllocError>
     requires limit_max { limits.max_allocs + 1 < T.Index.MAX }
-    ensures grows { IfOk result (λ _. IsGrown limits number heap.old heap.new) }
-    ensures must { IsErr result → MustGrow limits number heap.old }
+    ensures raises { IfOk result (λ _. IsRaisedAsNeeded limits number heap.old heap.new) }
+    ensures must { IsErr result → MustRaise limits number heap.old }
     ensures same { IsErr result → heap.new ≡ heap.old }
 {
-    if must_grow(heap, number, limits) {
+    if must_raise(heap, number, limits) {
         let limit = heap.allocator().max_allocs();
         let most = limits.max_allocs;
         let twice = if most - limit < limit {
@@ -88,19 +89,19 @@ pub(crate) fn grow_heap<T: Tables>(
 }
 
 // The same, where the number has a heap.
-fn grow_in<T: Tables>(
+fn raise_in<T: Tables>(
     alloc: Global,
     slot: &mut Option<GuardedOf<T>>,
     number: u32,
     limits: Limits,
 ) -> Result<(), AllocError>
     requires limit_max { limits.max_allocs + 1 < T.Index.MAX }
-    ensures grows { IfOk result (λ _. GrowsIn limits number slot.old slot.new) }
-    ensures must { IsErr result → MustGrowIn limits number slot.old }
+    ensures raises { IfOk result (λ _. RaisesIn limits number slot.old slot.new) }
+    ensures must { IsErr result → MustRaiseIn limits number slot.old }
     ensures same { IsErr result → slot.new ≡ slot.old }
 {
     match slot {
-        Some(heap) => grow_heap(alloc, heap, number, limits),
+        Some(heap) => raise_heap(alloc, heap, number, limits),
         None => Ok(()),
     }
 }
@@ -178,9 +179,10 @@ fn free_in<T: Tables>(slot: &mut Option<GuardedOf<T>>, ticket: Ticket) -> bool
     }
 }
 
-// Whether few nodes of the heap of a number are unused, so that a range that shrinks might leave too few.
-fn is_near<T: Tables>(heap: &GuardedOf<T>, number: u32, limits: Limits) -> bool
-    ensures { IsTrue result ↔ IsNear limits number heap.now }
+// Whether fewer than four nodes of the heap of a number are unused, and its node limit may still be raised: a range
+// that shrinks might leave too few.
+fn has_few_nodes<T: Tables>(heap: &GuardedOf<T>, number: u32, limits: Limits) -> bool
+    ensures { IsTrue result ↔ HasFewNodes 4 limits number heap.now }
 {
     let space = heap.allocator();
     number < limits.most && space.max_allocs() < limits.max_allocs && unused_nodes(space) < 4
@@ -218,7 +220,7 @@ fn resize_in<T: Tables>(
     match slot {
         None => None,
         Some(heap) => {
-            if how.is_less() && is_near(heap, number, limits) {
+            if how.is_less() && has_few_nodes(heap, number, limits) {
                 return if heap.is_live(ticket) {
                     Some(false)
                 } else {
@@ -246,14 +248,14 @@ fn compact_in<T: Tables, F: FnMut(Move<T::Index>)>(slot: &mut Option<GuardedOf<T
 
 // Slides every live range of a heap to the front of its space, where there is one, and calls the closure with its
 // number too.
-fn pack_in<T: Tables, F: FnMut(u32, Move<T::Index>)>(
+fn compact_numbered_in<T: Tables, F: FnMut(u32, Move<T::Index>)>(
     slot: &mut Option<GuardedOf<T>>,
     number: u32,
     moved: &mut F,
 )
     requires callable { F.IsAlwaysCallable moved.old }
     ensures callable { F.IsAlwaysCallable moved.new }
-    ensures change { PacksIn slot.old slot.new }
+    ensures change { CompactsSlot slot.old slot.new }
     ensures moved { FoldsTo (IsCalledAt T.Index.NonMax.number (λ f k range g. F.step f k range tt g)) moved.old
         (numbered number (moves_in slot.old)) moved.new }
 {
@@ -353,8 +355,8 @@ impl<T: Tables> Slots<T> {
         self.heaps[number as usize] = heap;
     }
 
-    /// Doubles the node limit of the heap of a number, where it has to grow before a grant.
-    pub(crate) fn grow(
+    /// Doubles the node limit of the heap of a number, where it has to be raised before a grant.
+    pub(crate) fn raise(
         &mut self,
         alloc: Global,
         number: u32,
@@ -363,13 +365,13 @@ impl<T: Tables> Slots<T> {
     ) -> Result<(), AllocError>
         requires there { number < length self.old }
         requires limit_max { limits.max_allocs + 1 < T.Index.MAX }
-        ensures grows { IfOk result (λ _. Changes number (GrowsIn limits number) self.old self.new) }
-        ensures must { IsErr result → MustGrowIn limits number (slot number self.old) }
+        ensures raises { IfOk result (λ _. Changes number (RaisesIn limits number) self.old self.new) }
+        ensures must { IsErr result → MustRaiseIn limits number (slot number self.old) }
         ensures same { IsErr result → self.new ≡ self.old }
         ensures accesses { count.new ≡ count.old + 1 }
     {
         count.tick();
-        grow_in(alloc, &mut self.heaps[number as usize], number, limits)
+        raise_in(alloc, &mut self.heaps[number as usize], number, limits)
     }
 
     /// Grants a request in the heap of a number, which has room for it.
@@ -500,8 +502,8 @@ impl<T: Tables> Slots<T> {
         )
     }
 
-    /// Adds units at the end of the heap of a number, which grows first where it has to for a grant, and returns
-    /// whether it did.
+    /// Adds units at the end of the heap of a number, whose node limit is raised first where it would be for a
+    /// grant, and returns whether it did.
     pub(crate) fn extend(
         &mut self,
         alloc: Global,
@@ -516,7 +518,7 @@ impl<T: Tables> Slots<T> {
         ensures done { IfOk result (λ done. IsTrue done ↔ CanExtendIn more (slot number self.old)) }
         ensures change { IfOk result
             (λ done. Changes number (AltersIn (ExtendsIf limits number more done)) self.old self.new) }
-        ensures must { IsErr result → MustGrowIn limits number (slot number self.old)
+        ensures must { IsErr result → MustRaiseIn limits number (slot number self.old)
             × CanExtendIn more (slot number self.old) }
         ensures same { IsErr result → self.new ≡ self.old }
         ensures accesses { count.new ≡ count.old + 1 }
@@ -551,7 +553,7 @@ impl<T: Tables> Slots<T> {
 
     /// Slides every live range of the heap of a number to the front of its space, where it has one, and calls the
     /// closure with the number too.
-    pub(crate) fn pack<F: FnMut(u32, Move<T::Index>)>(
+    pub(crate) fn compact_numbered<F: FnMut(u32, Move<T::Index>)>(
         &mut self,
         number: u32,
         moved: &mut F,
@@ -560,13 +562,13 @@ impl<T: Tables> Slots<T> {
         requires there { number < length self.old }
         requires callable { F.IsAlwaysCallable moved.old }
         ensures callable { F.IsAlwaysCallable moved.new }
-        ensures change { Changes number PacksIn self.old self.new }
+        ensures change { Changes number CompactsSlot self.old self.new }
         ensures moved { FoldsTo (IsCalledAt T.Index.NonMax.number (λ f k range g. F.step f k range tt g)) moved.old
             (numbered number (moves_in (slot number self.old))) moved.new }
         ensures accesses { count.new ≡ count.old + 1 }
     {
         count.tick();
-        pack_in(&mut self.heaps[number as usize], number, moved);
+        compact_numbered_in(&mut self.heaps[number as usize], number, moved);
     }
 
     /// Makes room for a request in the heap of a number.
@@ -661,7 +663,7 @@ impl<T: Tables> Slots<T> {
                 number != own
                     && room >= units
                     && heap.allocator().live_units() >= live
-                    && !must_grow(heap, number, limits)
+                    && !must_raise(heap, number, limits)
             }
         }
     }

@@ -43,7 +43,7 @@ pub fn refusal_tight_aligned_counted<T: Tables>(
 }
 
 impl<T: Tables> HeapsOf<T> {
-    ghost use Rattle.offset_heaps.specs.Heaps.{Grants, IsForRoom, IsNext, IsSame, KeepsOthers, MustGrowIn};
+    ghost use Rattle.offset_heaps.specs.Heaps.{Grants, IsForRoom, IsNext, IsSame, KeepsOthers, MustRaiseIn};
     ghost use Rattle.offset_heaps.specs.Heaps.{NoneFits, heap_at, range_of};
 
     // The first heap, a free block of which holds a request. Where none does, none has room for it.
@@ -63,12 +63,12 @@ impl<T: Tables> HeapsOf<T> {
             .first_holding(numbers, size, align, &mut self.accesses)
     }
 
-    // Grants a request in the heap of a number, a free block of which holds it, and which need not grow.
+    // Grants a request in the heap of a number, a free block of which holds it, and whose node limit need not be raised.
     fn fill_at(&mut self, number: u32, size: u32, align: u32) -> Granted
         requires there { number < length self.old.slots }
         requires alignment { 1 ≤ align }
         requires holds { CanHoldIn size align (heap_at number self.old) }
-        requires stays { MustGrowIn self.old.limits number (heap_at number self.old) → ⊥ }
+        requires stays { MustRaiseIn self.old.limits number (heap_at number self.old) → ⊥ }
         ensures grants { GrantsTight size align self.old self.new result.place }
         ensures number { result.place.heap ≡ number }
         ensures found { result.is_new ≡ false }
@@ -89,7 +89,7 @@ impl<T: Tables> HeapsOf<T> {
         }
     }
 
-    // Grants a request in the first heap that holds it, which grows where it has to.
+    // Grants a request in the first heap that holds it, and raises its node limit first where it has to.
     fn fill_first(&mut self, number: u32, size: u32, align: u32) -> Result<Granted, Refusal>
         requires there { number < length self.old.slots }
         requires units { 1 ≤ size }
@@ -104,7 +104,7 @@ impl<T: Tables> HeapsOf<T> {
         ensures steps { (bits : ℕ) → numbers self.old ≤ 2 ^ bits
             → self.new.accesses ≤ self.old.accesses + 12 * bits + 11 }
     {
-        match self.grow(number) {
+        match self.raise(number) {
             Err(_) => Err(Refusal::Memory),
             Ok(_) => Ok(self.fill_at(number, size, align)),
         }
@@ -170,8 +170,8 @@ impl<T: Tables> HeapsOf<T> {
     /// unused nodes for it: what `GuardedOf::allocate_tight_aligned` grants there, as it grants it. So a heap that
     /// has room for the same request of `allocate_aligned` grants this one, and others may. Where none holds it,
     /// another heap is made, exactly as by `allocate_aligned`: a usual one where the last of these has room for
-    /// `size` units when it is fresh, else one of exactly `size` units. A heap that has to grow for a grant grows
-    /// before, as there.
+    /// `size` units when it is fresh, else one of exactly `size` units. The node limit of
+    /// the heap is raised before, where it has to be, as there.
     ///
     /// Where the request is refused, all is as it was, and the `Refusal` says why.
     ///

@@ -1,6 +1,6 @@
 //! What is live and what is free in all heaps together. It reads each slot once, and changes nothing.
 ghost use Rattle.std.specs.Prelude.{◌≡◌, ◌+◌, ◌^◌, ◌<◌, ◌≤◌, max, option_copied};
-ghost use Rattle.offset_heaps.specs.Heaps.{free_of, live_of, part, room_of, size_of};
+ghost use Rattle.offset_heaps.specs.Heaps.{free_of, live_of, part, room_of, units_of_heap};
 
 use crate::HeapsOf;
 use crate::index::rooms;
@@ -26,11 +26,11 @@ pub struct Totals {
 }
 
 // The units of a heap: live ones, free ones and all.
-fn units_of<T: Tables>(heap: &GuardedOf<T>) -> (u32, u32, u32)
+fn live_free_all<T: Tables>(heap: &GuardedOf<T>) -> (u32, u32, u32)
     ensures live { result.0 ≡ live_of heap.now }
     ensures free { result.1 ≡ free_of heap.now }
-    ensures all { result.2 ≡ size_of heap.now }
-    ensures add_up { live_of heap.now + free_of heap.now ≡ size_of heap.now }
+    ensures all { result.2 ≡ units_of_heap heap.now }
+    ensures add_up { live_of heap.now + free_of heap.now ≡ units_of_heap heap.now }
 {
     let space = heap.allocator();
     sizes_add_up(space);
@@ -43,7 +43,7 @@ fn with_heap<T: Tables>(totals: Totals, heap: Option<&GuardedOf<T>>) -> Totals
     requires units { totals.units + 2 ^ 32 < 2 ^ 64 }
     requires add_up { totals.live_units + totals.free_units ≡ totals.units }
     ensures heaps { result.heaps ≡ totals.heaps + part (λ g. 1) (option_copied heap.entry) }
-    ensures units { result.units ≡ totals.units + part size_of (option_copied heap.entry) }
+    ensures units { result.units ≡ totals.units + part units_of_heap (option_copied heap.entry) }
     ensures live { result.live_units ≡ totals.live_units + part live_of (option_copied heap.entry) }
     ensures free { result.free_units ≡ totals.free_units + part free_of (option_copied heap.entry) }
     ensures largest { result.largest_free_region
@@ -63,7 +63,7 @@ fn with_heap<T: Tables>(totals: Totals, heap: Option<&GuardedOf<T>>) -> Totals
             largest_free_region: largest,
         },
         Some(heap) => {
-            let (live, free, all) = units_of(heap);
+            let (live, free, all) = live_free_all(heap);
             Totals {
                 heaps: totals.heaps + 1,
                 units: totals.units + all as u64,

@@ -14,7 +14,7 @@ use Rattle.offset_heaps.specs.Changing.{CompactsHeap, MakesRoomAt, ResizesAt, Wa
 use Rattle.offset_heaps.specs.Extending.{ExtendsHeap}
 use Rattle.offset_heaps.specs.Histories.{IsStep}
 use Rattle.offset_heaps.specs.Tight.{GrantsTight}
-use Rattle.offset_heaps.proofs.{Growing.grown_realm, Longer.realm_longer}
+use Rattle.offset_heaps.proofs.{Raising.raised_realm, Longer.realm_longer}
 use Rattle.offset_heaps.specs.Relocating.{granted}
 
 module _ (hs ks : Heaps) where
@@ -43,9 +43,9 @@ module _ (hs ks : Heaps) where
   resizes how p (Some d) same step =
       inr (inr (inr (inr (inr (inl (p.heap, record { before = step.before; after = step.after; heap = step.heap; by = step.by.serials.realm; heaps = step.heaps }))))))
 
-  pub packs : (k : ℕ) (b : Bool) → (b ≡ false → IsSame hs ks) → (b ≡ true → CompactsHeap k hs ks) → IsStep hs ks
-  packs k false same step = inl (same refl)
-  packs k true same step =
+  pub compacts : (k : ℕ) (b : Bool) → (b ≡ false → IsSame hs ks) → (b ≡ true → CompactsHeap k hs ks) → IsStep hs ks
+  compacts k false same step = inl (same refl)
+  compacts k true same step =
       let s = step refl in
       inr (inr (inr (inr (inr (inl (k, record { before = s.before; after = s.after; heap = s.heap; by = ap (λ (g : Guard). g.realm) s.by.serials; heaps = s.heaps }))))))
 
@@ -66,7 +66,7 @@ module _ (hs ks : Heaps) where
     | inl e ↦ inr (inl (size, align, g, new e))
     | inr e ↦
         let s = old e in
-        let realm : s.after.realm ≡ s.was.realm = s.grants.realm.1 ∙ grown_realm hs.limits g.place.heap s.was s.before s.grown in
+        let realm : s.after.realm ≡ s.was.realm = s.grants.realm.1 ∙ raised_realm hs.limits g.place.heap s.was s.before s.raised in
         inr (inr (inr (inr (inr (inl (g.place.heap, record { before = s.was; after = s.after; heap = s.heap; by = realm; heaps = s.heaps }))))))
   ]
 

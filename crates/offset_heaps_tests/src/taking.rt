@@ -2,7 +2,7 @@
 //! functions: they are proved.
 
 ghost use Rattle.std.specs.Prelude.{◌≤◌};
-ghost use Rattle.offset_heaps.specs.Calls.{Allocates, Drops, DropsEmpty, Frees, GivesUp, Packs, Relocates};
+ghost use Rattle.offset_heaps.specs.Calls.{Allocates, Drops, DropsEmpty, Frees, GivesUp, CompactsOne, Relocates};
 ghost use Rattle.offset_heaps.specs.Calls.{TakesRoom, TakesSize};
 ghost use Rattle.offset_heaps.specs.Histories.{ResetsAll};
 ghost use Rattle.offset_heaps.specs.Changing.{Less, More};
@@ -91,7 +91,7 @@ pub fn grow_in_place(heaps: &mut Heaps, place: Place, size: u32) -> Option<bool>
 
 /// Compacts a heap.
 pub fn compact_heap(heaps: &mut Heaps, number: u32) -> bool
-    ensures { Packs number heaps.old heaps.new result }
+    ensures { CompactsOne number heaps.old heaps.new result }
 {
     heaps.compact_heap(number, &mut |_range: Move<u32>| ())
 }

@@ -33,7 +33,6 @@ pub use offset_allocator_memory as memory;
 pub use offset_allocator_memory::{AllocError, Global};
 
 mod allocate;
-mod beside;
 mod moves;
 #[doc(hidden)]
 pub mod numbers;
@@ -45,6 +44,7 @@ mod serials;
 mod state;
 mod ticket;
 mod values;
+mod walks;
 
 pub use offset_allocator::ReadError;
 use offset_allocator::{Allocation, AllocatorOf, ByNode, NodeIndex, Tables};

@@ -58,13 +58,13 @@ impl<T: Tables> HeapsOf<T> {
             .first_at_least(LARGER_KEY as u64, &mut self.accesses)
     }
 
-    // Doubles the node limit of the heap of a number, where it has to grow before a grant.
-    pub(crate) fn grow(&mut self, number: u32) -> Result<(), AllocError> {
+    // Doubles the node limit of the heap of a number, where it has to be raised before a grant.
+    pub(crate) fn raise(&mut self, number: u32) -> Result<(), AllocError> {
         self.slots
-            .grow(self.alloc, number, self.limits, &mut self.accesses)
+            .raise(self.alloc, number, self.limits, &mut self.accesses)
     }
 
-    // Grants a request in the heap of a number, which has room for it and need not grow.
+    // Grants a request in the heap of a number, which has room for it, and whose node limit need not be raised.
     pub(crate) fn grant_at(&mut self, number: u32, size: u32, align: u32) -> Granted {
         let ticket = self.slots.grant(number, size, align, &mut self.accesses);
         self.index
@@ -79,9 +79,9 @@ impl<T: Tables> HeapsOf<T> {
         }
     }
 
-    // Grants a request in the first heap that has room for it, which grows where it has to.
+    // Grants a request in the first heap that has room for it, and raises its node limit first where it has to.
     fn grant_first(&mut self, number: u32, size: u32, align: u32) -> Result<Granted, Refusal> {
-        match self.grow(number) {
+        match self.raise(number) {
             Err(_) => Err(Refusal::Memory),
             Ok(_) => Ok(self.grant_at(number, size, align)),
         }

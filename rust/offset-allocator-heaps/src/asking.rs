@@ -61,7 +61,7 @@ impl<T: Tables> HeapsOf<T> {
     }
 
     /// Why `allocate(size)` would be refused now, or `None` where it would be granted, if memory for another
-    /// heap is given: what `refusal_aligned(size, 1)` returns.
+    /// heap or for more nodes is given: what `refusal_aligned(size, 1)` returns.
     ///
     /// ```
     /// # use offset_allocator_heaps::*;

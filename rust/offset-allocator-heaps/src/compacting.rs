@@ -29,7 +29,7 @@ fn compact_all<T: Tables, F: FnMut(u32, Move<T::Index>)>(
     count: &mut Accesses,
 ) {
     for number in 0..limits.most + limits.most_larger {
-        slots.pack(number, moved, count);
+        slots.compact_numbered(number, moved, count);
         index.note(slots, number, limits, count);
     }
 }

@@ -4,12 +4,12 @@
 
 use crate::HeapsOf;
 use crate::limits::Limits;
-use crate::slots::grow_heap;
+use crate::slots::raise_heap;
 use offset_allocator::Tables;
 use offset_guarded::GuardedOf;
 use crate::memory::{AllocError, Global};
 
-// Adds units at the end of a heap, which grows first where it has to for a grant.
+// Adds units at the end of a heap, whose node limit is raised first where it would be for a grant.
 fn extend_heap<T: Tables>(
     alloc: Global,
     heap: &mut GuardedOf<T>,
@@ -20,7 +20,7 @@ fn extend_heap<T: Tables>(
     if more > u32::MAX - heap.allocator().size() {
         return Ok(false);
     }
-    grow_heap(alloc, heap, number, limits)?;
+    raise_heap(alloc, heap, number, limits)?;
     Ok(heap.extend(more))
 }
 
@@ -45,8 +45,8 @@ impl<T: Tables> HeapsOf<T> {
     ///
     /// `false` is returned where the number has no heap, where the heap would have more than 4294967295 units,
     /// or where its last block is used and no further block may exist; then all is as it was. With 0 units it is
-    /// `true` where the number has a heap, which may grow too. A usual heap that has fewer than five unused nodes, and a
-    /// node limit below `max_allocs`, first has that doubled, as before a grant.
+    /// `true` where the number has a heap. A usual heap that has fewer than five unused nodes, and a node limit
+    /// below `max_allocs`, first has that doubled, as before a grant: with 0 units too.
     ///
     /// # Errors
     ///

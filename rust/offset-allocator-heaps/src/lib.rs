@@ -44,7 +44,6 @@ pub use offset_guarded::Ticket;
 
 mod allocate;
 mod asking;
-mod beside;
 mod compacting;
 mod copying;
 mod drop;
@@ -67,6 +66,7 @@ mod slots;
 mod state;
 mod tight;
 mod totals;
+mod walks;
 
 pub use dumping::json_of;
 use index::Index;

@@ -8,7 +8,7 @@ use core::fmt;
 /// heap has room for a tight request where a free block holds it.
 #[derive(Clone, Copy, Debug, PartialEq)]
 pub enum Refusal {
-    /// It is for no unit.
+    /// The request is for no unit.
     Empty,
     /// No heap has room, and none may ever be large enough: the last usual one would not have room when it is
     /// fresh either, and there may be no larger ones.

@@ -25,21 +25,21 @@ fn room_at<T: Tables>(heap: &GuardedOf<T>, align: u32) -> u32 {
     if align == 1 { one } else { two }
 }
 
-// Whether the heap of a number has to grow before a grant: a grant adds two blocks at most, so after it at least
+// Whether the node limit of a heap has to be raised before a grant: a grant adds two blocks at most, so after it at least
 // three nodes are unused, or the limit is the largest one. A report is then that of the largest limit.
-fn must_grow<T: Tables>(heap: &GuardedOf<T>, number: u32, limits: Limits) -> bool {
+fn must_raise<T: Tables>(heap: &GuardedOf<T>, number: u32, limits: Limits) -> bool {
     let space = heap.allocator();
     number < limits.most && space.max_allocs() < limits.max_allocs && unused_nodes(space) < 5
 }
 
-/// Doubles the node limit of the heap of a number, where it has to grow.
-pub(crate) fn grow_heap<T: Tables>(
+/// Doubles the node limit of the heap of a number, where it has to be raised.
+pub(crate) fn raise_heap<T: Tables>(
     alloc: Global,
     heap: &mut GuardedOf<T>,
     number: u32,
     limits: Limits,
 ) -> Result<(), AllocError> {
-    if must_grow(heap, number, limits) {
+    if must_raise(heap, number, limits) {
         let limit = heap.allocator().max_allocs();
         let most = limits.max_allocs;
         let twice = if most - limit < limit {
@@ -53,14 +53,14 @@ pub(crate) fn grow_heap<T: Tables>(
 }
 
 // The same, where the number has a heap.
-fn grow_in<T: Tables>(
+fn raise_in<T: Tables>(
     alloc: Global,
     slot: &mut Option<GuardedOf<T>>,
     number: u32,
     limits: Limits,
 ) -> Result<(), AllocError> {
     match slot {
-        Some(heap) => grow_heap(alloc, heap, number, limits),
+        Some(heap) => raise_heap(alloc, heap, number, limits),
         None => Ok(()),
     }
 }
@@ -113,8 +113,9 @@ fn free_in<T: Tables>(slot: &mut Option<GuardedOf<T>>, ticket: Ticket) -> bool {
     }
 }
 
-// Whether few nodes of the heap of a number are unused, so that a range that shrinks might leave too few.
-fn is_near<T: Tables>(heap: &GuardedOf<T>, number: u32, limits: Limits) -> bool {
+// Whether fewer than four nodes of the heap of a number are unused, and its node limit may still be raised: a range
+// that shrinks might leave too few.
+fn has_few_nodes<T: Tables>(heap: &GuardedOf<T>, number: u32, limits: Limits) -> bool {
     let space = heap.allocator();
     number < limits.most && space.max_allocs() < limits.max_allocs && unused_nodes(space) < 4
 }
@@ -138,7 +139,7 @@ fn resize_in<T: Tables>(
     match slot {
         None => None,
         Some(heap) => {
-            if how.is_less() && is_near(heap, number, limits) {
+            if how.is_less() && has_few_nodes(heap, number, limits) {
                 return if heap.is_live(ticket) {
                     Some(false)
                 } else {
@@ -160,7 +161,7 @@ fn compact_in<T: Tables, F: FnMut(Move<T::Index>)>(slot: &mut Option<GuardedOf<T
 
 // Slides every live range of a heap to the front of its space, where there is one, and calls the closure with its
 // number too.
-fn pack_in<T: Tables, F: FnMut(u32, Move<T::Index>)>(
+fn compact_numbered_in<T: Tables, F: FnMut(u32, Move<T::Index>)>(
     slot: &mut Option<GuardedOf<T>>,
     number: u32,
     moved: &mut F,
@@ -238,8 +239,8 @@ impl<T: Tables> Slots<T> {
         self.heaps[number as usize] = heap;
     }
 
-    /// Doubles the node limit of the heap of a number, where it has to grow before a grant.
-    pub(crate) fn grow(
+    /// Doubles the node limit of the heap of a number, where it has to be raised before a grant.
+    pub(crate) fn raise(
         &mut self,
         alloc: Global,
         number: u32,
@@ -247,7 +248,7 @@ impl<T: Tables> Slots<T> {
         count: &mut Accesses,
     ) -> Result<(), AllocError> {
         count.tick();
-        grow_in(alloc, &mut self.heaps[number as usize], number, limits)
+        raise_in(alloc, &mut self.heaps[number as usize], number, limits)
     }
 
     /// Grants a request in the heap of a number, which has room for it.
@@ -330,8 +331,8 @@ impl<T: Tables> Slots<T> {
         )
     }
 
-    /// Adds units at the end of the heap of a number, which grows first where it has to for a grant, and returns
-    /// whether it did.
+    /// Adds units at the end of the heap of a number, whose node limit is raised first where it would be for a
+    /// grant, and returns whether it did.
     pub(crate) fn extend(
         &mut self,
         alloc: Global,
@@ -363,14 +364,14 @@ impl<T: Tables> Slots<T> {
 
     /// Slides every live range of the heap of a number to the front of its space, where it has one, and calls the
     /// closure with the number too.
-    pub(crate) fn pack<F: FnMut(u32, Move<T::Index>)>(
+    pub(crate) fn compact_numbered<F: FnMut(u32, Move<T::Index>)>(
         &mut self,
         number: u32,
         moved: &mut F,
         count: &mut Accesses,
     ) {
         count.tick();
-        pack_in(&mut self.heaps[number as usize], number, moved);
+        compact_numbered_in(&mut self.heaps[number as usize], number, moved);
     }
 
     /// Makes room for a request in the heap of a number.
@@ -435,7 +436,7 @@ impl<T: Tables> Slots<T> {
                 number != own
                     && room >= units
                     && heap.allocator().live_units() >= live
-                    && !must_grow(heap, number, limits)
+                    && !must_raise(heap, number, limits)
             }
         }
     }

@@ -46,7 +46,7 @@ impl<T: Tables> HeapsOf<T> {
             .first_holding(numbers, size, align, &mut self.accesses)
     }
 
-    // Grants a request in the heap of a number, a free block of which holds it, and which need not grow.
+    // Grants a request in the heap of a number, a free block of which holds it, and whose node limit need not be raised.
     fn fill_at(&mut self, number: u32, size: u32, align: u32) -> Granted {
         let ticket = self.slots.fill(number, size, align, &mut self.accesses);
         self.index
@@ -61,9 +61,9 @@ impl<T: Tables> HeapsOf<T> {
         }
     }
 
-    // Grants a request in the first heap that holds it, which grows where it has to.
+    // Grants a request in the first heap that holds it, and raises its node limit first where it has to.
     fn fill_first(&mut self, number: u32, size: u32, align: u32) -> Result<Granted, Refusal> {
-        match self.grow(number) {
+        match self.raise(number) {
             Err(_) => Err(Refusal::Memory),
             Ok(_) => Ok(self.fill_at(number, size, align)),
         }
@@ -104,8 +104,8 @@ impl<T: Tables> HeapsOf<T> {
     /// unused nodes for it: what `GuardedOf::allocate_tight_aligned` grants there, as it grants it. So a heap that
     /// has room for the same request of `allocate_aligned` grants this one, and others may. Where none holds it,
     /// another heap is made, exactly as by `allocate_aligned`: a usual one where the last of these has room for
-    /// `size` units when it is fresh, else one of exactly `size` units. A heap that has to grow for a grant grows
-    /// before, as there.
+    /// `size` units when it is fresh, else one of exactly `size` units. The node limit of
+    /// the heap is raised before, where it has to be, as there.
     ///
     /// Where the request is refused, all is as it was, and the `Refusal` says why.
     ///

@@ -25,7 +25,7 @@ pub struct Totals {
 }
 
 // The units of a heap: live ones, free ones and all.
-fn units_of<T: Tables>(heap: &GuardedOf<T>) -> (u32, u32, u32) {
+fn live_free_all<T: Tables>(heap: &GuardedOf<T>) -> (u32, u32, u32) {
     let space = heap.allocator();
     (space.live_units(), space.free_units(), space.size())
 }
@@ -43,7 +43,7 @@ fn with_heap<T: Tables>(totals: Totals, heap: Option<&GuardedOf<T>>) -> Totals {
             largest_free_region: largest,
         },
         Some(heap) => {
-            let (live, free, all) = units_of(heap);
+            let (live, free, all) = live_free_all(heap);
             Totals {
                 heaps: totals.heaps + 1,
                 units: totals.units + all as u64,

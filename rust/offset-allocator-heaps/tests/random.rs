@@ -103,7 +103,7 @@ impl<T: Tables> Run<T> {
     }
 
     // Whether a heap has fewer than five unused nodes, and may have more.
-    fn must_grow(&self, number: usize) -> bool {
+    fn must_raise(&self, number: usize) -> bool {
         let (Some(heap), Some(known)) = (self.heaps.heap(number as u32), &self.model[number]) else { return false };
         known.limit < self.most_nodes(number) && heap.allocator().block_count() + 5 > known.limit
     }
@@ -147,7 +147,7 @@ impl<T: Tables> Run<T> {
             (true, _) => self.heaps.refusal_tight_aligned(size, align),
         };
         assert_eq!(foretold, expected.err());
-        let grows = expected.is_ok_and(|(number, is_new)| !is_new && self.must_grow(number));
+        let raises = expected.is_ok_and(|(number, is_new)| !is_new && self.must_raise(number));
         self.counts[11] += (tight && expected.is_ok_and(|(n, is_new)| !is_new && !self.fits(n, size as u64 + align as u64 - 1, align))) as u64;
         let result = match (tight, align) {
             (false, 1) => self.heaps.allocate(size),
@@ -173,7 +173,7 @@ impl<T: Tables> Run<T> {
                     assert_eq!(place.ticket.realm, self.made);
                     self.counts[1 + !usual as usize] += 1;
                 }
-                if grows {
+                if raises {
                     let most = self.most_nodes(number);
                     let heap = self.model[number].as_mut().unwrap();
                     heap.limit = most.min(2 * heap.limit);
@@ -210,11 +210,11 @@ impl<T: Tables> Run<T> {
         self.model[number].iter().flat_map(|h| h.ranges.values()).map(|&n| n as u64).sum()
     }
 
-    // The first other heap that has room and need not grow for it, and has at least as many live units.
+    // The first other heap that has room, and whose limit need not be raised for it, and has at least as many live units.
     fn relocate(&mut self, place: Place, align: u32) -> Option<Place> {
         let live = self.live.get(&key(place)).copied();
         let own = place.heap as usize;
-        let takes = |n: usize, size: u32| n != own && !self.must_grow(n) && self.fits(n, size as u64 + align as u64 - 1, align) && self.live_units(n) >= self.live_units(own);
+        let takes = |n: usize, size: u32| n != own && !self.must_raise(n) && self.fits(n, size as u64 + align as u64 - 1, align) && self.live_units(n) >= self.live_units(own);
         let expected = live.and_then(|(_, size)| (0..self.model.len()).find(|&n| takes(n, size)));
         let second = if align == 1 { self.heaps.relocate(place) } else { self.heaps.relocate_aligned(place, align) };
         assert_eq!(second.map(|p| p.heap as usize), expected);
@@ -338,7 +338,7 @@ impl<T: Tables> Run<T> {
         let full = known.is_some_and(|h| h.ranges.iter().next_back().is_some_and(|(&at, &units)| at + units == h.units));
         let nodes = known.is_some() && self.heaps.heap(number as u32).unwrap().allocator().block_count() + 1 < self.most_nodes(number);
         let expected = known.is_some() && (more == 0 || !full || nodes);
-        let grows = known.is_some() && self.must_grow(number);
+        let raises = known.is_some() && self.must_raise(number);
         assert_eq!(self.heaps.extend_heap(number as u32, more), Ok(expected));
         if !expected {
             return;
@@ -346,7 +346,7 @@ impl<T: Tables> Run<T> {
         let most = self.most_nodes(number);
         let heap = self.model[number].as_mut().unwrap();
         heap.units += more;
-        if grows {
+        if raises {
             heap.limit = most.min(2 * heap.limit);
         }
         assert_eq!(self.heaps.units_of_heap(number as u32), Some(heap.units));
@@ -560,16 +560,16 @@ fn runs<T: Tables>(calls: u64) {
     let limits = |size, max_allocs, most, most_larger| Limits { size, first_size: size, max_allocs, first_allocs: max_allocs, most, most_larger };
     let few = |limits, first_allocs| Limits { first_allocs, ..limits };
     // few nodes, so that heaps are full with one and with two blocks left; many heaps; no larger ones; none at all; heaps that
-    // grow, at last to a limit that is no double; heaps that double, to a size that is no double, to one that no number
+    // are raised, at last to a limit that is no double; heaps that double, to a size that is no double, to one that no number
     // reaches, and from a unit on
     let all = [limits(1_000, 8, 5, 3), limits(64, 4, 37, 11), limits(4_096, 60, 3, 0), limits(500, 20, 0, 4)];
-    let growing = [few(limits(1_000, 100, 4, 2), 8), few(limits(600, 21, 5, 1), 9)];
+    let raised = [few(limits(1_000, 100, 4, 2), 8), few(limits(600, 21, 5, 1), 9)];
     let small = |limits, first_size| Limits { first_size, ..limits };
     let doubling = [small(limits(1_000, 8, 6, 3), 130), small(few(limits(4_000, 40, 4, 2), 8), 70), small(limits(800, 6, 40, 2), 1)];
-    for (limits, state) in all.into_iter().chain(growing).chain(doubling).zip(1..) {
+    for (limits, state) in all.into_iter().chain(raised).chain(doubling).zip(1..) {
         let mut run = Run::<T>::new(limits, 0x9E37_79B9_7F4A_7C15 + state);
         run.run(calls / 6);
-        println!("{limits:?}: {:?} refused, new, larger, granted, freed, dropped, given up, reset, relocated, emptied, grown, filled, extended, moved, passed over", run.counts);
+        println!("{limits:?}: {:?} refused, new, larger, granted, freed, dropped, given up, reset, relocated, emptied, raised, filled, extended, moved, passed over", run.counts);
         assert!(run.counts[0] > 0 && run.counts[3] > 0 && run.counts[4] > 0 && run.counts[6] > 0 && run.counts[7] > 0);
         assert!(run.counts[5] > 0, "an empty heap is dropped");
         assert!(run.counts[8] > 0 && run.counts[9] > 0, "a heap is emptied into others");

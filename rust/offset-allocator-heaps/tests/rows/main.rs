@@ -1,8 +1,8 @@
 //! Calls of many heaps, and what they have to return, as rows that were worked out by hand.
 
 mod dropping;
-mod growing;
 mod in_place;
+mod raising;
 mod relocating;
 mod states;
 

@@ -1,6 +1,6 @@
 use Rattle.std.proofs.Common.{◌≡◌, ◌+◌, ◌*◌, ◌≤◌, ◌^◌, ◌∙◌, ap, arith, length, mul-le-mul_left, subst, sym, refl}
 use Rattle.offset_heaps.specs.Heaps.{slot}
-use Rattle.offset_heaps.proofs.{Packing.kind_packed, Packing.realm_packed, Packing.sizes_packed, Places.shown}
+use Rattle.offset_heaps.proofs.{Compacted.kind_compacted, Compacted.realm_compacted, Compacted.sizes_compacted, Places.shown}
 use Rattle.offset_heaps.proofs.HeapsOf.compact.Goals as goal
 
 pub invariant_of-self : goal.invariant_of-self
@@ -17,15 +17,15 @@ invariant_of-self g c =
       limit_max = is.limit_max;
       limit_first = is.limit_first;
       size_first = is.size_first;
-      realms = λ k. realm_packed c.self.inside.made (slot k c.self.inside.slots) (slot k c.compact_all.new.slots) (all.done k) (is.realms k);
-      kinds = λ k. kind_packed c.self.inside.limits k (slot k c.self.inside.slots) (slot k c.compact_all.new.slots) (all.done k) (is.kinds k);
+      realms = λ k. realm_compacted c.self.inside.made (slot k c.self.inside.slots) (slot k c.compact_all.new.slots) (all.done k) (is.realms k);
+      kinds = λ k. kind_compacted c.self.inside.limits k (slot k c.self.inside.slots) (slot k c.compact_all.new.slots) (all.done k) (is.kinds k);
     }
 
 pub returns-clause-sizes : goal.returns-clause-sizes
 returns-clause-sizes g c =
     let old = shown c.self.inside.slots c.self.inside.limits c.self.inside.made c.self.inside.realm c.self.inside.accesses in
     let new = shown c.compact_all.new.slots c.self.inside.limits c.self.inside.made c.self.inside.realm c.compact_all.new.count in
-    rw (← c.self.view_is) (sizes_packed old new (record { heaps = c.compact_all.ensures.done; rest = refl }))
+    rw (← c.self.view_is) (sizes_compacted old new (record { heaps = c.compact_all.ensures.done; rest = refl }))
 
 pub returns-clause-moved : goal.returns-clause-moved
 returns-clause-moved g c = rw (← c.self.view_is) c.compact_all.ensures.moved

@@ -3,7 +3,7 @@ use Rattle.offset_allocator.specs.{Ranges.Range, View.View}
 use Rattle.offset_guarded.specs.Guard.{Guard}
 use Rattle.offset_heaps.specs.Changing.{CompactsIn}
 use Rattle.offset_heaps.proofs.Changes.{altered, compacted_blocks, kept_of_places}
-use Rattle.offset_heaps.proofs.Growing.{still_left}
+use Rattle.offset_heaps.proofs.Raising.{still_left}
 use Rattle.offset_heaps.proofs.{Places.shown, Sound.kind_kept, Sound.realm_kept, Sound.sound_put}
 use Rattle.offset_heaps.proofs.HeapsOf.compact_heap.Goals as goal
 

@@ -1,13 +1,13 @@
 use Rattle.std.proofs.Common.{◌<◌, length, ap, arith, subst, sym}
 use Rattle.offset_guarded.specs.Guard.{handle_in}
-use Rattle.offset_heaps.specs.Heaps.{Heaps, MustGrowIn, slot}
-use Rattle.offset_heaps.proofs.{Finding.levels, Growing.enough_left, Growing.must_in, Holders.filled_at, Shapes.blocks_tight, Shapes.limit_tight, Shapes.size_tight, Sound.kind_kept, Sound.realm_kept, Sound.sound_put}
+use Rattle.offset_heaps.specs.Heaps.{Heaps, MustRaiseIn, slot}
+use Rattle.offset_heaps.proofs.{Finding.levels, Raising.enough_left, Raising.must_in, Holders.filled_at, Shapes.blocks_tight, Shapes.limit_tight, Shapes.size_tight, Sound.kind_kept, Sound.realm_kept, Sound.sound_put}
 use Rattle.offset_heaps.proofs.HeapsOf.fill_at.Goals as goal
 
 pub invariant_of-self : goal.invariant_of-self
 invariant_of-self g c =
     let there : c.args.number < length c.self.inside.slots = let l = c.requires.there in let e = ap (λ (h : Heaps). length h.slots) c.self.view_is in omega arith in
-    let stays = subst (λ (h : Heaps). MustGrowIn h.limits c.args.number (slot c.args.number h.slots) → ⊥) (sym c.self.view_is) c.requires.stays in
+    let stays = subst (λ (h : Heaps). MustRaiseIn h.limits c.args.number (slot c.args.number h.slots) → ⊥) (sym c.self.view_is) c.requires.stays in
     let change = c.fill-ticket.ensures.grants in
     let by = change.by in
     let e = change.slots in
@@ -24,7 +24,7 @@ invariant_of-self g c =
 pub returns-clause-grants : goal.returns-clause-grants
 returns-clause-grants g c =
     let there : c.args.number < length c.self.inside.slots = let l = c.requires.there in let e = ap (λ (h : Heaps). length h.slots) c.self.view_is in omega arith in
-    let stays = subst (λ (h : Heaps). MustGrowIn h.limits c.args.number (slot c.args.number h.slots) → ⊥) (sym c.self.view_is) c.requires.stays in
+    let stays = subst (λ (h : Heaps). MustRaiseIn h.limits c.args.number (slot c.args.number h.slots) → ⊥) (sym c.self.view_is) c.requires.stays in
     rw (← c.self.view_is) (filled_at c.self.inside.slots c.fill-ticket.new.self c.self.inside.limits c.self.inside.made c.self.inside.realm c.self.inside.accesses c.note.new.count
     c.args.number c.args.size c.args.align c.fill-ticket.result there stays c.fill-ticket.ensures.grants)
 

@@ -1,11 +1,11 @@
-use Rattle.offset_heaps.proofs.Holders.{filled_grown, holds_after}
+use Rattle.offset_heaps.proofs.Holders.{filled_raised, holds_after}
 use Rattle.offset_heaps.proofs.HeapsOf.fill_first.Goals as goal
 
 pub fill_at-requires-clause-holds : goal.fill_at-requires-clause-holds
 fill_at-requires-clause-holds g c =
-    holds_after c.args.self.now.limits c.args.number c.args.size c.args.align c.args.self.now.slots c.grow.new.self.slots c.requires.there c.in-Ok.ensures.grows c.requires.first.0
+    holds_after c.args.self.now.limits c.args.number c.args.size c.args.align c.args.self.now.slots c.raise.new.self.slots c.requires.there c.in-Ok.ensures.raises c.requires.first.0
 
 pub returns-in-Ok-clause-grants : goal.returns-in-Ok-clause-grants
 returns-in-Ok-clause-grants g c =
-    filled_grown c.args.self.now c.grow.new.self c.fill_at.new.self c.args.size c.args.align c.args.number c.fill_at.result.place c.requires.there c.in-Ok.ensures.grows c.grow.ensures.rest
+    filled_raised c.args.self.now c.raise.new.self c.fill_at.new.self c.args.size c.args.align c.args.number c.fill_at.result.place c.requires.there c.in-Ok.ensures.raises c.raise.ensures.rest
     c.in-Ok.ensures.stays c.fill_at.ensures.number c.fill_at.ensures.grants

@@ -4,7 +4,7 @@ use Rattle.offset_allocator.specs.View.{View}
 use Rattle.offset_guarded.specs.Guard.{Guard}
 use Rattle.offset_heaps.specs.Heaps.{Heaps, IsLive}
 use Rattle.offset_heaps.proofs.Places.{freed_gone, freed_others, freed_step, live_place, live_ticket, not_live_elsewhere, other_realm, same_slots, shown}
-use Rattle.offset_heaps.proofs.Growing.{freed_blocks, still_left}
+use Rattle.offset_heaps.proofs.Raising.{freed_blocks, still_left}
 use Rattle.offset_heaps.proofs.Sound.{kind_kept, realm_kept, sound_put, wide_put}
 use Rattle.offset_heaps.proofs.HeapsOf.free.Goals as goal
 

@@ -1,14 +1,14 @@
 use Rattle.std.proofs.Common.{◌<◌, length, ap, arith, subst, sym}
 use Rattle.offset_allocator.specs.{Requests.units_needed, View.View, View.padding_to}
 use Rattle.offset_guarded.specs.Guard.{handle_in}
-use Rattle.offset_heaps.specs.Heaps.{Heaps, MustGrowIn, slot}
-use Rattle.offset_heaps.proofs.{Finding.levels, Grants.granted_at, Growing.enough_left, Growing.must_in, Growing.split_blocks, Sound.kind_kept, Sound.realm_kept, Sound.sound_put}
+use Rattle.offset_heaps.specs.Heaps.{Heaps, MustRaiseIn, slot}
+use Rattle.offset_heaps.proofs.{Finding.levels, Grants.granted_at, Raising.enough_left, Raising.must_in, Raising.split_blocks, Sound.kind_kept, Sound.realm_kept, Sound.sound_put}
 use Rattle.offset_heaps.proofs.HeapsOf.grant_at.Goals as goal
 
 pub invariant_of-self : goal.invariant_of-self
 invariant_of-self g c =
     let there : c.args.number < length c.self.inside.slots = let l = c.requires.there in let e = ap (λ (h : Heaps). length h.slots) c.self.view_is in omega arith in
-    let stays = subst (λ (h : Heaps). MustGrowIn h.limits c.args.number (slot c.args.number h.slots) → ⊥) (sym c.self.view_is) c.requires.stays in
+    let stays = subst (λ (h : Heaps). MustRaiseIn h.limits c.args.number (slot c.args.number h.slots) → ⊥) (sym c.self.view_is) c.requires.stays in
     let change = c.grant-ticket.ensures.grants in
     let by = change.by in
     let e = change.slots in
@@ -24,7 +24,7 @@ invariant_of-self g c =
 pub returns-clause-grants : goal.returns-clause-grants
 returns-clause-grants g c =
     let there : c.args.number < length c.self.inside.slots = let l = c.requires.there in let e = ap (λ (h : Heaps). length h.slots) c.self.view_is in omega arith in
-    let stays = subst (λ (h : Heaps). MustGrowIn h.limits c.args.number (slot c.args.number h.slots) → ⊥) (sym c.self.view_is) c.requires.stays in
+    let stays = subst (λ (h : Heaps). MustRaiseIn h.limits c.args.number (slot c.args.number h.slots) → ⊥) (sym c.self.view_is) c.requires.stays in
     rw (← c.self.view_is) (granted_at c.self.inside.slots c.grant-ticket.new.self c.self.inside.limits c.self.inside.made c.self.inside.realm c.self.inside.accesses c.note.new.count
     c.args.number c.args.size c.args.align c.grant-ticket.result there stays c.grant-ticket.ensures.grants)
 

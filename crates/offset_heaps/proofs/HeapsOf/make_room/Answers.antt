@@ -2,7 +2,7 @@ use Rattle.std.proofs.Common.{refl, arith, ap, option_map}
 use Rattle.offset_allocator.specs.Ranges.{Range}
 use Rattle.offset_guarded.specs.Guard.{Guard}
 use Rattle.offset_heaps.proofs.Changes.{altered, kept_of_places, room_blocks, room_limits}
-use Rattle.offset_heaps.proofs.Growing.{still_left}
+use Rattle.offset_heaps.proofs.Raising.{still_left}
 use Rattle.offset_heaps.proofs.{Places.shown, Sound.kind_kept, Sound.realm_kept, Sound.sound_put}
 use Rattle.offset_heaps.proofs.HeapsOf.make_room.Goals as goal
 

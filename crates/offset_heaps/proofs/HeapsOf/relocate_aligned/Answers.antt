@@ -1,6 +1,6 @@
 use Rattle.std.proofs.Common.{ap, arith, subst, sym}
 use Rattle.offset_heaps.specs.{Heaps.Heaps, Heaps.Grants, Heaps.numbers, Relocating.IsTaker, Relocating.granted}
-use Rattle.offset_heaps.proofs.{Grants.granted_since, Grants.not_live_before, Grants.others_kept, Grants.range_granted, Places.shown, Takers.takes_range, Takers.takes_units, Takers.units_here}
+use Rattle.offset_heaps.proofs.{Grants.granted_since, Grants.not_live_before, Grants.others_kept, Grants.range_granted, Places.shown, Takers.takes_range, Takers.takes_units, Takers.size_here}
 use Rattle.offset_heaps.proofs.HeapsOf.relocate_aligned.Goals as goal
 
 pub returns-in_err-number-clause-none : goal.returns-in_err-number-clause-none
@@ -45,7 +45,7 @@ returns-clause-grants g c =
     let old = shown c.self.inside.slots c.self.inside.limits c.self.inside.made c.self.inside.realm c.self.inside.accesses in
     rw (← c.self.view_is)
     (subst (λ n. Grants n c.args.align old c.grant_at.new.self (granted c.grant_at.result.place))
-    (units_here c.args.place c.args.align old c.units_at-size.result.0 c.units_at-size.result.1 c.if-place-self.false c.units_at-size.ensures.units c.units_at-size.ensures.live)
+    (size_here c.args.place c.args.align old c.units_at-size.result.0 c.units_at-size.result.1 c.if-place-self.false c.units_at-size.ensures.units c.units_at-size.ensures.live)
     (subst (λ b. Grants c.units_at-size.result.0 c.args.align old c.grant_at.new.self (record { place = c.grant_at.result.place; is_new = b })) c.grant_at.ensures.found
     (granted_since c.units_at-size.result.0 c.args.align old c.taker.new.self c.grant_at.new.self c.grant_at.result c.taker.ensures.same c.grant_at.ensures.grants)))
 
@@ -59,7 +59,7 @@ returns-clause-not_live g c =
 pub returns-clause-range : goal.returns-clause-range
 returns-clause-range g c =
     let old = shown c.self.inside.slots c.self.inside.limits c.self.inside.made c.self.inside.realm c.self.inside.accesses in
-    rw (← c.self.view_is, ← units_here c.args.place c.args.align old c.units_at-size.result.0 c.units_at-size.result.1 c.if-place-self.false c.units_at-size.ensures.units c.units_at-size.ensures.live)
+    rw (← c.self.view_is, ← size_here c.args.place c.args.align old c.units_at-size.result.0 c.units_at-size.result.1 c.if-place-self.false c.units_at-size.ensures.units c.units_at-size.ensures.live)
     (range_granted c.units_at-size.result.0 c.args.align old c.grant_at.new.self c.grant_at.result
     (granted_since c.units_at-size.result.0 c.args.align old c.taker.new.self c.grant_at.new.self c.grant_at.result c.taker.ensures.same c.grant_at.ensures.grants))
 

@@ -4,7 +4,7 @@ use Rattle.offset_allocator.specs.View.{View}
 use Rattle.offset_guarded.specs.Guard.{Guard}
 use Rattle.offset_heaps.specs.Changing.{CanResizeIn, Resizes, ResizesSpace, wanted}
 use Rattle.offset_heaps.specs.Heaps.{HasNodesLeft}
-use Rattle.offset_heaps.proofs.Growing.{still_left}
+use Rattle.offset_heaps.proofs.Raising.{still_left}
 use Rattle.offset_heaps.proofs.Changes.{alike, altered, kept_of_places, others_kept, resized_left, same_limits, same_space, undone_twin}
 use Rattle.offset_heaps.proofs.{Places.shown, Sound.kind_kept, Sound.realm_kept, Sound.sound_put}
 use Rattle.offset_heaps.proofs.HeapsOf.resize.Goals as goal

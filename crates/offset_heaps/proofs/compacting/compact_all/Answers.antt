@@ -2,8 +2,8 @@ use Rattle.std.proofs.Common.{◌≡◌, ◌+◌, ◌*◌, ◌<◌, ◌≤◌, �
 use Rattle.std.proofs.lemmas.List.{drop_all, length-set}
 use Rattle.std.proofs.Math.Nat.{add-mul}
 use Rattle.std.specs.List.{FoldsTo}
-use Rattle.offset_heaps.specs.{Changing.IsCalledAt, Changing.PacksIn, Changing.moves_from, Changing.moves_in, Changing.numbered, Heaps.slot}
-use Rattle.offset_heaps.proofs.{Packing.folds_append, Packing.moves_step, Sound.changes_more, Sound.noted_changed}
+use Rattle.offset_heaps.specs.{Changing.IsCalledAt, Changing.CompactsSlot, Changing.moves_from, Changing.moves_in, Changing.numbered, Heaps.slot}
+use Rattle.offset_heaps.proofs.{Compacted.folds_append, Compacted.moves_step, Sound.changes_more, Sound.noted_changed}
 use Rattle.offset_heaps.proofs.compacting.compact_all.Goals as goal
 
 pub loop-number-preserved : goal.loop-number-preserved
@@ -13,25 +13,25 @@ loop-number-preserved g c =
     let all = c.requires.numbers in
     let there : c.loop-number.number < length c.loop-number.slots = omega arith in
     let there_first : c.loop-number.number < length c.args.slots.now = omega arith in
-    let change = c.pack.ensures.change in
-    let more = changes_more PacksIn c.args.slots.now c.loop-number.slots c.pack.new.self c.loop-number.number there change inv.done inv.left in
+    let change = c.compact_numbered.ensures.change in
+    let more = changes_more CompactsSlot c.args.slots.now c.loop-number.slots c.compact_numbered.new.self c.loop-number.number there change inv.done inv.left in
     let R = IsCalledAt g.T.Index.NonMax.NodeIndexNonMax.number (λ f k range h. goal.F-step g f k range tt h) in
     record {
-      callable = c.pack.ensures.callable;
+      callable = c.compact_numbered.ensures.callable;
       done = more.0;
       left = more.1;
       moves = λ last rest. inv.moves last (subst (λ ms. FoldsTo R c.loop-number.moved ms last) (sym (moves_step c.args.slots.now c.loop-number.number there_first))
-          (folds_append R c.loop-number.moved c.pack.new.moved last (numbered c.loop-number.number (moves_in (slot c.loop-number.number c.args.slots.now)))
+          (folds_append R c.loop-number.moved c.compact_numbered.new.moved last (numbered c.loop-number.number (moves_in (slot c.loop-number.number c.args.slots.now)))
           (moves_from (c.loop-number.number + 1) (drop (c.loop-number.number + 1) c.args.slots.now))
-          (subst (λ o. FoldsTo R c.loop-number.moved (numbered c.loop-number.number (moves_in o)) c.pack.new.moved) (inv.left c.loop-number.number (omega arith)) c.pack.ensures.moved) rest));
+          (subst (λ o. FoldsTo R c.loop-number.moved (numbered c.loop-number.number (moves_in o)) c.compact_numbered.new.moved) (inv.left c.loop-number.number (omega arith)) c.compact_numbered.ensures.moved) rest));
       len = ap length change.slots ∙ length-set c.loop-number.slots c.loop-number.number change.now ∙ inv.len;
       wide = c.note.ensures.wide;
-      noted = noted_changed PacksIn c.args.limits c.loop-number.slots c.pack.new.self c.loop-number.number c.loop-number.index c.note.new.self change inv.noted c.note.ensures.here
+      noted = noted_changed CompactsSlot c.args.limits c.loop-number.slots c.compact_numbered.new.self c.loop-number.number c.loop-number.index c.note.new.self change inv.noted c.note.ensures.here
           c.note.ensures.others;
       levels = c.note.ensures.levels ∙ inv.levels;
       accesses =
           let next = add-mul c.loop-number.number 1 (12 * c.args.index.now.one.height + 10) in
-          omega (arith, next, inv.accesses, inv.levels, c.pack.ensures.accesses, c.note.ensures.accesses);
+          omega (arith, next, inv.accesses, inv.levels, c.compact_numbered.ensures.accesses, c.note.ensures.accesses);
     }
 
 pub returns-clause-moved : goal.returns-clause-moved

@@ -3,7 +3,7 @@ use Rattle.std.specs.List.{FoldsTo}
 use denote.Param.Always.{mut_by, mut_next}
 use Rattle.offset_allocator.specs.Moving.Compacting.{moves}
 use Rattle.offset_heaps.specs.Changing.{IsCalledAt, numbered}
-use Rattle.offset_heaps.proofs.Packing.{given, kept_along, numbered_steps}
+use Rattle.offset_heaps.proofs.Compacted.{given, kept_along, numbered_steps}
 use Rattle.offset_heaps.proofs.compacting.compact_numbered.Goals as goal
 
 pub compact-requires : goal.compact-requires

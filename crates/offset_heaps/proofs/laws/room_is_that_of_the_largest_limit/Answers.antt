@@ -2,7 +2,7 @@ use Rattle.std.proofs.Common.{IfSome, Option, Some, None, ◌<◌, ◌≡◌, �
 use Rattle.offset_guarded.specs.Guard.{Guard, IsRaised}
 use Rattle.offset_heaps.specs.declared.limits.Limits.{Limits}
 use Rattle.offset_heaps.specs.Heaps.{Heaps, IsOfKind, heap_at, room}
-use Rattle.offset_heaps.proofs.Growing.{room_largest}
+use Rattle.offset_heaps.proofs.Raising.{room_largest}
 use Rattle.offset_heaps.proofs.laws.room_is_that_of_the_largest_limit.Goals as goal
 
 largest : (limits : Limits) (k : ℕ) (o : Option Guard) → k < limits.most → IfSome o (IsOfKind limits k)

@@ -42,38 +42,38 @@ fn expect_alike<T: Tables>() {
 }
 
 #[test]
-fn heaps_that_grow_grant_as_others_do() {
+fn heaps_that_are_raised_grant_as_others_do() {
     in_each_layout!(expect_alike);
 }
 
 // A heap has 8 nodes, then 16, 32 and 40, each time before a grant finds fewer than five unused ones: so one of
-// 8 nodes with four blocks grows, and one with three does not.
-fn expect_growth<T: Tables>() {
+// 8 nodes with four blocks has its limit raised, and one with three does not.
+fn expect_raises<T: Tables>() {
     let mut heaps: HeapsOf<T> = new(few());
     assert_eq!(limits_of(&heaps), [None, None, None]);
-    let mut grown = Vec::new();
+    let mut raised = Vec::new();
     for step in 0..38 {
         let before = limits_of(&heaps)[0];
         let place = heaps.allocate(1).expect("a grant").place;
         assert_eq!(place.heap, 0, "at {step}");
         if before.is_some() && limits_of(&heaps)[0] != before {
-            grown.push(step);
+            raised.push(step);
         }
     }
     // n live ranges and the free block are n + 1 blocks
-    assert_eq!(grown, [3, 11, 27]);
+    assert_eq!(raised, [3, 11, 27]);
     assert_eq!(limits_of(&heaps), [Some(40), None, None]);
     // 38 live ranges and a free block: of 40 nodes one stays unused, and the next heap has 8 of them
     let next = heaps.allocate(1).expect("a grant");
     assert_eq!((next.place.heap, next.is_new), (1, true));
     assert_eq!(limits_of(&heaps), [Some(40), Some(8), None]);
-    // a larger heap has 4, and does not grow
+    // a larger heap has 4, and is never raised
     assert_eq!(granted(&mut heaps, 201).heap, 2);
     assert_eq!(limits_of(&heaps), [Some(40), Some(8), Some(4)]);
 }
 
-// Heap 0 has four blocks and four unused nodes: it would have to grow for a range of heap 1, and takes none, since
-// `relocate` takes no memory. A request makes it grow, and then it takes the range.
+// Heap 0 has four blocks and four unused nodes: its limit would have to be raised for a range of heap 1, and it takes
+// none, since `relocate` takes no memory. A request raises it, and then the heap takes the range.
 fn expect_relocation<T: Tables>() {
     let heaps: &mut HeapsOf<T> = &mut new(few());
     let first = granted(heaps, 60);
@@ -95,7 +95,7 @@ fn expect_relocation<T: Tables>() {
 }
 
 #[test]
-fn heaps_grow() {
-    in_each_layout!(expect_growth);
+fn node_limits_are_raised() {
+    in_each_layout!(expect_raises);
     in_each_layout!(expect_relocation);
 }

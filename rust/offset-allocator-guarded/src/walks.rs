@@ -1,6 +1,6 @@
-// Printed by rust/erase from crates/offset_guarded/src/beside.rt: change it there.
+// Printed by rust/erase from crates/offset_guarded/src/walks.rt: change it there.
 
-//! The live ranges beside one another in space. It changes nothing.
+//! Walks from one live range to the next in space, and what is live at an offset. It changes nothing.
 
 use crate::GuardedOf;
 use crate::ticket::Ticket;

@@ -6,19 +6,19 @@ use Rattle.offset_allocator.specs.{Moving.Compacting.Move, Ranges.Range, View.Vi
 use Rattle.offset_guarded.specs.Guard.{Guard}
 use Rattle.offset_guarded.specs.declared.ticket.Ticket.{Ticket}
 use Rattle.offset_heaps.specs.declared.limits.Limits.{Limits}
-use Rattle.offset_heaps.specs.Changing.{CompactsAll, KeepsSizes, PacksIn, moves_from, moves_in, numbered}
+use Rattle.offset_heaps.specs.Changing.{CompactsAll, KeepsSizes, CompactsSlot, moves_from, moves_in, numbered}
 use Rattle.offset_heaps.specs.Heaps.{Heaps, IsOfKind, heap_at, range_in, slot}
-use Rattle.offset_heaps.proofs.{Changes.compacted_blocks, Growing.still_left, Sound.kind_kept}
+use Rattle.offset_heaps.proofs.{Changes.compacted_blocks, Raising.still_left, Sound.kind_kept}
 
 -- what is compacted has its realm
-pub realm_packed : (made : ℕ) (old new : Option Guard) → PacksIn old new → IfSome old (λ g. g.realm ≤ made) → IfSome new (λ g. g.realm ≤ made)
-realm_packed made None new e h = rw e tt
-realm_packed made (Some before) new r h = rw r.1 (let same : r.0.realm ≡ before.realm = ap (λ (g : Guard). g.realm) r.2.serials in omega (arith, same, h))
+pub realm_compacted : (made : ℕ) (old new : Option Guard) → CompactsSlot old new → IfSome old (λ g. g.realm ≤ made) → IfSome new (λ g. g.realm ≤ made)
+realm_compacted made None new e h = rw e tt
+realm_compacted made (Some before) new r h = rw r.1 (let same : r.0.realm ≡ before.realm = ap (λ (g : Guard). g.realm) r.2.serials in omega (arith, same, h))
 
 -- and is of its kind
-pub kind_packed : (limits : Limits) (k : ℕ) (old new : Option Guard) → PacksIn old new → IfSome old (IsOfKind limits k) → IfSome new (IsOfKind limits k)
-kind_packed limits k None new e h = rw e tt
-kind_packed limits k (Some before) new r h =
+pub kind_compacted : (limits : Limits) (k : ℕ) (old new : Option Guard) → CompactsSlot old new → IfSome old (IsOfKind limits k) → IfSome new (IsOfKind limits k)
+kind_compacted limits k None new e h = rw e tt
+kind_compacted limits k (Some before) new r h =
     let limit = ap (λ (v : View). v.max_allocs) r.2.step.view in
     kind_kept limits k (Some before) new before r.0 refl r.1 (ap (λ (v : View). v.size) r.2.step.view) limit
     (still_left limits k before r.0 (compacted_blocks before.space r.0.space r.2.step) limit) h
@@ -31,12 +31,12 @@ sized_if : (b : Bool) (o q : Option Range) → units_in o ≡ units_in q → uni
 sized_if true o q e = e
 sized_if false o q e = refl
 
-sized_in : (t : Ticket) (o new : Option Guard) → PacksIn o new → units_in (range_in t new) ≡ units_in (range_in t o)
+sized_in : (t : Ticket) (o new : Option Guard) → CompactsSlot o new → units_in (range_in t new) ≡ units_in (range_in t o)
 sized_in t None new e = ap (λ q. units_in (range_in t q)) e
 sized_in t (Some g) new r = ap (λ q. units_in (range_in t q)) r.1 ∙ r.2.sizes t
 
-pub sizes_packed : (hs ks : Heaps) → CompactsAll hs ks → KeepsSizes hs ks
-sizes_packed hs ks all p =
+pub sizes_compacted : (hs ks : Heaps) → CompactsAll hs ks → KeepsSizes hs ks
+sizes_compacted hs ks all p =
     ap (λ r. units_in (if nat_eq p.realm r then range_in p.ticket (heap_at p.heap ks) else None)) (ap (λ (h : Heaps). h.realm) all.rest)
     ∙ sized_if (nat_eq p.realm hs.realm) (range_in p.ticket (heap_at p.heap ks)) (range_in p.ticket (heap_at p.heap hs))
     (sized_in p.ticket (heap_at p.heap hs) (heap_at p.heap ks) (all.heaps p.heap))

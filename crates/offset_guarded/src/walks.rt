@@ -1,4 +1,4 @@
-//! The live ranges beside one another in space. It changes nothing.
+//! Walks from one live range to the next in space, and what is live at an offset. It changes nothing.
 ghost use Rattle.std.specs.Prelude.{◌≡◌, None, option_map};
 ghost use Rattle.offset_allocator.specs.AtPlace.{in_the_way};
 ghost use Rattle.offset_allocator.specs.Reporting.Beside.{first_live, last_live, live_after, live_before};

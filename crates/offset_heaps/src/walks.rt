@@ -1,4 +1,4 @@
-//! The live ranges of a heap, beside one another in space. It changes nothing.
+//! Walks from one live range of a heap to the next in space. It changes nothing.
 ghost use Rattle.std.specs.Prelude.{◌≡◌, None, option_map};
 ghost use Rattle.offset_guarded.specs.declared.ticket.Ticket.{Ticket};
 ghost use Rattle.offset_heaps.specs.Heaps.{IsLive, heap_at};

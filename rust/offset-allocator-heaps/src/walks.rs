@@ -1,6 +1,6 @@
-// Printed by rust/erase from crates/offset_heaps/src/beside.rt: change it there.
+// Printed by rust/erase from crates/offset_heaps/src/walks.rt: change it there.
 
-//! The live ranges of a heap, beside one another in space. It changes nothing.
+//! Walks from one live range of a heap to the next in space. It changes nothing.
 
 use crate::HeapsOf;
 use crate::place::Place;
