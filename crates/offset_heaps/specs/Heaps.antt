@@ -41,7 +41,7 @@ pub record Heaps : Type 0 where
 abbrev pub numbers : Heaps → ℕ
 numbers hs = hs.limits.most + hs.limits.most_larger
 
--- few slots and cells of the index were read or written: some for each bit of the numbers
+-- few slots and cells of the index were read or written: 16 for each bit of the count of numbers, and 32
 abbrev pub TakesFewSteps : Heaps → Heaps → Type 0
 TakesFewSteps hs ks = (bits : ℕ) → numbers hs ≤ 2 ^ bits → ks.accesses ≤ hs.accesses + 16 * bits + 32
 
@@ -65,7 +65,7 @@ room_of blocks (Some g) = room blocks g
 abbrev pub NoneFits : ℕ → ℕ → Heaps → Type 0
 NoneFits blocks units hs = (k : ℕ) → room_of blocks (heap_at k hs) < units
 
--- this heap is the first that has
+-- the heap of number k is the first that has room for the blocks and units
 abbrev pub IsFirstFit : ℕ → ℕ → ℕ → Heaps → Type 0
 IsFirstFit blocks units k hs = (units ≤ room_of blocks (heap_at k hs)) × ((j : ℕ) → j < k → room_of blocks (heap_at j hs) < units)
 
@@ -77,8 +77,8 @@ usual_size limits k = min (limits.first_size * 2 ^ k) limits.size
 abbrev pub usual_room : Limits → ℕ → ℕ
 usual_room limits k = value (down (usual_size limits k))
 
--- a request is usual: the last usual heap, the largest, where there may be any, grants that many units when it is fresh. They
--- begin at 0, which is a multiple of every alignment
+-- a request is usual: the last usual heap, the largest, where there may be any, grants that many units when it is fresh. The
+-- first range of a fresh heap begins at 0, a multiple of every alignment, so none is asked of it
 abbrev pub IsUsual : ℕ → Heaps → Type 0
 IsUsual size hs = (1 ≤ hs.limits.most) × (size ≤ usual_room hs.limits (hs.limits.most - 1))
 
@@ -96,7 +96,8 @@ IsNext size k hs = (hs.made < last_realm)
     × ((IsUsual size hs × IsSpareUsual size k hs × ((j : ℕ) → j < k → IsSpareUsual size j hs → ⊥))
     ⊎ ((IsUsual size hs → ⊥) × IsSpareLarger k hs × ((j : ℕ) → j < k → IsSpareLarger j hs → ⊥)))
 
--- fewer than n nodes of a usual heap are unused, and its node limit is below the largest one
+-- fewer than n nodes of a usual heap have no block, of those made and those that may still be, and its node limit is below
+-- the largest one
 abbrev pub HasFewNodes : ℕ → Limits → ℕ → Guard → Type 0
 HasFewNodes n limits k g = (k < limits.most) × (g.space.max_allocs < limits.max_allocs) × (g.space.max_allocs < length g.space.blocks + n)
 
@@ -109,7 +110,7 @@ abbrev pub MustRaiseIn : Limits → ℕ → Option Guard → Type 0
 MustRaiseIn limits k None = ⊥
 MustRaiseIn limits k (Some g) = MustRaise limits k g
 
--- the limit that it has then: twice as much, and at most the largest one
+-- the limit of a heap that was raised: twice as much, and at most the largest one
 abbrev pub raised_limit : Limits → Guard → ℕ
 raised_limit limits g = min (2 * g.space.max_allocs) limits.max_allocs
 
@@ -146,18 +147,18 @@ IsWhyNotMade hs Full = hs.made ≡ last_realm
 IsWhyNotMade hs Memory = hs.made < last_realm
 IsWhyNotMade hs why = ⊥
 
--- the heap that a new one is at first
-pub record IsNew (size max_allocs number : ℕ) (g : Guard) : Type 0 where
+-- a heap that was just made, the `made`-th: a fresh space, no serial given, and that number as its realm
+pub record IsNew (size max_allocs made : ℕ) (g : Guard) : Type 0 where
   pub space : IsFresh size max_allocs g.space
   pub serials : (g.given ≡ 0) × (g.serials ≡ [])
-  pub realm : g.realm ≡ number
+  pub realm : g.realm ≡ made
 
 -- the node limit that a usual heap begins with: the largest one, or at least 8
 abbrev pub IsFirstLimit : Limits → Type 0
 IsFirstLimit limits = (min 8 limits.max_allocs ≤ limits.first_allocs) × (limits.first_allocs ≤ limits.max_allocs)
 
--- its limit is one between these, and below the largest one at least three nodes are unused: so it has room for two blocks
--- more, as it would have under that limit
+-- a usual heap's limit is between `first_allocs` and `max_allocs`, and below the latter at least three of its nodes have no
+-- block: so it has room for two blocks more, as it would have under that limit
 abbrev pub HasNodesLeft : Limits → Guard → Type 0
 HasNodesLeft limits g = (limits.first_allocs ≤ g.space.max_allocs) × (g.space.max_allocs ≤ limits.max_allocs)
     × (min limits.max_allocs (length g.space.blocks + 3) ≤ g.space.max_allocs)
