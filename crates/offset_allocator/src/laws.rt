@@ -42,11 +42,11 @@ pub use crate::at_place::{in_the_way_counted, is_free_at_counted};
 pub use crate::moves::room::room_cost_counted;
 pub use crate::moves::room_by_steps::room_cost_by_counted;
 pub use crate::reports::beginning::would_begin_counted;
-pub use crate::reports::beside::{
-    first_live_counted, last_live_counted, live_after_counted, live_before_counted,
-};
 pub use crate::reports::blocks::next_block_counted;
 pub use crate::reports::statistics::{is_empty_counted, statistics_counted};
+pub use crate::reports::walks::{
+    first_live_counted, last_live_counted, live_after_counted, live_before_counted,
+};
 pub use crate::reports::{
     allocation_offset_counted, allocation_size_counted, is_live_counted, refusal_aligned_counted,
     refusal_counted, storage_report_counted, storage_report_full_counted,

@@ -10,11 +10,11 @@ ghost use Rattle.offset_allocator.specs.Requests.{CanGrant, IsWhy, blocks_needed
 ghost use Rattle.offset_allocator.specs.Reporting.Reports.{IsReport, IsFullReport};
 
 pub(crate) mod beginning;
-pub(crate) mod beside;
 pub(crate) mod blocks;
 pub(crate) mod dumping;
 pub(crate) mod lengths;
 pub(crate) mod statistics;
+pub(crate) mod walks;
 
 use crate::accesses::Accesses;
 use crate::handle::Allocation;

@@ -1,7 +1,7 @@
 -- The numbers that a state with tickets begins with, read one by one.
 use Rattle.std.proofs.Common.{◌≡◌, ℕ, ◌+◌, List, arith, subst, sym}
 use Rattle.offset_guarded.specs.{Numbers.checksum_from, Numbers.number_at, Numbers.numbers, State.IsHeader, StateFaults.IsHeaded}
-use Rattle.offset_guarded.specs.declared.restoring.Header.{Header}
+use Rattle.offset_guarded.specs.declared.restore.Header.{Header}
 
 pub headed : {bytes : List ℕ} {h : Header} → IsHeader bytes h → IsHeaded bytes
 headed {bytes} hd = record {

@@ -7,7 +7,7 @@ use Rattle.offset_allocator.specs.Saving.State as allocator
 use Rattle.offset_allocator.specs.Relations.{SameState}
 use Rattle.offset_guarded.specs.{Guard.Guard, Numbers.checksum_from, Numbers.number_at, Numbers.numbers}
 use Rattle.offset_guarded.specs.State.{IsHeader, IsStateOf, SameGuard, state_form, state_version, ticket_numbers}
-use Rattle.offset_guarded.specs.declared.restoring.Header.{Header}
+use Rattle.offset_guarded.specs.declared.restore.Header.{Header}
 use Rattle.offset_guarded.proofs.Bytes.{length-numbers, number_in, numbers-add, numbers_more, all_drop, same_front}
 use Rattle.std.specs.List.{AllByRecursion, concat}
 

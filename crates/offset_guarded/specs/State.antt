@@ -5,7 +5,7 @@ use Rattle.offset_allocator.specs.Ranges as named
 use Rattle.offset_allocator.specs.Saving.State as allocator
 use Rattle.offset_guarded.specs.Guard.{Guard, serial_of}
 use Rattle.offset_guarded.specs.Numbers.{checksum_from, number_at, numbers}
-use Rattle.offset_guarded.specs.declared.restoring.Header.{Header}
+use Rattle.offset_guarded.specs.declared.restore.Header.{Header}
 
 -- the number that a state begins with, and the version of the form
 abbrev pub state_form : ℕ

@@ -15,7 +15,7 @@ use Rattle.offset_guarded.proofs.States as guards
 use Rattle.offset_guarded.proofs.Bytes.{length-numbers, number_in, numbers-add, numbers_more, all_take, all_drop, same_front}
 use Rattle.offset_heaps.specs.declared.limits.Limits.{Limits}
 use Rattle.offset_heaps.specs.declared.index.Index.{Index}
-use Rattle.offset_heaps.specs.declared.restoring.Header.{Header}
+use Rattle.offset_heaps.specs.declared.restore.Header.{Header}
 use Rattle.offset_heaps.specs.{Heaps.Heaps, Heaps.IsOfKind, Heaps.slot, Maxima.cell, Soundness.IsNoted, Soundness.IsSound, Soundness.IsWide, State.quiet, State.state_form, State.state_version}
 use Rattle.offset_heaps.specs.State.{AreRead, AreStatesOf, IsAdmitted, IsHeader, IsHeapAdmitted, IsHeapAt, IsHeapFormed, IsHeapState, IsRestored, IsStateOf, IsWellFormed, SameHeaps, heaps_numbers}
 use Rattle.offset_heaps.proofs.{Numbers.slot_other, Numbers.slot_past, Numbers.slot_same, Places.shown, Sound.empty_cell}

@@ -8,7 +8,7 @@ use Rattle.offset_guarded.specs.State as guarded
 use Rattle.offset_heaps.specs.Heaps.{Heaps, IsFirstLimit, IsFirstSize, IsOfKind, heap_at, numbers, slot}
 use Rattle.offset_heaps.specs.declared.limits.Limits.{Limits}
 use Rattle.offset_heaps.specs.Maxima.{cell}
-use Rattle.offset_heaps.specs.declared.restoring.Header.{Header}
+use Rattle.offset_heaps.specs.declared.restore.Header.{Header}
 use Rattle.offset_heaps.specs.declared.state.StateFaultKind.{StateFaultKind}
 use Rattle.offset_heaps.specs.declared.state.StateFaultKind.TheVariants.{Length, Form, Limits as OfLimits, Counts, Checksum, Place, Realm, Size, Heap}
 

@@ -7,7 +7,7 @@ use Rattle.offset_guarded.specs.StateFaults as tickets
 use Rattle.offset_heaps.specs.Heaps.{IsOfKind}
 use Rattle.offset_heaps.specs.State.{IsHeader, IsHeapAdmitted, IsHeapReadAt, state_form, state_version}
 use Rattle.offset_heaps.specs.declared.limits.Limits.{Limits}
-use Rattle.offset_heaps.specs.declared.restoring.Header.{Header}
+use Rattle.offset_heaps.specs.declared.restore.Header.{Header}
 use Rattle.offset_heaps.specs.declared.state.StateFault.{StateFault}
 use Rattle.offset_heaps.specs.declared.state.StateFaultKind.{StateFaultKind}
 use Rattle.offset_heaps.specs.declared.state.StateFaultKind.TheVariants.{Length, Form, Limits as OfLimits, Counts, Checksum, Place, Realm, Size, Heap}

@@ -31,8 +31,8 @@ ghost use Rattle.offset_heaps.specs.declared.totals.Totals.{Totals};
 ghost use Rattle.offset_heaps.specs.declared.refusal.Refusal.TheVariants.{Memory};
 
 use crate::HeapsOf;
-pub use crate::asking::refusal_aligned_counted;
-pub use crate::numbering::{first_heap_counted, heap_after_counted};
+pub use crate::foretell::refusal_aligned_counted;
+pub use crate::heap_numbers::{first_heap_counted, heap_after_counted};
 pub use crate::relocate::emptiest_counted;
 pub use crate::tight::refusal_tight_aligned_counted;
 use offset_allocator::Tables;

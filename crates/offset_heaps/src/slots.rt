@@ -19,8 +19,8 @@ ghost use Rattle.offset_heaps.specs.Relocating.{HasLive, IsEmptiest, NoneLive, T
 ghost use Rattle.offset_heaps.specs.Slots.{CanHoldIn, Changes, Fills, FreesIn, RaisesIn, KeepsOthersIn};
 ghost use Rattle.offset_heaps.specs.Slots.{IsMore, ResetsIn, Serves, ServesTight};
 
-use crate::compacting::compact_numbered;
-use crate::extending::extend_in;
+use crate::compact::compact_numbered;
+use crate::extend::extend_in;
 use crate::index::{is_empty_heap, rooms};
 use crate::limits::Limits;
 use crate::resize::Resize;

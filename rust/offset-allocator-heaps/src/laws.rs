@@ -2,7 +2,7 @@
 
 //! Laws: what holds of all heaps. Its functions do nothing.
 
-pub use crate::asking::refusal_aligned_counted;
-pub use crate::numbering::{first_heap_counted, heap_after_counted};
+pub use crate::foretell::refusal_aligned_counted;
+pub use crate::heap_numbers::{first_heap_counted, heap_after_counted};
 pub use crate::relocate::emptiest_counted;
 pub use crate::tight::refusal_tight_aligned_counted;

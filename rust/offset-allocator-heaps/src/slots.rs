@@ -3,8 +3,8 @@
 //! The heaps by their numbers: no other module reads or writes them. Each function counts the slots that it
 //! touches.
 
-use crate::compacting::compact_numbered;
-use crate::extending::extend_in;
+use crate::compact::compact_numbered;
+use crate::extend::extend_in;
 use crate::index::{is_empty_heap, rooms};
 use crate::limits::Limits;
 use crate::resize::Resize;

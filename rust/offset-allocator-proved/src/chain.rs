@@ -1,7 +1,7 @@
 // Printed by rust/erase from crates/offset_allocator/src/chain.rt: change it there.
 
-//! The blocks of the space, linked in space order, and the stack of unused names. It touches these alone, and
-//! leaves the lists in the bins as they are: one cell says of a node in no bin whether its block is used.
+//! The blocks of the space, linked in space order, and the stack of unused names. It touches these alone, but
+//! that `set_used` writes the link to a newer node, which says of a node in no bin whether its block is used.
 
 use crate::accesses::Accesses;
 use crate::index::{link_to, linked, no_link, number};
@@ -45,7 +45,7 @@ pub(crate) fn after<T: Tables>(tables: &T, name: u32, count: &mut Accesses) -> O
     linked(tables.after(name, count))
 }
 
-// Sets the link back of the node that `link` names; without one, `name` is the last block.
+// Makes `name` the block before the one that `link` names; where that names none, `name` becomes the last block.
 pub(crate) fn point_back<T: Tables>(
     tables: &mut T,
     last: &mut u32,

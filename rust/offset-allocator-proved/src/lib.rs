@@ -269,8 +269,8 @@ impl<T: Tables> AllocatorOf<T> {
     }
 
     /// Grants a range of `size` units, and returns its handle. It takes the first `size` units of the newest
-    /// block of the smallest class that has a free block and whose blocks all fit; what remains of the block
-    /// stays free, directly after the range.
+    /// block of the smallest class that has a free block and whose blocks all have at least `size` units; what
+    /// remains of the block stays free, directly after the range.
     ///
     /// `None` is returned where `max_allocs - 1` blocks exist, even for an exact fit, or where no free block
     /// is of such a class; then the space is as it was. A request of at least one unit is granted exactly

@@ -3,7 +3,7 @@
 //! Spaces as bytes, and copies of spaces: the bytes are read off tables, the others make tables.
 
 pub(crate) mod building;
-pub(crate) mod copying;
-pub(crate) mod restoring;
-pub(crate) mod saving;
+pub(crate) mod copy;
+pub(crate) mod restore;
+pub(crate) mod save;
 pub(crate) mod state;

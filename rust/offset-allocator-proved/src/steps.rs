@@ -1,7 +1,7 @@
 // Printed by rust/erase from crates/offset_allocator/src/steps.rt: change it there.
 
-//! The steps of the public calls, by `store`, `neighbours`, `chain` and `bins`; offsets and sizes are read
-//! here too. Each leaves an allocator whose blocks and bins agree, and whose `free_total` is the sum of its
+//! The steps of requests, releases, `extend` and `reset`, by `store`, `neighbours`, `chain` and `bins`; offsets
+//! and sizes are read here too. Each leaves an allocator whose blocks and bins agree, and whose `free_total` is the sum of its
 //! free units.
 
 use crate::accesses::Accesses;
@@ -55,7 +55,7 @@ impl<T: Tables> AllocatorOf<T> {
         self.store.last = 0;
     }
 
-    /// How many nodes no block has: of those that were made, and of those that may still be.
+    /// How many nodes no block has, made or not: so at least as many as there are unused names.
     pub(crate) fn unused_nodes(&self) -> u32 {
         self.max_allocs - self.block_count()
     }
@@ -97,6 +97,7 @@ impl<T: Tables> AllocatorOf<T> {
         if size > u32::MAX - (align - 1) {
             return None;
         }
+        // the smallest class whose blocks all hold the units
         let smallest = uint_to_float_round_up(size + (align - 1));
         match bins::find_at_or_above(
             &self.store.tables,

@@ -31,8 +31,8 @@ pub trait Tables: Sized {
     /// it is no place in the tables either: so one test is both.
     fn has(&self, name: u32) -> bool;
 
-    /// Makes one more node, which is blank. Its name is a new last entry of the stack of unused names, and
-    /// becomes the one at a place of it.
+    /// Makes one more node, which is blank. The stack of unused names becomes one entry longer, and the new
+    /// name is written there, at its end, and at the index `place` too.
     fn add(&mut self, place: u32, count: &mut Accesses);
 
     /// The link to a node: its name is below the largest number.

@@ -52,9 +52,9 @@ fn put_late(
     put_answer(last, answer)
 }
 
-// The text of answers, seen as its bytes. It grows in pieces, without a copy of the whole. After `FEW_ROWS`
-// rows, which take more memory as text, and the end of a piece it keeps the answers, and their text is
-// written at the end.
+// The text of answers, seen as its bytes. It grows in pieces, without a copy of the whole. Once more than
+// `FEW_ROWS` rows are written and a piece is full, it keeps the answers themselves, since rows take more
+// memory as text, and writes their text at the end.
 struct Pieces {
     // the pieces that are closed
     closed: Vec<Vec<u8>>,

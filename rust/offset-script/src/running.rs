@@ -1,7 +1,7 @@
 // Printed by rust/erase from crates/offset_script/src/running.rt: change it there.
 
-//! Runs a script from a source to a sink. It touches these and its own spaces; nothing is sent before all is
-//! read and made.
+//! Runs a script from a source to a sink, by a `Rendering`, whose trait is here. It touches source and sink alone,
+//! and sends nothing before all is read and made.
 
 use crate::answer_text::AnswerText;
 use crate::devices::{Sink, Source};

@@ -6,7 +6,7 @@ use Rattle.offset_allocator.specs.{Saving.State.freed}
 use Rattle.offset_allocator.specs.Saving.StateFaults.{HasChecksum, HasCounts, HasForm, HasLength, HasLimit, IsHeaded, IsOverused, IsWrongIn, blocks_in, free_in, unused_in}
 use Rattle.std.proofs.lemmas.List.{length-drop}
 use Rattle.offset_allocator.specs.declared.states.building.Wrong.{Wrong}
-use Rattle.offset_allocator.specs.declared.states.restoring.Header.{Header}
+use Rattle.offset_allocator.specs.declared.states.restore.Header.{Header}
 
 module _ {max most : ℕ} {ws : List ℕ} {h : Header} (hd : IsHeader max most ws h) where
   pub formed : HasForm ws

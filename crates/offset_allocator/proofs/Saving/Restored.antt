@@ -8,7 +8,7 @@ use Rattle.offset_allocator.specs.{Saving.Building.AreEach, Saving.Building.AreO
 use Rattle.offset_allocator.specs.Saving.State.{block_words, checksum_from, filed, freed, state_text, state_words}
 use Rattle.std.proofs.Math.Seq.{drop-append_seam, take-append_seam, get_or-append_seam, take-add, drop-cons}
 use Rattle.std.proofs.lemmas.List.{length-drop}
-use Rattle.offset_allocator.specs.declared.states.restoring.Header.{Header}
+use Rattle.offset_allocator.specs.declared.states.restore.Header.{Header}
 use Rattle.std.specs.List.{concat}
 
 cut : (f m r : List ℕ) (i j : ℕ) → length f ≡ i → length m ≡ j → take j (drop i (f ++ (m ++ r))) ≡ m

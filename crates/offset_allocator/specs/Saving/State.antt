@@ -3,7 +3,7 @@ use Rattle.std.specs.Prelude.{◌≡◌, ℕ, ◌+◌, ◌*◌, ◌%◌, ◌<◌
 use Rattle.std.specs.List.{concat}
 use Rattle.std.specs.Int.{w32, from_le_bytes}
 use Rattle.offset_allocator.specs.Classes.{down}
-use Rattle.offset_allocator.specs.declared.states.restoring.Header.{Header}
+use Rattle.offset_allocator.specs.declared.states.restore.Header.{Header}
 use Rattle.offset_allocator.specs.View.{View, Block, IsWellFormed, AreNames, push}
 
 -- bytes as numbers of 32 bits, the lowest byte of each first

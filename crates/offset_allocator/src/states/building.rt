@@ -21,7 +21,7 @@ use crate::bins;
 use crate::chain::point_back;
 use crate::index::{link_to, linked, no_link};
 use crate::small_float::uint_to_float_round_down;
-use crate::states::copying::with_nodes;
+use crate::states::copy::with_nodes;
 use crate::store::Store;
 use crate::tables::Tables;
 use std::alloc::{AllocError, Global};

@@ -1,0 +1,22 @@
+use Rattle.std.proofs.Common.{◌≡◌, ◌∙◌, ◌+◌, sym, subst, arith, length, List, ℕ}
+use Rattle.offset_guarded.specs.Numbers.{checksum_from, number_at, numbers}
+use Rattle.offset_guarded.proofs.States.{parts}
+use Rattle.offset_guarded.proofs.restore.header_of.Goals as goal
+
+pub returns-then-stored-bytes-clause-wrong : goal.returns-then-stored-bytes-clause-wrong
+returns-then-stored-bytes-clause-wrong c _ g w st =
+    let p = parts g c.args.bytes.now st in
+    omega (arith, c.if-stored-bytes.true, c.number-stored.ensures, p.long, p.count)
+
+pub returns-then-realm-clause-wrong : goal.returns-then-realm-clause-wrong
+returns-then-realm-clause-wrong c _ g w st =
+    let p = parts g c.args.bytes.now st in
+    omega (arith, c.if-realm.true, c.number-realm.ensures, p.realm, w.realm)
+
+pub returns-then-checksum-number-clause-wrong : goal.returns-then-checksum-number-clause-wrong
+returns-then-checksum-number-clause-wrong c _ g w st =
+    let bs : List ℕ = c.args.bytes.now in
+    let p = parts g bs st in
+    let count : c.number-stored.result ≡ length g.serials = c.number-stored.ensures ∙ p.count in
+    c.if-checksum-number.true
+    (c.checksum.ensures ∙ subst (λ n. checksum_from 0 (numbers (5 + n) bs) ≡ number_at bs (5 + n)) (sym count) (sym p.sum) ∙ sym c.number-2.ensures)
