@@ -171,7 +171,8 @@ fn call_of([kind, a, b, c, d]: [u32; WIDE]) -> Call {
         30 => Call::RefusalAligned(a, b),
         31 => Call::RefusalTight(a),
         32 => Call::RefusalTightAligned(a, b),
-        _ => Call::AllocateAt(a, b),
+        33 => Call::AllocateAt(a, b),
+        _ => unreachable!("a kind that has no call here"),
     }
 }
 
@@ -327,6 +328,7 @@ impl<NI: NodeIndex> Space<NI> {
             (Reply::Offset(n), _) => [18, 0, *n, 0],
             (Reply::Beside(Some(range)), _) => [19, range.number as u32, range.offset, 0],
             (Reply::Refusal(why), _) => [20, 0, 0, why.map_or(0, |w| w as u32 + 1)],
+            (Reply::Answer(A::Freed), _) => unreachable!("which range is free?"),
             _ => [11, 0, 0, 0],
         };
         self.moved.clear();

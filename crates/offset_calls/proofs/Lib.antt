@@ -1,7 +1,6 @@
 mod Begun
 mod Beside
 mod Decided
-mod DecidedAt
 mod DecidedTickets
 mod EndPairs
 mod EndServed

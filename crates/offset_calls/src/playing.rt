@@ -102,7 +102,7 @@ fn tight_aligned<T: Tables>(
 
 // The reply to `AllocateAt`.
 #[inline(never)]
-fn at_offset<T: Tables>(
+fn allocate_at<T: Tables>(
     player: &mut PlayerOf<T>,
     offset: u32,
     size: u32,
@@ -184,7 +184,7 @@ fn other<T: Tables>(
         )),
         Call::Tight(size) => tight(player, size),
         Call::TightAligned(size, align) => tight_aligned(player, size, align),
-        Call::AllocateAt(offset, size) => at_offset(player, offset, size),
+        Call::AllocateAt(offset, size) => allocate_at(player, offset, size),
         Call::RefusalTight(size) => Ok(Reply::Refusal(player.space.refusal_tight(size))),
         Call::RefusalTightAligned(size, align) => Ok(Reply::Refusal(
             player.space.refusal_tight_aligned(size, align),

@@ -7,7 +7,7 @@ use Rattle.std.proofs.lemmas.List.{drop_all}
 use Rattle.offset_guarded.specs.Guard.{Guard}
 use Rattle.offset_heaps.specs.declared.place.Place.{Place}
 use Rattle.offset_heaps.specs.Heaps.{Heaps, IsLive, heap_at, range_in, range_of, slot}
-use Rattle.offset_heaps.specs.Numbering.{first_among, first_from, first_place}
+use Rattle.offset_heaps.specs.Numbering.{first_among, first_from, first_live_in}
 use Rattle.offset_allocator.specs.Ranges.{Range}
 use Rattle.offset_heaps.proofs.{Numbers.slot_past, Places.none_if}
 
@@ -15,11 +15,11 @@ pub first_past : (k : ℕ) (hs : Heaps) → length hs.slots ≤ k → first_from
 first_past k hs past = ap (first_among k hs.realm) (drop_all k hs.slots past)
 
 -- the first one from a number on is in its heap, or else in those behind it
-pub first_step : (k : ℕ) (hs : Heaps) → first_from k hs ≡ option_or (first_place k hs.realm (heap_at k hs)) (first_from (k + 1) hs)
+pub first_step : (k : ℕ) (hs : Heaps) → first_from k hs ≡ option_or (first_live_in k hs.realm (heap_at k hs)) (first_from (k + 1) hs)
 first_step k hs = elim (cases_lt k (length hs.slots)) [
   | inl l ↦
       let e : suc k ≡ k + 1 = omega arith in
       ap (first_among k hs.realm) (drop-cons hs.slots k None l)
-      ∙ ap (λ (j : ℕ). option_or (first_place k hs.realm (heap_at k hs)) (first_among (k + 1) hs.realm (drop j hs.slots))) e
-  | inr past ↦ first_past k hs past ∙ sym (ap (λ o. option_or (first_place k hs.realm o) (first_from (k + 1) hs)) (slot_past hs.slots k past) ∙ first_past (k + 1) hs (omega arith))
+      ∙ ap (λ (j : ℕ). option_or (first_live_in k hs.realm (heap_at k hs)) (first_among (k + 1) hs.realm (drop j hs.slots))) e
+  | inr past ↦ first_past k hs past ∙ sym (ap (λ o. option_or (first_live_in k hs.realm o) (first_from (k + 1) hs)) (slot_past hs.slots k past) ∙ first_past (k + 1) hs (omega arith))
 ]

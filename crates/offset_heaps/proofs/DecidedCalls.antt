@@ -17,7 +17,7 @@ use Rattle.offset_heaps.specs.Extending.{CanExtendIn, ExtendsIf}
 use Rattle.offset_heaps.specs.Heaps.{Heaps, Grants, IsFirstFit, IsRaisedAsNeeded, IsNext, IsWhy, NoneFits, Puts, heap_at, is_empty, empties, live_of, numbers, part, slot, AreTotals, free_of, largest_room}
 use Rattle.offset_heaps.specs.{Heaps.room_of, Heaps.units_of_heap, Heaps.total, Histories.ResetsAll, State.quiet, Twins.AreTwins, Twins.IsTwin, Twins.IsTwinIn}
 use Rattle.offset_heaps.specs.declared.totals.Totals.{Totals}
-use Rattle.offset_heaps.specs.Relocating.{HasLive, IsEmptiest, NoneLive, TakesRange, granted, live_at, units_in, size_of}
+use Rattle.offset_heaps.specs.Relocating.{HasLive, IsEmptiest, NoneLive, TakesRange, granted, live_units_at, units_in, size_of}
 use Rattle.offset_heaps.specs.State as state
 use Rattle.offset_heaps.proofs.{States.slot_quiet, Empties.empty_there, Grants.memory_alone, Grants.none_found, Grants.one_reason, Numbers.slot_there}
 use Rattle.offset_heaps.specs.Calls.{Allocates, TakesAll, Call, Allocate, Allocate_tight, Free, Relocate, Drop_empty, Drop_heap, Give_up, Reset, Resize, Extend_heap, Compact_heap, Compact_all, Make_room, Drops, DropsEmpty, Frees, GivesUp, IsStarved, Lengthens, Relocates, Reply, Requested, Second, Dropped, Was_done, Resized, Extended, Room_made, Takes, TakesRoom, TakesSize, CompactsOne, Notes}
@@ -214,7 +214,7 @@ module _ (p : Place) (hs ks : Heaps) (t : AreTwins hs ks) where
   size_twins : size_of p ks ≡ size_of p hs
   size_twins = ap units_in (range_twins hs ks t p)
 
-  live_twins : (k : ℕ) → live_at k ks ≡ live_at k hs
+  live_twins : (k : ℕ) → live_units_at k ks ≡ live_units_at k hs
   live_twins k = option_twin (part live_of) (heap_at k hs) (heap_at k ks) (λ g h u. ap live_of (as_twin g h u)) (t.heaps k)
 
   takes_twins : (align k : ℕ) → TakesRange p align hs k → TakesRange p align ks k

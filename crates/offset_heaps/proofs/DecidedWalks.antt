@@ -11,7 +11,7 @@ use Rattle.offset_guarded.proofs.Guards.{live_name}
 use Rattle.offset_guarded.specs.Guard.{Guard}
 use Rattle.offset_guarded.specs.declared.ticket.Ticket.{Ticket}
 use Rattle.offset_heaps.specs.declared.place.Place.{Place}
-use Rattle.offset_heaps.specs.{Heaps.Heaps, Heaps.IsLive, Heaps.heap_at, Heaps.range_in, Relocating.last_place, Relocating.place_before, Relocating.place_in, Twins.AreTwins, Twins.IsTwin}
+use Rattle.offset_heaps.specs.{Heaps.Heaps, Heaps.IsLive, Heaps.heap_at, Heaps.range_in, Relocating.last_live_in, Relocating.live_before_in, Relocating.place_in, Twins.AreTwins, Twins.IsTwin}
 use Rattle.offset_heaps.specs.Twins.{IsTwinIn}
 use Rattle.offset_heaps.specs.State as state
 use Rattle.offset_heaps.proofs.Decided.{known}
@@ -76,30 +76,30 @@ placed_twin k realm g h t (Some a) live =
     ap₂ (λ (s m : ℕ). let p : Option Place = Some (record { heap = k; realm = realm; ticket = record { offset = a.offset; name = a.name; serial = s; realm = m } }) in p)
     (t.serials a.name live) t.realm
 
-last_in : (k realm : ℕ) (o p : Option Guard) → IfSome o (λ g. IsWellFormed g.space) → IsTwinIn o p → last_place k realm p ≡ last_place k realm o
-last_in k realm None p w t = ap (last_place k realm) t
+last_in : (k realm : ℕ) (o p : Option Guard) → IfSome o (λ g. IsWellFormed g.space) → IsTwinIn o p → last_live_in k realm p ≡ last_live_in k realm o
+last_in k realm None p w t = ap (last_live_in k realm) t
 last_in k realm (Some g) p w t =
-    ap (last_place k realm) t.1
+    ap (last_live_in k realm) t.1
     ∙ ap (λ (v : View). option_map (place_in k realm t.0) (last_live v)) t.2.space
     ∙ placed_twin k realm g t.0 t.2 (last_live g.space) (last_is_live g.space w)
 
-before_in : (k realm : ℕ) (u : Ticket) (o p : Option Guard) → IfSome o (λ g. IsWellFormed g.space) → IsSome (range_in u o) → IsTwinIn o p → place_before k realm u p ≡ place_before k realm u o
-before_in k realm u None p w live t = ap (place_before k realm u) t
+before_in : (k realm : ℕ) (u : Ticket) (o p : Option Guard) → IfSome o (λ g. IsWellFormed g.space) → IsSome (range_in u o) → IsTwinIn o p → live_before_in k realm u p ≡ live_before_in k realm u o
+before_in k realm u None p w live t = ap (live_before_in k realm u) t
 before_in k realm u (Some g) p w live t =
-    ap (place_before k realm u) t.1
+    ap (live_before_in k realm u) t.1
     ∙ ap (λ (v : View). option_map (place_in k realm t.0) (live_before u.name v)) t.2.space
     ∙ placed_twin k realm g t.0 t.2 (live_before u.name g.space) (before_is_live g.space w u.name (live_name u g live))
 
-pub last_decided : (k : ℕ) (hs hs' : Heaps) → state.IsWellFormed hs → AreTwins hs hs' → last_place k hs'.realm (heap_at k hs') ≡ last_place k hs.realm (heap_at k hs)
-last_decided k hs hs' is t = ap (λ r. last_place k r (heap_at k hs')) t.realm ∙ last_in k hs.realm (heap_at k hs) (heap_at k hs') ((known hs is).heaps k) (t.heaps k)
+pub last_decided : (k : ℕ) (hs hs' : Heaps) → state.IsWellFormed hs → AreTwins hs hs' → last_live_in k hs'.realm (heap_at k hs') ≡ last_live_in k hs.realm (heap_at k hs)
+last_decided k hs hs' is t = ap (λ r. last_live_in k r (heap_at k hs')) t.realm ∙ last_in k hs.realm (heap_at k hs) (heap_at k hs') ((known hs is).heaps k) (t.heaps k)
 
 only_if : (b : Bool) (o : Option Range) → IsSome (if b then o else None) → IsSome o
 only_if true o h = h
 only_if false o h = cc
 
 pub before_decided : (p : Place) (hs hs' : Heaps) → state.IsWellFormed hs → AreTwins hs hs' → IsLive p hs
-    → place_before p.heap hs'.realm p.ticket (heap_at p.heap hs') ≡ place_before p.heap hs.realm p.ticket (heap_at p.heap hs)
+    → live_before_in p.heap hs'.realm p.ticket (heap_at p.heap hs') ≡ live_before_in p.heap hs.realm p.ticket (heap_at p.heap hs)
 before_decided p hs hs' is t live =
-    ap (λ r. place_before p.heap r p.ticket (heap_at p.heap hs')) t.realm
+    ap (λ r. live_before_in p.heap r p.ticket (heap_at p.heap hs')) t.realm
     ∙ before_in p.heap hs.realm p.ticket (heap_at p.heap hs) (heap_at p.heap hs') ((known hs is).heaps p.heap)
     (only_if (nat_eq p.realm hs.realm) (range_in p.ticket (heap_at p.heap hs)) live) (t.heaps p.heap)

@@ -13,7 +13,7 @@ use Rattle.offset_guarded.specs.Guard.{Guard, serial_of, ticket_at}
 use Rattle.offset_guarded.specs.Guard as guarded
 use Rattle.offset_heaps.specs.declared.place.Place.{Place}
 use Rattle.offset_heaps.specs.Heaps.{Heaps, heap_at, range_in, range_of, slot}
-use Rattle.offset_heaps.specs.Numbering.{AreOfLive, MeetsPlaces, first_from, first_place, is_alike, live_places, next_place, places_from, places_in}
+use Rattle.offset_heaps.specs.Numbering.{AreOfLive, MeetsPlaces, first_from, first_live_in, is_alike, live_places, next_place, places_from, places_in}
 use Rattle.offset_heaps.specs.Relocating.{place_in}
 use Rattle.offset_heaps.specs.State as state
 use Rattle.offset_heaps.proofs.{Along.first_past, Along.first_step, Decided.known}
@@ -37,7 +37,7 @@ module _ (hs : Heaps) where
       after x = rw there refl
 
   slot_met : (k : ℕ) (o : Option Guard) → heap_at k hs ≡ o → IfSome o (λ g. IsWellFormed g.space) → (rest : List Place) → MeetsPlaces next (first_from (k + 1) hs) rest
-      → MeetsPlaces next (option_or (first_place k hs.realm o) (first_from (k + 1) hs)) (places_in k hs.realm o ++ rest)
+      → MeetsPlaces next (option_or (first_live_in k hs.realm o) (first_from (k + 1) hs)) (places_in k hs.realm o ++ rest)
   slot_met k None there known rest met = met
   slot_met k (Some g) there known rest met = heap_met k g there (first_live g.space) (live_handles g.space) (forward g.space known) rest met
 
@@ -52,7 +52,7 @@ module _ (hs : Heaps) where
         let here : heap_at k hs ≡ o = cc in
         let rest : drop (k + 1) hs.slots ≡ slots = rw add-one (cc) in
         subst (λ x. MeetsPlaces next x (places_in k hs.realm o ++ places_from (k + 1) hs.realm slots))
-        (sym (first_step k hs ∙ ap (λ p. option_or (first_place k hs.realm p) (first_from (k + 1) hs)) here))
+        (sym (first_step k hs ∙ ap (λ p. option_or (first_live_in k hs.realm p) (first_from (k + 1) hs)) here))
         (slot_met k o here (subst (λ p. IfSome p (λ g. IsWellFormed g.space)) here (known k)) (places_from (k + 1) hs.realm slots) (from_met known (k + 1) slots rest))
     | inr past ↦ absurd (let f = sym e ∙ drop_all k hs.slots past in cc)
   ]

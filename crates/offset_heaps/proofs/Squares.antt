@@ -14,7 +14,7 @@ use Rattle.offset_guarded.specs.Guard as guarded
 use Rattle.offset_heaps.specs.Calls.{GoAll, Goes}
 use Rattle.offset_heaps.specs.declared.place.Place.{Place}
 use Rattle.offset_heaps.specs.Heaps.{Heaps, FreesIn, Grants, heap_at, live_of, part, range_in, units_of_heap, slot, total}
-use Rattle.offset_heaps.specs.Relocating.{TakesRange, granted, live_at, square_of, squares, units_in, size_of}
+use Rattle.offset_heaps.specs.Relocating.{TakesRange, granted, live_units_at, square_of, squares, units_in, size_of}
 use Rattle.offset_heaps.specs.State as state
 use Rattle.offset_heaps.proofs.Decided.{known, known_at}
 use Rattle.offset_heaps.proofs.{Raising.must_in, Numbers.slot_other, Numbers.slot_there}
@@ -175,12 +175,12 @@ module _ (p q : Place) (hs ks : Heaps) (known_well : state.IsWellFormed hs) (goe
       let target = ap (part g) to in
       omega (arith, first, second, there, last, source, target)
 
-  pub squares_grow : squares ks ≡ squares hs + 2 * (size_of p hs * (live_at q.heap hs - live_at p.heap hs)) + 2 * (size_of p hs * size_of p hs)
+  pub squares_grow : squares ks ≡ squares hs + 2 * (size_of p hs * (live_units_at q.heap hs - live_units_at p.heap hs)) + 2 * (size_of p hs * size_of p hs)
   squares_grow =
-      let source : live_at p.heap hs ≡ live_of f.before = ap (part live_of) from in
-      let target : live_at q.heap hs ≡ live_of s.before = ap (part live_of) to in
+      let source : live_units_at p.heap hs ≡ live_of f.before = ap (part live_of) from in
+      let target : live_units_at q.heap hs ≡ live_of s.before = ap (part live_of) to in
       let full = takes.1.full in
-      gained (live_at p.heap hs) (live_at q.heap hs) (live_of f.after) (live_of s.after) (size_of p hs) (squares hs) (squares ks) (omega (arith, lost, source)) (omega (arith, grown, target))
+      gained (live_units_at p.heap hs) (live_units_at q.heap hs) (live_of f.after) (live_of s.after) (size_of p hs) (squares hs) (squares ks) (omega (arith, lost, source)) (omega (arith, grown, target))
       full (omega (arith, both_put square_of, ap (λ n. n * n) source, ap (λ n. n * n) target))
 
   pub squares_more : squares hs + 2 ≤ squares ks

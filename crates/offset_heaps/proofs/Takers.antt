@@ -6,7 +6,7 @@ use Rattle.offset_guarded.specs.Guard.{Guard}
 use Rattle.offset_heaps.specs.declared.limits.Limits.{Limits}
 use Rattle.offset_heaps.specs.declared.place.Place.{Place}
 use Rattle.offset_heaps.specs.Heaps.{Heaps, heap_at, live_of, part, range_in, room_of, slot}
-use Rattle.offset_heaps.specs.Relocating.{TakesUnits, TakesRange, live_at, units_in, size_of}
+use Rattle.offset_heaps.specs.Relocating.{TakesUnits, TakesRange, live_units_at, units_in, size_of}
 use Rattle.offset_heaps.proofs.{Numbers.room_there, Places.same_realm}
 
 -- before the first heap that has room, and behind the last number, none takes units
@@ -38,7 +38,7 @@ module _ (p : Place) (align : ℕ) (hs : Heaps) (size live : ℕ) (here : p.real
   size_here = u ∙ ap units_in (sym (same_realm p hs here))
 
   pub takes_range : (k : ℕ) → 1 ≤ size → TakesUnits hs.limits p.heap (blocks_needed align) (units_needed size align) live hs.slots k → TakesRange p align hs k
-  takes_range k some t = subst (λ n. (1 ≤ n) × TakesUnits hs.limits p.heap (blocks_needed align) (units_needed n align) (live_at p.heap hs) hs.slots k) size_here
+  takes_range k some t = subst (λ n. (1 ≤ n) × TakesUnits hs.limits p.heap (blocks_needed align) (units_needed n align) (live_units_at p.heap hs) hs.slots k) size_here
       (some, subst (λ n. TakesUnits hs.limits p.heap (blocks_needed align) (units_needed size align) n hs.slots k) l t)
 
   pub takes_units : (k : ℕ) → TakesRange p align hs k → TakesUnits hs.limits p.heap (blocks_needed align) (units_needed size align) live hs.slots k

@@ -20,19 +20,19 @@ pub record IsHeapFrom (n : ℕ) (slots : List (Option Guard)) (k : ℕ) : Type 0
   pub first : (j : ℕ) → n ≤ j → j < k → slot j slots ≡ None
 
 -- the place of the live range that is the first one in its heap
-abbrev pub first_place : ℕ → ℕ → Option Guard → Option Place
-first_place k realm None = None
-first_place k realm (Some g) = option_map (place_in k realm g) (first_live g.space)
+abbrev pub first_live_in : ℕ → ℕ → Option Guard → Option Place
+first_live_in k realm None = None
+first_live_in k realm (Some g) = option_map (place_in k realm g) (first_live g.space)
 
 -- the place of the live range directly after that of a ticket in its heap
-abbrev pub place_after : ℕ → ℕ → Ticket → Option Guard → Option Place
-place_after k realm t None = None
-place_after k realm t (Some g) = option_map (place_in k realm g) (live_after t.name g.space)
+abbrev pub live_after_in : ℕ → ℕ → Ticket → Option Guard → Option Place
+live_after_in k realm t None = None
+live_after_in k realm t (Some g) = option_map (place_in k realm g) (live_after t.name g.space)
 
 -- the first live place of these heaps, whose numbers are k and those after it
 abbrev pub first_among : ℕ → ℕ → List (Option Guard) → Option Place
 first_among k realm [] = None
-first_among k realm (o ∷ slots) = option_or (first_place k realm o) (first_among (k + 1) realm slots)
+first_among k realm (o ∷ slots) = option_or (first_live_in k realm o) (first_among (k + 1) realm slots)
 
 -- the first live place of the heaps from a number on
 abbrev pub first_from : ℕ → Heaps → Option Place
@@ -40,7 +40,7 @@ first_from k hs = first_among k hs.realm (drop k hs.slots)
 
 -- the live place after this one: in its heap, or else the first one of the heaps behind it
 abbrev pub next_place : Place → Heaps → Option Place
-next_place p hs = option_or (place_after p.heap hs.realm p.ticket (heap_at p.heap hs)) (first_from (p.heap + 1) hs)
+next_place p hs = option_or (live_after_in p.heap hs.realm p.ticket (heap_at p.heap hs)) (first_from (p.heap + 1) hs)
 
 -- the places of the live ranges of a heap, in space order
 abbrev pub places_in : ℕ → ℕ → Option Guard → List Place

@@ -20,8 +20,8 @@ abbrev pub size_of : Place → Heaps → ℕ
 size_of p hs = units_in (range_of p hs)
 
 -- the live units of the heap of a number
-abbrev pub live_at : ℕ → Heaps → ℕ
-live_at k hs = part live_of (heap_at k hs)
+abbrev pub live_units_at : ℕ → Heaps → ℕ
+live_units_at k hs = part live_of (heap_at k hs)
 
 -- the square of the live units of a heap
 abbrev pub square_of : Guard → ℕ
@@ -42,7 +42,7 @@ pub record TakesUnits (limits : Limits) (own blocks units live : ℕ) (slots : L
 -- a heap takes the range of a place, from a multiple of align on
 abbrev pub TakesRange : Place → ℕ → Heaps → ℕ → Type 0
 TakesRange p align hs k = (1 ≤ size_of p hs)
-    × TakesUnits hs.limits p.heap (blocks_needed align) (units_needed (size_of p hs) align) (live_at p.heap hs) hs.slots k
+    × TakesUnits hs.limits p.heap (blocks_needed align) (units_needed (size_of p hs) align) (live_units_at p.heap hs) hs.slots k
 
 -- it is the first one that does
 abbrev pub IsTaker : Place → ℕ → Heaps → ℕ → Type 0
@@ -77,11 +77,11 @@ abbrev pub place_in : ℕ → ℕ → Guard → Handle → Place
 place_in k realm g h = record { heap = k; realm = realm; ticket = ticket_at h g }
 
 -- the place of the live range that is the last one in its heap
-abbrev pub last_place : ℕ → ℕ → Option Guard → Option Place
-last_place k realm None = None
-last_place k realm (Some g) = option_map (place_in k realm g) (last_live g.space)
+abbrev pub last_live_in : ℕ → ℕ → Option Guard → Option Place
+last_live_in k realm None = None
+last_live_in k realm (Some g) = option_map (place_in k realm g) (last_live g.space)
 
 -- the place of the live range directly before that of a ticket in its heap
-abbrev pub place_before : ℕ → ℕ → Ticket → Option Guard → Option Place
-place_before k realm t None = None
-place_before k realm t (Some g) = option_map (place_in k realm g) (live_before t.name g.space)
+abbrev pub live_before_in : ℕ → ℕ → Ticket → Option Guard → Option Place
+live_before_in k realm t None = None
+live_before_in k realm t (Some g) = option_map (place_in k realm g) (live_before t.name g.space)

@@ -14,8 +14,8 @@ ghost use Rattle.offset_heaps.specs.Heaps.{IsFirstSize, units_of_heap, total, us
 ghost use Rattle.offset_heaps.specs.Histories.{AreSteps, IsGone, IsStep, ResetsAll};
 ghost use Rattle.offset_heaps.specs.Numbering.{AreOfLive, MeetsPlaces, first_from, live_places, next_place};
 ghost use Rattle.offset_heaps.specs.State.{IsCopy, IsStateOf, IsWellFormed, SameHeaps};
-ghost use Rattle.offset_heaps.specs.Relocating.{IsEmptiest, NoneLive, last_place, place_before};
-ghost use Rattle.offset_heaps.specs.Relocating.{live_at, squares, size_of};
+ghost use Rattle.offset_heaps.specs.Relocating.{IsEmptiest, NoneLive, last_live_in, live_before_in};
+ghost use Rattle.offset_heaps.specs.Relocating.{live_units_at, squares, size_of};
 ghost use Rattle.offset_heaps.specs.Tight.{IsRefusedForTight, IsServedTight, IsWhyTight};
 ghost use Rattle.offset_heaps.specs.Twins.{AreTwins};
 ghost use Rattle.offset_heaps.specs.Calls.{Allocates, AllocatesTight, TakesAll, Call, Drops, DropsEmpty, Frees, GivesUp};
@@ -159,9 +159,9 @@ pub fn dropped_heaps_stay_dropped<T: Tables>(heaps: &HeapsOf<T>)
 /// From a heap of `a` live units to one of `b`, `u` units add `2 u (b - a) + 2 u²` to that sum.
 pub fn relocations_end()
     ensures grows { (p q : Place) (hs ks : Heaps) → IsWellFormed hs → Goes p q hs ks → squares ks ≡ squares hs
-        + 2 * (size_of p hs * (live_at q.heap hs - live_at p.heap hs)) + 2 * (size_of p hs * size_of p hs) }
+        + 2 * (size_of p hs * (live_units_at q.heap hs - live_units_at p.heap hs)) + 2 * (size_of p hs * size_of p hs) }
     ensures some { (p q : Place) (hs ks : Heaps) → Goes p q hs ks
-        → (1 ≤ size_of p hs) × (live_at p.heap hs ≤ live_at q.heap hs) }
+        → (1 ≤ size_of p hs) × (live_units_at p.heap hs ≤ live_units_at q.heap hs) }
     ensures ends { (ps : List Place) (hs ks : Heaps) → IsWellFormed hs → GoAll hs ps ks
         → squares hs + 2 * length ps ≤ total (λ g. units_of_heap g * units_of_heap g) hs.slots }
 {}
@@ -253,10 +253,10 @@ pub fn a_state_decides_each_step()
     ensures totals { (hs hs' : Heaps) → AreTwins hs hs' → (r r' : Totals) → AreTotals r hs.slots
         → AreTotals r' hs'.slots → r ≡ r' }
     ensures last_live { (k : ℕ) (hs hs' : Heaps) → IsWellFormed hs → AreTwins hs hs'
-        → last_place k hs'.realm (heap_at k hs') ≡ last_place k hs.realm (heap_at k hs) }
+        → last_live_in k hs'.realm (heap_at k hs') ≡ last_live_in k hs.realm (heap_at k hs) }
     ensures live_before { (p : Place) (hs hs' : Heaps) → IsWellFormed hs → AreTwins hs hs' → IsLive p hs
-        → place_before p.heap hs'.realm p.ticket (heap_at p.heap hs')
-        ≡ place_before p.heap hs.realm p.ticket (heap_at p.heap hs) }
+        → live_before_in p.heap hs'.realm p.ticket (heap_at p.heap hs')
+        ≡ live_before_in p.heap hs.realm p.ticket (heap_at p.heap hs) }
 {}
 
 /// A copy and the heaps that it was made of answer each list of calls alike, and so do heaps that differ in

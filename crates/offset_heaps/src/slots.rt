@@ -701,7 +701,7 @@ impl<T: Tables> Slots<T> {
     }
 
     // The live units of the heap of a number, or `None` where nothing is live in it.
-    fn live_at(&self, number: u32, count: &mut Accesses) -> Option<u32>
+    fn live_units_at(&self, number: u32, count: &mut Accesses) -> Option<u32>
         ensures live { MatchOption result (HasLive (slot number self.now) → ⊥)
             (λ n. HasLive (slot number self.now) × (n ≡ part live_of (slot number self.now))) }
         ensures accesses { count.new ≡ count.old + 1 }
@@ -729,7 +729,7 @@ impl<T: Tables> Slots<T> {
     {
         let mut found = None;
         for number in 0..numbers {
-            let live = self.live_at(number, count);
+            let live = self.live_units_at(number, count);
             found = with_live(found, number, live);
         }
         match found {

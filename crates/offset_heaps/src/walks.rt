@@ -2,8 +2,8 @@
 ghost use Rattle.std.specs.Prelude.{◌≡◌, None, option_map};
 ghost use Rattle.offset_guarded.specs.declared.ticket.Ticket.{Ticket};
 ghost use Rattle.offset_heaps.specs.Heaps.{IsLive, heap_at};
-ghost use Rattle.offset_heaps.specs.Numbering.{first_place, place_after};
-ghost use Rattle.offset_heaps.specs.Relocating.{last_place, place_before};
+ghost use Rattle.offset_heaps.specs.Numbering.{first_live_in, live_after_in};
+ghost use Rattle.offset_heaps.specs.Relocating.{last_live_in, live_before_in};
 
 use crate::HeapsOf;
 use crate::place::Place;
@@ -38,12 +38,12 @@ impl<T: Tables> HeapsOf<T> {
     /// heaps.allocate(100).unwrap();
     /// assert_eq!(heaps.first_live(mesh.heap), Some(mesh));
     /// ```
-    pub fn first_live(&self, heap: u32) -> Option<Place>
-        ensures { result ≡ first_place heap self.now.realm (heap_at heap self.now) }
+    pub fn first_live(&self, number: u32) -> Option<Place>
+        ensures { result ≡ first_live_in number self.now.realm (heap_at number self.now) }
     {
-        match self.heap(heap) {
+        match self.heap(number) {
             None => None,
-            Some(guarded) => self.place_at(heap, guarded.first_live()),
+            Some(guarded) => self.place_at(number, guarded.first_live()),
         }
     }
 
@@ -56,12 +56,12 @@ impl<T: Tables> HeapsOf<T> {
     /// let texture = heaps.allocate(100).unwrap().place;
     /// assert_eq!(heaps.last_live(mesh.heap), Some(texture));
     /// ```
-    pub fn last_live(&self, heap: u32) -> Option<Place>
-        ensures { result ≡ last_place heap self.now.realm (heap_at heap self.now) }
+    pub fn last_live(&self, number: u32) -> Option<Place>
+        ensures { result ≡ last_live_in number self.now.realm (heap_at number self.now) }
     {
-        match self.heap(heap) {
+        match self.heap(number) {
             None => None,
-            Some(guarded) => self.place_at(heap, guarded.last_live()),
+            Some(guarded) => self.place_at(number, guarded.last_live()),
         }
     }
 
@@ -75,7 +75,7 @@ impl<T: Tables> HeapsOf<T> {
     /// ```
     pub fn live_before(&self, place: Place) -> Option<Place>
         ensures before { IsLive place self.now → result
-            ≡ place_before place.heap self.now.realm place.ticket (heap_at place.heap self.now) }
+            ≡ live_before_in place.heap self.now.realm place.ticket (heap_at place.heap self.now) }
         ensures gone { (IsLive place self.now → ⊥) → result ≡ None }
     {
         match self.heap_of(place) {
@@ -94,7 +94,7 @@ impl<T: Tables> HeapsOf<T> {
     /// ```
     pub fn live_after(&self, place: Place) -> Option<Place>
         ensures after { IsLive place self.now → result
-            ≡ place_after place.heap self.now.realm place.ticket (heap_at place.heap self.now) }
+            ≡ live_after_in place.heap self.now.realm place.ticket (heap_at place.heap self.now) }
         ensures gone { (IsLive place self.now → ⊥) → result ≡ None }
     {
         match self.heap_of(place) {

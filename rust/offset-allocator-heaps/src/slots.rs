@@ -462,7 +462,7 @@ impl<T: Tables> Slots<T> {
     }
 
     // The live units of the heap of a number, or `None` where nothing is live in it.
-    fn live_at(&self, number: u32, count: &mut Accesses) -> Option<u32> {
+    fn live_units_at(&self, number: u32, count: &mut Accesses) -> Option<u32> {
         match self.at(number, count) {
             None => None,
             Some(heap) => {
@@ -481,7 +481,7 @@ impl<T: Tables> Slots<T> {
     pub(crate) fn emptiest(&self, numbers: u32, count: &mut Accesses) -> Option<u32> {
         let mut found = None;
         for number in 0..numbers {
-            let live = self.live_at(number, count);
+            let live = self.live_units_at(number, count);
             found = with_live(found, number, live);
         }
         match found {

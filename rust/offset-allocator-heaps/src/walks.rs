@@ -34,10 +34,10 @@ impl<T: Tables> HeapsOf<T> {
     /// assert_eq!(heaps.first_live(mesh.heap), Some(mesh));
     /// # Ok::<(), AllocError>(())
     /// ```
-    pub fn first_live(&self, heap: u32) -> Option<Place> {
-        match self.heap(heap) {
+    pub fn first_live(&self, number: u32) -> Option<Place> {
+        match self.heap(number) {
             None => None,
-            Some(guarded) => self.place_at(heap, guarded.first_live()),
+            Some(guarded) => self.place_at(number, guarded.first_live()),
         }
     }
 
@@ -55,10 +55,10 @@ impl<T: Tables> HeapsOf<T> {
     /// assert_eq!(heaps.last_live(mesh.heap), Some(texture));
     /// # Ok::<(), AllocError>(())
     /// ```
-    pub fn last_live(&self, heap: u32) -> Option<Place> {
-        match self.heap(heap) {
+    pub fn last_live(&self, number: u32) -> Option<Place> {
+        match self.heap(number) {
             None => None,
-            Some(guarded) => self.place_at(heap, guarded.last_live()),
+            Some(guarded) => self.place_at(number, guarded.last_live()),
         }
     }
 

@@ -161,6 +161,7 @@ impl<NI: NodeIndex> Following<NI> {
                     self.course.refused.push(Refused { call: i, asked, why })?;
                 }
             }
+            (Reply::Answer(Answer::Freed), _) => unreachable!("which range is free?"),
             _ => (),
         }
         self.see()

@@ -5,7 +5,7 @@ use Rattle.offset_allocator.specs.Cells.{ChainCells, node}
 use Rattle.offset_allocator.specs.Reporting.FreeSizes.{largest}
 use Rattle.offset_allocator.specs.View.{View, free_sizes, used_of, used_units}
 
--- the largest of some numbers, or 0 where there is none
+-- the largest of some numbers, or 0 where there is none; `largest` of `FreeSizes` is that of the values of their classes
 abbrev pub greatest : List ℕ → ℕ
 greatest [] = 0
 greatest (n ∷ ns) = max n (greatest ns)

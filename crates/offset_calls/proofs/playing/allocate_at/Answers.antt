@@ -1,7 +1,7 @@
 use Rattle.offset_calls.proofs.Common.{sym, subst}
 use Rattle.offset_script.proofs.Held.{may_be_kept}
 use Rattle.offset_script.specs.Steps.{MayBeKept}
-use Rattle.offset_calls.proofs.playing.at_offset.Goals as goal
+use Rattle.offset_calls.proofs.playing.allocate_at.Goals as goal
 
 pub keep-requires-clause-granted : goal.keep-requires-clause-granted
 keep-requires-clause-granted g c = subst (MayBeKept c.allocate_at-granted.result c.allocate_at-granted.new.self) (sym c.reserve.ensures.items)
