@@ -14,10 +14,10 @@ use Rattle.offset_guarded.specs.Guard as guarded
 use Rattle.offset_heaps.specs.Calls.{GoAll, Goes}
 use Rattle.offset_heaps.specs.declared.place.Place.{Place}
 use Rattle.offset_heaps.specs.Heaps.{Heaps, FreesIn, Grants, heap_at, live_of, part, range_in, units_of_heap, slot, total}
-use Rattle.offset_heaps.specs.Relocating.{TakesRange, granted, live_at, square_of, squares, units_in, size_of}
+use Rattle.offset_heaps.specs.Relocating.{TakesRange, granted, live_at, size_of, square_of, squares, units_in}
 use Rattle.offset_heaps.specs.State as state
 use Rattle.offset_heaps.proofs.Decided.{known, known_at}
-use Rattle.offset_heaps.proofs.{Raising.must_in, Numbers.slot_other, Numbers.slot_there}
+use Rattle.offset_heaps.proofs.{Numbers.slot_other, Numbers.slot_there, Raising.must_in}
 
 -- ---- the live units of one heap
 used_part : (x n : ℕ) → used_units (free_part x n) ≡ 0

@@ -1,6 +1,6 @@
 use Rattle.std.proofs.Common.{◌≡◌, ℕ, ◌+◌, ◌*◌, ◌<◌, ◌≤◌, drop, length}
 use Rattle.std.specs.List.{FoldsTo}
-use Rattle.offset_heaps.specs.{Changing.IsCalledAt, Changing.CompactsSlot, Changing.moves_from, Heaps.slot, Soundness.IsNoted, Soundness.IsWide}
+use Rattle.offset_heaps.specs.{Changing.CompactsSlot, Changing.IsCalledAt, Changing.moves_from, Heaps.slot, Soundness.IsNoted, Soundness.IsWide}
 use Rattle.offset_heaps.proofs.compacting.compact_all.Given as goal
 
 -- the heaps so far are compacted, and what is left to be called is what remains of all moves

@@ -1,6 +1,6 @@
 use Rattle.std.proofs.Common.{◌+◌, ◌≤◌, ap, arith}
 use Rattle.offset_allocator.specs.View.{View}
-use Rattle.offset_heaps.proofs.{Raising.usual_left, Longer.can_raised}
+use Rattle.offset_heaps.proofs.{Longer.can_raised, Raising.usual_left}
 use Rattle.offset_heaps.proofs.extending.extend_heap.Goals as goal
 
 pub returns-clause-done : goal.returns-clause-done
