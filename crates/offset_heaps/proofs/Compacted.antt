@@ -6,7 +6,7 @@ use Rattle.offset_allocator.specs.{Moving.Compacting.Move, Ranges.Range, View.Vi
 use Rattle.offset_guarded.specs.Guard.{Guard}
 use Rattle.offset_guarded.specs.declared.ticket.Ticket.{Ticket}
 use Rattle.offset_heaps.specs.declared.limits.Limits.{Limits}
-use Rattle.offset_heaps.specs.Changing.{CompactsAll, KeepsSizes, CompactsSlot, moves_from, moves_in, numbered}
+use Rattle.offset_heaps.specs.Changing.{CompactsAll, CompactsSlot, KeepsSizes, moves_from, moves_in, numbered}
 use Rattle.offset_heaps.specs.Heaps.{Heaps, IsOfKind, heap_at, range_in, slot}
 use Rattle.offset_heaps.proofs.{Changes.compacted_blocks, Raising.still_left, Sound.kind_kept}
 

@@ -11,10 +11,10 @@ use Rattle.offset_heaps.specs.declared.place.Place.{Place}
 use Rattle.offset_heaps.specs.declared.refusal.Refusal.{Refusal}
 use Rattle.offset_heaps.specs.declared.refusal.Refusal.TheVariants.{Empty, TooLarge, Full, Memory}
 use Rattle.offset_heaps.specs.Calls.{AllocatesTight}
-use Rattle.offset_heaps.specs.Heaps.{Heaps, IsRaisedAsNeeded, IsNext, Puts, heap_at}
+use Rattle.offset_heaps.specs.Heaps.{Heaps, IsNext, IsRaisedAsNeeded, Puts, heap_at}
 use Rattle.offset_heaps.specs.{Slots.CanHoldIn, State.IsWellFormed, Tight.GrantsTight, Tight.IsFirstHolding, Tight.IsWhyTight, Tight.NoneHolds, Twins.AreTwins, Twins.IsTwin, Twins.IsTwinIn}
-use Rattle.offset_heaps.proofs.Decided.{grants_decided, raised_twins, known, known_at, may_twins, must_in_twins, next_twins, one_first, one_next, puts_twins, same_twins}
-use Rattle.offset_heaps.proofs.{Raising.raised_formed, Holders.one_reason_tight, Holders.tight_refused, Numbers.slot_there, Twins.as_twin, Twins.grant_twins, Twins.same_ticket, Twins.some_twin, Twins.twin_sym, Twins.twins_sym}
+use Rattle.offset_heaps.proofs.Decided.{grants_decided, known, known_at, may_twins, must_in_twins, next_twins, one_first, one_next, puts_twins, raised_twins, same_twins}
+use Rattle.offset_heaps.proofs.{Holders.one_reason_tight, Holders.tight_refused, Numbers.slot_there, Raising.raised_formed, Twins.as_twin, Twins.grant_twins, Twins.same_ticket, Twins.some_twin, Twins.twin_sym, Twins.twins_sym}
 
 -- ---- what a request finds
 holds_twin : (size align : ℕ) (o p : Option Guard) → IsTwinIn o p → CanHoldIn size align o → CanHoldIn size align p

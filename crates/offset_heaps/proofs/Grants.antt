@@ -11,8 +11,8 @@ use Rattle.offset_heaps.specs.declared.place.Granted.{Granted}
 use Rattle.offset_heaps.specs.declared.refusal.Refusal.{Refusal}
 use Rattle.offset_heaps.specs.declared.refusal.Refusal.TheVariants.{Empty, TooLarge, Full, Memory}
 use Rattle.offset_heaps.specs.Heaps.{Heaps, Adds, Grants, IsBefore, IsFirstFit, IsForRoom, IsNext, IsWhy, MayEverFit, NoneFits, IsNew, IsSame, IsSpareLarger, IsSpareUsual, IsUsual, KeepsOthers, IsRaisedAsNeeded, MustRaiseIn, heap_at, usual_size}
-use Rattle.offset_heaps.specs.{Heaps.larger_limit, Heaps.last_realm, Heaps.range_in, Heaps.range_of, Heaps.slot, Slots.Changes, Slots.RaisesIn, Slots.KeepsOthersIn, Slots.Serves, Slots.ServesTight}
-use Rattle.offset_heaps.proofs.{Raising.raised_range, Raising.must_in, Raising.set_twice}
+use Rattle.offset_heaps.specs.{Heaps.larger_limit, Heaps.last_realm, Heaps.range_in, Heaps.range_of, Heaps.slot, Slots.Changes, Slots.KeepsOthersIn, Slots.RaisesIn, Slots.Serves, Slots.ServesTight}
+use Rattle.offset_heaps.proofs.{Raising.must_in, Raising.raised_range, Raising.set_twice}
 use Rattle.offset_heaps.proofs.{Numbers.slot_same, Places.none_if, Places.put_keeps, Places.same_realm, Places.shown, Rooms.fresh_none, Rooms.some_same}
 
 -- a grant at a number

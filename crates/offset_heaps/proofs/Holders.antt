@@ -14,7 +14,7 @@ use Rattle.offset_heaps.specs.Asking.{IsWhyNone}
 use Rattle.offset_heaps.specs.Heaps.{Heaps, Grants, IsForRoom, IsRaisedAsNeeded, IsNext, IsSame, IsWhy, KeepsOthers, MustRaiseIn, NoneFits, heap_at, range_in, range_of, room, slot}
 use Rattle.offset_heaps.specs.{Slots.CanHoldIn, Slots.Changes, Slots.Fills, Slots.RaisesIn}
 use Rattle.offset_heaps.specs.Tight.{GrantsTight, IsFirstHolding, IsRefusedForTight, IsServedTight, IsWhyTight, NoneHolds}
-use Rattle.offset_heaps.proofs.{Grants.granted_since, Grants.raised_once, Grants.next_fits, Grants.not_live_before, Grants.others_kept, Grants.range_granted, Raising.raised_range, Raising.must_in, Raising.set_twice}
+use Rattle.offset_heaps.proofs.{Grants.granted_since, Grants.next_fits, Grants.not_live_before, Grants.others_kept, Grants.raised_once, Grants.range_granted, Raising.must_in, Raising.raised_range, Raising.set_twice}
 use Rattle.offset_heaps.proofs.{Numbers.slot_same, Numbers.slot_there, Places.none_if, Places.put_keeps, Places.same_realm, Places.shown, Rooms.can}
 
 -- ---- what a heap holds

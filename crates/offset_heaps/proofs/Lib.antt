@@ -14,13 +14,14 @@ pub mod FaultPlaces
 pub mod Finding
 pub mod Foretold
 pub mod Grants
-pub mod Raising
 pub mod Histories
 pub mod Holders
+pub mod LivePlaces
 pub mod Longer
 pub mod Numbers
 pub mod OneHeap
 pub mod Places
+pub mod Raising
 pub mod Refusals
 pub mod Rooms
 pub mod Shapes
@@ -31,4 +32,3 @@ pub mod Sums
 pub mod Takers
 pub mod Trees
 pub mod Twins
-pub mod Walks

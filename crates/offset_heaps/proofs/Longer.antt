@@ -5,7 +5,7 @@ use Rattle.offset_guarded.specs.Guard.{Guard}
 use Rattle.offset_guarded.specs.Guard as guarded
 use Rattle.offset_heaps.specs.declared.limits.Limits.{Limits}
 use Rattle.offset_heaps.specs.Extending.{ExtendsIf, ExtendsIn}
-use Rattle.offset_heaps.specs.Heaps.{HasNodesLeft, IsFirstLimit, IsRaisedAsNeeded, IsOfKind, MustRaise, raised_limit}
+use Rattle.offset_heaps.specs.Heaps.{HasNodesLeft, IsFirstLimit, IsOfKind, IsRaisedAsNeeded, MustRaise, raised_limit}
 use Rattle.offset_heaps.specs.Twins.{IsTwin}
 use Rattle.offset_heaps.proofs.Twins.{range_twin}
 use Rattle.offset_heaps.proofs.Raising.{enough_left, raised_kind, raised_stays, usual_left}
@@ -86,7 +86,7 @@ pub realm_longer : (limits : Limits) (k more : ℕ) (done : Bool) (g h : Guard) 
 realm_longer limits k more true g h e = e.serials.realm
 realm_longer limits k more false g h e = e.1.realm
 
--- every ticket keeps its range, and what can't be done leaves a heap that later calls answer as the one before
+-- every ticket keeps its range, and where it is not done, every later call returns the same for both heaps
 pub twin_same : (g h : Guard) → guarded.IsSame g h → IsTwin g h
 twin_same g h s = record { space = s.0; serials = λ x live. s.1.cells x; given = s.1.given; realm = s.1.realm }
 

@@ -1,5 +1,5 @@
--- The node limit of a heap raises before a grant: what it has room for and what is live in it stay, and after the grant it
--- has as many unused nodes as between two calls.
+-- The node limit of a heap is raised before a grant: what it has room for and what is live in it stay, and after the grant
+-- it has as many unused nodes as between two calls.
 use Rattle.std.proofs.Common.{◌≡◌, ℕ, zero, suc, ◌+◌, ◌*◌, ◌<◌, ◌≤◌, ◌⊎◌, min, true, List, [], ◌∷◌, ◌++◌, Option, Some, None, IfSome, Result, Ok, Err, IfOk, IsErr, length, length-append, slice_set, refl, sym, ap, ◌∙◌, subst, inl, inr, arith}
 use Rattle.std.proofs.lemmas.Bool.{cases_lt, lt-ltb}
 use Rattle.offset_allocator.specs.{Relations.Frees, Relations.Resets, Relations.Splits, View.Block, View.Handle, View.IsWellFormed, View.View, View.free_block, View.free_part, View.units}

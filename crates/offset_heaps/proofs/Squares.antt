@@ -17,7 +17,7 @@ use Rattle.offset_heaps.specs.Heaps.{Heaps, FreesIn, Grants, heap_at, live_of, p
 use Rattle.offset_heaps.specs.Relocating.{TakesRange, granted, live_units_at, square_of, squares, units_in, size_of}
 use Rattle.offset_heaps.specs.State as state
 use Rattle.offset_heaps.proofs.Decided.{known, known_at}
-use Rattle.offset_heaps.proofs.{Raising.must_in, Numbers.slot_other, Numbers.slot_there}
+use Rattle.offset_heaps.proofs.{Numbers.slot_other, Numbers.slot_there, Raising.must_in}
 
 -- ---- the live units of one heap
 used_part : (x n : ℕ) → used_units (free_part x n) ≡ 0

@@ -3,7 +3,7 @@ use Rattle.std.proofs.Common.{◌≡◌, ℕ, zero, suc, ◌+◌, ◌<◌, max, 
 use Rattle.std.proofs.Common.{arith, add-one}
 use Rattle.offset_guarded.specs.Guard.{Guard}
 use Rattle.offset_heaps.specs.declared.totals.Totals.{Totals}
-use Rattle.offset_heaps.specs.Heaps.{AreTotals, free_of, largest_room, live_of, part, room_of, units_of_heap, slot, total}
+use Rattle.offset_heaps.specs.Heaps.{AreTotals, free_of, largest_room, live_of, part, room_of, slot, total, units_of_heap}
 
 total_next : (f : Guard → ℕ) (slots : List (Option Guard)) (n : ℕ) → n < length slots → total f (take (suc n) slots) ≡ total f (take n slots) + part f (slot n slots)
 total_next f [] n l = absurd (omega arith)

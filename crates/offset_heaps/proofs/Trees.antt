@@ -4,7 +4,7 @@ use Rattle.std.proofs.lemmas.Bool.{cases_eq, cases_lt}
 use Rattle.std.proofs.lemmas.List.{get_or-set_same, get_or-set_other, get_or-drop, get_or_past, length-drop, length-set}
 use Rattle.std.proofs.lemmas.Grind.{pow_more}
 use Rattle.std.proofs.Math.Pow.{pow_mono}
-use Rattle.offset_heaps.specs.Maxima.{AreBelow, IsTree, IsAbove, IsTreeBut, Leads, Trails, cell}
+use Rattle.offset_heaps.specs.Maxima.{AreBelow, IsTree, IsAbove, IsTreeBut, IsFirstInLevel, IsLastInLevel, cell}
 
 pub cell_same : (cells : List ℕ) (k v : ℕ) → k < length cells → cell k (slice_set cells k v) ≡ v
 cell_same cells k v l = get_or-set_same cells k v 0 l
@@ -47,7 +47,7 @@ raised height place p v cells t half some small is = record {
 }
 
 -- the cells below a level are within the tree
-pub in_width : (height level least place : ℕ) (cells : List ℕ) → IsTree height cells → level < height → Leads least level place cells → place * 2 < length cells
+pub in_width : (height level least place : ℕ) (cells : List ℕ) → IsTree height cells → level < height → IsFirstInLevel least level place cells → place * 2 < length cells
 in_width height level least place cells t low is =
     let power : 2 ^ (level + 1) ≤ 2 ^ height = pow_mono (omega arith) in
     let next = pow_more 2 level in
@@ -55,7 +55,8 @@ in_width height level least place cells t low is =
     let wide = t.wide in
     omega arith
 
-step : (height level least place : ℕ) (cells : List ℕ) → IsTree height cells → level < height → Leads least level place cells
+-- the first cell of a level that is large enough is the larger of the two below it
+step : (height level least place : ℕ) (cells : List ℕ) → IsTree height cells → level < height → IsFirstInLevel least level place cells
     → cell place cells ≡ max (cell (2 * place) cells) (cell (2 * place + 1) cells)
 step height level least place cells t low is =
     let power : 2 ^ (level + 1) ≤ 2 ^ height = pow_mono (omega arith) in
@@ -66,7 +67,7 @@ step height level least place cells t low is =
     t.over place (omega arith) (omega arith)
 
 -- a cell of the next level, left of those below this one
-left_of : (height level least place j : ℕ) (cells : List ℕ) → IsTree height cells → level < height → Leads least level place cells
+left_of : (height level least place j : ℕ) (cells : List ℕ) → IsTree height cells → level < height → IsFirstInLevel least level place cells
     → 2 ^ (level + 1) ≤ j → j < 2 * place → cell j cells < least
 left_of height level least place j cells t low is from before =
     let power : 2 ^ (level + 1) ≤ 2 ^ height = pow_mono (omega arith) in
@@ -81,8 +82,9 @@ left_of height level least place j cells t low is from before =
       | inr m ↦ let e : j ≡ 2 * p + 1 = omega arith in rw e (omega arith)
     ]
 
-pub step_left : (height level least place : ℕ) (cells : List ℕ) → IsTree height cells → level < height → Leads least level place cells
-    → least ≤ cell (place * 2) cells → Leads least (level + 1) (place * 2) cells
+-- where the left one of these is large enough, it is the first of its level that is
+pub step_left : (height level least place : ℕ) (cells : List ℕ) → IsTree height cells → level < height → IsFirstInLevel least level place cells
+    → least ≤ cell (place * 2) cells → IsFirstInLevel least (level + 1) (place * 2) cells
 step_left height level least place cells t low is enough =
     let next = pow_more 2 level in
     let from = is.from in
@@ -94,8 +96,9 @@ step_left height level least place cells t low is enough =
       left = λ j above before. left_of height level least place j cells t low is above (omega arith);
     }
 
-pub step_right : (height level least place : ℕ) (cells : List ℕ) → IsTree height cells → level < height → Leads least level place cells
-    → cell (place * 2) cells < least → Leads least (level + 1) (place * 2 + 1) cells
+-- and else the right one is
+pub step_right : (height level least place : ℕ) (cells : List ℕ) → IsTree height cells → level < height → IsFirstInLevel least level place cells
+    → cell (place * 2) cells < least → IsFirstInLevel least (level + 1) (place * 2 + 1) cells
 step_right height level least place cells t low is less =
     let next = pow_more 2 level in
     let from = is.from in
@@ -115,7 +118,7 @@ step_right height level least place cells t low is less =
     }
 
 -- the same from the right: the cells below a level are within the tree
-pub in_width_last : (height level least place : ℕ) (cells : List ℕ) → IsTree height cells → level < height → Trails least level place cells → 2 * place + 1 < length cells
+pub in_width_last : (height level least place : ℕ) (cells : List ℕ) → IsTree height cells → level < height → IsLastInLevel least level place cells → 2 * place + 1 < length cells
 in_width_last height level least place cells t low is =
     let power : 2 ^ (level + 1) ≤ 2 ^ height = pow_mono (omega arith) in
     let next = pow_more 2 level in
@@ -124,7 +127,7 @@ in_width_last height level least place cells t low is =
     omega arith
 
 -- a cell of the next level, right of those below this one
-right_of : (height level least place j : ℕ) (cells : List ℕ) → IsTree height cells → level < height → Trails least level place cells
+right_of : (height level least place j : ℕ) (cells : List ℕ) → IsTree height cells → level < height → IsLastInLevel least level place cells
     → 2 * place + 1 < j → j < 2 * 2 ^ (level + 1) → cell j cells < least
 right_of height level least place j cells t low is behind to =
     let power : 2 ^ (level + 1) ≤ 2 ^ height = pow_mono (omega arith) in
@@ -137,8 +140,9 @@ right_of height level least place j cells t low is behind to =
       | inr m ↦ let e : j ≡ 2 * p + 1 = omega arith in rw e (omega arith)
     ]
 
-pub last_right : (height level least place : ℕ) (cells : List ℕ) → IsTree height cells → level < height → Trails least level place cells
-    → least ≤ cell (2 * place + 1) cells → Trails least (level + 1) (2 * place + 1) cells
+-- below the last cell of a level that is large enough, the right one is the last of its level, where it is large enough
+pub last_right : (height level least place : ℕ) (cells : List ℕ) → IsTree height cells → level < height → IsLastInLevel least level place cells
+    → least ≤ cell (2 * place + 1) cells → IsLastInLevel least (level + 1) (2 * place + 1) cells
 last_right height level least place cells t low is enough =
     let next = pow_more 2 level in
     let from = is.from in
@@ -150,8 +154,9 @@ last_right height level least place cells t low is enough =
       right = λ j behind before. right_of height level least place j cells t low is behind before;
     }
 
-pub last_left : (height level least place q : ℕ) (cells : List ℕ) → IsTree height cells → level < height → Trails least level place cells
-    → q ≡ 2 * place → cell (2 * place + 1) cells < least → Trails least (level + 1) q cells
+-- and else the left one is
+pub last_left : (height level least place q : ℕ) (cells : List ℕ) → IsTree height cells → level < height → IsLastInLevel least level place cells
+    → q ≡ 2 * place → cell (2 * place + 1) cells < least → IsLastInLevel least (level + 1) q cells
 last_left height level least place q cells t low is e less =
     let power : 2 ^ (level + 1) ≤ 2 ^ height = pow_mono (omega arith) in
     let next = pow_more 2 level in
@@ -171,8 +176,8 @@ last_left height level least place q cells t low is e less =
     })
 
 -- where the topmost cell is too small, so is each number
-pub none_leads : (height least : ℕ) (cells : List ℕ) → IsTree height cells → 1 ≤ least → cell 1 cells < least → AreBelow least (drop (2 ^ height) cells)
-none_leads height least cells t some low i = rw (get_or-drop (2 ^ height) cells i 0) (elim (cases_lt (2 ^ height + i) (length cells)) [
+pub none_enough : (height least : ℕ) (cells : List ℕ) → IsTree height cells → 1 ≤ least → cell 1 cells < least → AreBelow least (drop (2 ^ height) cells)
+none_enough height least cells t some low i = rw (get_or-drop (2 ^ height) cells i 0) (elim (cases_lt (2 ^ height + i) (length cells)) [
   | inl l ↦
       let wide = t.wide in
       let one : 1 ≤ 2 ^ height = pow_mono {i = 0} (omega arith) in

@@ -1,4 +1,4 @@
--- Heaps of which every later call returns the same: what calls read of them is the same, and so is what a change of one heap leaves.
+-- Twins: what calls read of them is the same, and so is what a change of one heap leaves.
 use Rattle.std.proofs.Common.{◌≡◌, ◌≢◌, ℕ, suc, ◌+◌, ◌<◌, ◌⊎◌, Bool, true, false, ◌&&◌, length, List, [], ◌∷◌, Option, Some, None, IfSome, IsSome, is_some, option_map, slice_set, if◌then◌else◌, nat_eq, refl, sym, ap, ap₂}
 use Rattle.std.proofs.Common.{subst, ◌∙◌, inl, inr, arith, eq-eqb}
 use Rattle.std.proofs.lemmas.Bool.{cases_eq}

@@ -12,7 +12,8 @@ abbrev pub CanExtendIn : ℕ → Option Guard → Type 0
 CanExtendIn more None = ⊥
 CanExtendIn more (Some g) = 1 ≤ more → CanExtend more g.space
 
--- a heap gets so many units more at its end, and every ticket keeps its range. Before, it is raised as needed for a grant
+-- a heap gets so many units more at its end, and every ticket keeps its range. Before, it is raised as needed for a
+-- grant
 pub record ExtendsIn (limits : Limits) (k more : ℕ) (g h : Guard) : Type 0 where
   pub between : Guard
   pub raised : IsRaisedAsNeeded limits k g between

@@ -101,7 +101,7 @@ IsNext size k hs = (hs.made < last_realm)
 abbrev pub HasFewNodes : ℕ → Limits → ℕ → Guard → Type 0
 HasFewNodes n limits k g = (k < limits.most) × (g.space.max_allocs < limits.max_allocs) × (g.space.max_allocs < length g.space.blocks + n)
 
--- the node limit of the heap of a number has to be raised before a grant
+-- the node limit of a usual heap has to be raised before a grant: fewer than five nodes are unused
 abbrev pub MustRaise : Limits → ℕ → Guard → Type 0
 MustRaise limits k g = HasFewNodes 5 limits k g
 

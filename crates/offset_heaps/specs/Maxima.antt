@@ -42,14 +42,14 @@ pub record IsTreeBut (place height : ℕ) (cells : List ℕ) : Type 0 where
   pub over : (k : ℕ) → 1 ≤ k → k < 2 ^ height → (2 * k ≡ place → ⊥) → (2 * k + 1 ≡ place → ⊥) → cell k cells ≡ max (cell (2 * k) cells) (cell (2 * k + 1) cells)
 
 -- of the cells of a level, this one is the first that is large enough
-pub record Leads (least level place : ℕ) (cells : List ℕ) : Type 0 where
+pub record IsFirstInLevel (least level place : ℕ) (cells : List ℕ) : Type 0 where
   pub from : 2 ^ level ≤ place
   pub to : place < 2 * 2 ^ level
   pub enough : least ≤ cell place cells
   pub left : (j : ℕ) → 2 ^ level ≤ j → j < place → cell j cells < least
 
 -- of the cells of a level, this one is the last that is large enough
-pub record Trails (least level place : ℕ) (cells : List ℕ) : Type 0 where
+pub record IsLastInLevel (least level place : ℕ) (cells : List ℕ) : Type 0 where
   pub from : 2 ^ level ≤ place
   pub to : place < 2 * 2 ^ level
   pub enough : least ≤ cell place cells

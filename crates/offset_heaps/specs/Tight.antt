@@ -7,7 +7,7 @@ use Rattle.offset_guarded.specs.Guard as guarded
 use Rattle.offset_heaps.specs.declared.place.Place.{Place}
 use Rattle.offset_heaps.specs.declared.refusal.Refusal.{Refusal}
 use Rattle.offset_heaps.specs.declared.refusal.Refusal.TheVariants.{Empty, TooLarge, Full, Memory}
-use Rattle.offset_heaps.specs.Heaps.{Heaps, IsRaisedAsNeeded, IsNext, MayEverFit, MustRaiseIn, Puts, heap_at}
+use Rattle.offset_heaps.specs.Heaps.{Heaps, IsNext, IsRaisedAsNeeded, MayEverFit, MustRaiseIn, Puts, heap_at}
 use Rattle.offset_heaps.specs.Slots.{CanHoldIn}
 
 -- no heap holds a request

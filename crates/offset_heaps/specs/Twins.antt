@@ -5,7 +5,8 @@ use Rattle.offset_allocator.specs.Relations.{SameState}
 use Rattle.offset_guarded.specs.Guard.{Guard, serial_of}
 use Rattle.offset_heaps.specs.Heaps.{Heaps, heap_at}
 
--- every later call returns the same for both heaps: their spaces are in the same state, and each live name has the same serial
+-- every later call returns the same for both heaps: their spaces are in the same state, and each live name has the same
+-- serial
 pub record IsTwin (g h : Guard) : Type 0 where
   pub space : SameState g.space h.space
   pub serials : (x : ℕ) → named.IsLive x g.space → serial_of x h ≡ serial_of x g

@@ -3,7 +3,7 @@
 ghost use Rattle.std.specs.Prelude.{ℕ, ◌≡◌, ◌↔◌, ◌+◌, ◌*◌, ◌%◌, ◌^◌, ◌<◌, ◌≤◌, ◌⊎◌, None, Some, Ok, Err};
 ghost use Rattle.std.specs.Prelude.{false, true, length, IsErr, IsTrue, IfOk, IfErr, IfSome, MatchOption, OnErr};
 ghost use Rattle.offset_allocator.specs.Requests.{blocks_needed, units_needed};
-ghost use Rattle.offset_heaps.specs.Slots.{Changes, RaisesIn, IsBelow};
+ghost use Rattle.offset_heaps.specs.Slots.{Changes, IsBelow, RaisesIn};
 
 use crate::index::LARGER_KEY;
 use crate::limits::usual_room;

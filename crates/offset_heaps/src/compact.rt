@@ -5,7 +5,7 @@ ghost use Rattle.std.specs.Prelude.{length, true};
 ghost use Rattle.std.specs.List.{FoldsTo};
 ghost use Rattle.offset_allocator.specs.Moving.Compacting.{IsCalledWith, moves};
 ghost use Rattle.offset_heaps.specs.Changing.{CompactsAll, CompactsHeap, CompactsIn, IsCalledAt, KeepsSizes};
-ghost use Rattle.offset_heaps.specs.Changing.{MakesRoomAt, CompactsSlot, moves_from, moves_in, numbered};
+ghost use Rattle.offset_heaps.specs.Changing.{CompactsSlot, MakesRoomAt, moves_from, moves_in, numbered};
 ghost use Rattle.offset_heaps.specs.Heaps.{slot};
 ghost use Rattle.offset_heaps.specs.Soundness.{IsNoted, IsWide};
 

@@ -87,7 +87,7 @@ impl<T: Tables> HeapsOf<T> {
             ≡ option_map (λ g. units_of_heap g + more) (heap_at number self.old) }
         // Every place keeps its range.
         ensures kept { KeepsAll self.old self.new }
-        // Where it is not done, every later call returns what it would have returned before.
+        // Where it is not done, every later call returns the same as if this one had not been made.
         ensures refused { result ≡ Ok false → AreTwins self.old self.new }
         // Memory is requested only for a heap whose node limit has to be raised, and that can be extended.
         ensures must { IsErr result → MustRaiseIn self.old.limits number (heap_at number self.old)

@@ -10,7 +10,7 @@ ghost use Rattle.offset_allocator.specs.declared.reports.StorageReport.{StorageR
 ghost use Rattle.offset_guarded.specs.Guard.{Guard, HasSerialLeft, IsRaised};
 ghost use Rattle.offset_heaps.specs.Heaps.{Heaps, room, AreAlike, AreTotals, heap_at, numbers, range_of};
 ghost use Rattle.offset_heaps.specs.Heaps.{Grants, IsFirstFit, IsLive, IsNext, IsUsual, IsWhy, MustRaiseIn, Puts};
-ghost use Rattle.offset_heaps.specs.Heaps.{IsFirstSize, units_of_heap, total, usual_room, usual_size};
+ghost use Rattle.offset_heaps.specs.Heaps.{IsFirstSize, total, units_of_heap, usual_room, usual_size};
 ghost use Rattle.offset_heaps.specs.Histories.{AreSteps, IsGone, IsStep, ResetsAll};
 ghost use Rattle.offset_heaps.specs.Numbering.{AreOfLive, MeetsPlaces, first_from, live_places, next_place};
 ghost use Rattle.offset_heaps.specs.State.{IsCopy, IsStateOf, IsWellFormed, SameHeaps};
@@ -19,7 +19,7 @@ ghost use Rattle.offset_heaps.specs.Relocating.{live_units_at, squares, size_of}
 ghost use Rattle.offset_heaps.specs.Tight.{IsRefusedForTight, IsServedTight, IsWhyTight};
 ghost use Rattle.offset_heaps.specs.Twins.{AreTwins};
 ghost use Rattle.offset_heaps.specs.Calls.{Allocates, AllocatesTight, TakesAll, Call, Drops, DropsEmpty, Frees, GivesUp};
-ghost use Rattle.offset_heaps.specs.Calls.{GoAll, Goes, Lengthens, CompactsOne, Relocates, Reply, TakesRoom, TakesSize};
+ghost use Rattle.offset_heaps.specs.Calls.{CompactsOne, GoAll, Goes, Lengthens, Relocates, Reply, TakesRoom, TakesSize};
 ghost use Rattle.offset_heaps.specs.Asking.{IsRefusedFor, IsServed};
 ghost use Rattle.offset_heaps.specs.Changing.{CompactsAll, Wanted};
 ghost use Rattle.offset_allocator.specs.declared.moves.room.RoomCost.{RoomCost};
@@ -77,8 +77,8 @@ pub fn room_is_that_of_the_largest_limit<T: Tables>(heaps: &HeapsOf<T>, number: 
 }
 
 /// At most one reason of a refusal holds of a request. Where a heap has room for it, none holds but that memory
-/// was refused, and then the node limit of the first such heap has to be raised; and where another may be made for it, none but that
-/// its memory was refused.
+/// was refused, and then the node limit of the first such heap has to be raised; and where another may be made
+/// for it, none but that its memory was refused.
 pub fn reasons_exclude_one_another()
     ensures one { (size align : ℕ) (hs : Heaps) (r s : Refusal) → IsWhy size align hs r
         → IsWhy size align hs s → r ≡ s }

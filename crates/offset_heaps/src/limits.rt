@@ -7,7 +7,7 @@ use offset_allocator::small_float::{float_to_uint, uint_to_float_round_down};
 /// What the heaps of a `Heaps` are, and how many there may be.
 #[derive(Clone, Copy, PartialEq, Eq, Debug)]
 pub struct Limits {
-    /// The most units of a heap: no usual one is made with more.
+    /// The most units of a usual heap, when it is made: a larger one has those of its request.
     pub size: u32,
     /// The units of the usual heap of number 0: `size`, and then all have that size; or at least 1 and at most
     /// `size`, and then the one of number 1 has twice as many, that of number 2 four times, and so on, up to

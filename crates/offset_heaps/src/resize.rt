@@ -77,7 +77,7 @@ impl<T: Tables> HeapsOf<T> {
         ensures range { result ≡ Some true → HasUnits place size self.old self.new }
         ensures others { KeepsOthers place self.old self.new }
         ensures kept { KeepsLive self.old self.new }
-        // Where it is not done, every later call returns what it would have returned before.
+        // Where it is not done, every later call returns the same as if this one had not been made.
         ensures refused { result ≡ Some false → AreTwins self.old self.new }
         ensures gone { result ≡ None → IsSame self.old self.new }
         // The step of its heap. All other heaps are as they were.
@@ -104,7 +104,7 @@ impl<T: Tables> HeapsOf<T> {
         ensures range { result ≡ Some true → HasUnits place size self.old self.new }
         ensures others { KeepsOthers place self.old self.new }
         ensures kept { KeepsLive self.old self.new }
-        // Where it is not done, every later call returns what it would have returned before.
+        // Where it is not done, every later call returns the same as if this one had not been made.
         ensures refused { result ≡ Some false → AreTwins self.old self.new }
         ensures gone { result ≡ None → IsSame self.old self.new }
         // The step of its heap. All other heaps are as they were.

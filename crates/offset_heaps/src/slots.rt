@@ -9,14 +9,14 @@ ghost use Rattle.offset_allocator.specs.Tight.{CanHold};
 ghost use Rattle.offset_guarded.specs.Guard.{Guard, HasSerialLeft, IsLive};
 ghost use Rattle.offset_allocator.specs.Moving.Compacting.{IsCalledWith};
 ghost use Rattle.offset_heaps.specs.Changing.{AltersIn, CanResize, CanResizeIn, CompactsIn, MakesRoomIn, Resizes};
-ghost use Rattle.offset_heaps.specs.Changing.{IsCalledAt, CompactsSlot, moves_in, numbered, wanted};
+ghost use Rattle.offset_heaps.specs.Changing.{CompactsSlot, IsCalledAt, moves_in, numbered, wanted};
 ghost use Rattle.offset_heaps.specs.Extending.{CanExtendIn, ExtendsIf};
 ghost use Rattle.offset_heaps.specs.Heaps.{HasFewNodes, IsOfKind, IsRaisedAsNeeded, MustRaise, MustRaiseIn, is_empty};
 ghost use Rattle.offset_heaps.specs.Heaps.{live_of, part};
 ghost use Rattle.offset_heaps.specs.Heaps.{range_in, room, room_of, slot};
 ghost use Rattle.offset_heaps.specs.Numbering.{IsHeapFrom, NoHeapFrom};
 ghost use Rattle.offset_heaps.specs.Relocating.{HasLive, IsEmptiest, NoneLive, TakesUnits, units_in};
-ghost use Rattle.offset_heaps.specs.Slots.{CanHoldIn, Changes, Fills, FreesIn, RaisesIn, KeepsOthersIn};
+ghost use Rattle.offset_heaps.specs.Slots.{CanHoldIn, Changes, Fills, FreesIn, KeepsOthersIn, RaisesIn};
 ghost use Rattle.offset_heaps.specs.Slots.{IsMore, ResetsIn, Serves, ServesTight};
 
 use crate::compact::compact_numbered;
@@ -54,7 +54,7 @@ fn room_at<T: Tables>(heap: &GuardedOf<T>, align: u32) -> u32
     if align == 1 { one } else { two }
 }
 
-// Whether the node limit of a heap has to be raised before a grant: a grant adds two blocks at most, so after it at least
+// Whether the node limit of a heap has to be raised before a grant, which adds two blocks at most: after it at least
 // three nodes are unused, or the limit is the largest one. A report is then that of the largest limit.
 fn must_raise<T: Tables>(heap: &GuardedOf<T>, number: u32, limits: Limits) -> bool
     ensures { IsTrue result ↔ MustRaise limits number heap.now }

@@ -170,8 +170,8 @@ impl<T: Tables> HeapsOf<T> {
     /// unused nodes for it: what `GuardedOf::allocate_tight_aligned` grants there, as it grants it. So a heap that
     /// has room for the same request of `allocate_aligned` grants this one, and others may. Where none holds it,
     /// another heap is made, exactly as by `allocate_aligned`: a usual one where the last of these has room for
-    /// `size` units when it is fresh, else one of exactly `size` units. The node limit of
-    /// the heap is raised before, where it has to be, as there.
+    /// `size` units when it is fresh, else one of exactly `size` units. The node limit of the heap is raised before,
+    /// where it has to be, as there.
     ///
     /// Where the request is refused, all is as it was, and the `Refusal` says why.
     ///

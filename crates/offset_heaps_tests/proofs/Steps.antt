@@ -14,7 +14,7 @@ use Rattle.offset_heaps.specs.Changing.{CompactsHeap, MakesRoomAt, ResizesAt, Wa
 use Rattle.offset_heaps.specs.Extending.{ExtendsHeap}
 use Rattle.offset_heaps.specs.Histories.{IsStep}
 use Rattle.offset_heaps.specs.Tight.{GrantsTight}
-use Rattle.offset_heaps.proofs.{Raising.raised_realm, Longer.realm_longer}
+use Rattle.offset_heaps.proofs.{Longer.realm_longer, Raising.raised_realm}
 use Rattle.offset_heaps.specs.Relocating.{granted}
 
 module _ (hs ks : Heaps) where

@@ -2,7 +2,7 @@
 //! functions: they are proved.
 
 ghost use Rattle.std.specs.Prelude.{◌≤◌};
-ghost use Rattle.offset_heaps.specs.Calls.{Allocates, Drops, DropsEmpty, Frees, GivesUp, CompactsOne, Relocates};
+ghost use Rattle.offset_heaps.specs.Calls.{Allocates, CompactsOne, Drops, DropsEmpty, Frees, GivesUp, Relocates};
 ghost use Rattle.offset_heaps.specs.Calls.{TakesRoom, TakesSize};
 ghost use Rattle.offset_heaps.specs.Histories.{ResetsAll};
 ghost use Rattle.offset_heaps.specs.Changing.{Less, More};

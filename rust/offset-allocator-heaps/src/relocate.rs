@@ -43,7 +43,8 @@ impl<T: Tables> HeapsOf<T> {
     /// release of its old range before the next one, come to an end, since the sum of the squares of the
     /// heaps' live units grows at each: see `laws::relocations_end`. With later releases a range may go to
     /// and fro: make one pass, free what it left, then begin the next. No heap is made, and no memory is
-    /// taken: a heap whose node limit would have to be raised for it, as `Limits::first_allocs` says, takes no range. The range is what `GuardedOf::allocate` grants there: for one at an alignment see
+    /// taken: a heap whose node limit would have to be raised for it, as `Limits::first_allocs` says, takes no
+    /// range. The range is what `GuardedOf::allocate` grants there: for one at an alignment see
     /// `relocate_aligned`.
     ///
     /// `None` is returned where no heap takes the range, and where the place is not live; then nothing

@@ -25,7 +25,7 @@ fn room_at<T: Tables>(heap: &GuardedOf<T>, align: u32) -> u32 {
     if align == 1 { one } else { two }
 }
 
-// Whether the node limit of a heap has to be raised before a grant: a grant adds two blocks at most, so after it at least
+// Whether the node limit of a heap has to be raised before a grant, which adds two blocks at most: after it at least
 // three nodes are unused, or the limit is the largest one. A report is then that of the largest limit.
 fn must_raise<T: Tables>(heap: &GuardedOf<T>, number: u32, limits: Limits) -> bool {
     let space = heap.allocator();

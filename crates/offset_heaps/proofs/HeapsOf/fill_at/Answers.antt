@@ -1,7 +1,7 @@
 use Rattle.std.proofs.Common.{◌<◌, length, ap, arith, subst, sym}
 use Rattle.offset_guarded.specs.Guard.{handle_in}
 use Rattle.offset_heaps.specs.Heaps.{Heaps, MustRaiseIn, slot}
-use Rattle.offset_heaps.proofs.{Finding.levels, Raising.enough_left, Raising.must_in, Holders.filled_at, Shapes.blocks_tight, Shapes.limit_tight, Shapes.size_tight, Sound.kind_kept, Sound.realm_kept, Sound.sound_put}
+use Rattle.offset_heaps.proofs.{Finding.levels, Holders.filled_at, Raising.enough_left, Raising.must_in, Shapes.blocks_tight, Shapes.limit_tight, Shapes.size_tight, Sound.kind_kept, Sound.realm_kept, Sound.sound_put}
 use Rattle.offset_heaps.proofs.HeapsOf.fill_at.Goals as goal
 
 pub invariant_of-self : goal.invariant_of-self

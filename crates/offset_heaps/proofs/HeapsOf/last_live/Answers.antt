@@ -1,6 +1,6 @@
 use Rattle.std.proofs.Common.{sym}
 use Rattle.offset_heaps.specs.Heaps.{heap_at}
-use Rattle.offset_heaps.proofs.Walks.{last_of}
+use Rattle.offset_heaps.proofs.LivePlaces.{last_of}
 use Rattle.offset_heaps.proofs.HeapsOf.last_live.Goals as goal
 
 pub returns-in-Some : goal.returns-in-Some

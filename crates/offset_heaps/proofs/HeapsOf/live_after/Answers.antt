@@ -1,6 +1,6 @@
 use Rattle.std.proofs.Common.{IsSome, refl, subst, sym}
 use Rattle.offset_heaps.specs.Heaps.{heap_at}
-use Rattle.offset_heaps.proofs.Walks.{after_of, none_of}
+use Rattle.offset_heaps.proofs.LivePlaces.{after_of, none_of}
 use Rattle.offset_heaps.proofs.HeapsOf.live_after.Goals as goal
 
 pub returns-in-Some-clause-after : goal.returns-in-Some-clause-after

@@ -1,6 +1,6 @@
 use Rattle.std.proofs.Common.{IsSome, refl, subst, sym}
 use Rattle.offset_heaps.specs.Heaps.{heap_at}
-use Rattle.offset_heaps.proofs.Walks.{before_of, none_of}
+use Rattle.offset_heaps.proofs.LivePlaces.{before_of, none_of}
 use Rattle.offset_heaps.proofs.HeapsOf.live_before.Goals as goal
 
 pub returns-in-Some-clause-before : goal.returns-in-Some-clause-before

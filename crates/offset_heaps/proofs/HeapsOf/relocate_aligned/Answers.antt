@@ -1,6 +1,6 @@
 use Rattle.std.proofs.Common.{ap, arith, subst, sym}
 use Rattle.offset_heaps.specs.{Heaps.Heaps, Heaps.Grants, Heaps.numbers, Relocating.IsTaker, Relocating.granted}
-use Rattle.offset_heaps.proofs.{Grants.granted_since, Grants.not_live_before, Grants.others_kept, Grants.range_granted, Places.shown, Takers.takes_range, Takers.takes_units, Takers.size_here}
+use Rattle.offset_heaps.proofs.{Grants.granted_since, Grants.not_live_before, Grants.others_kept, Grants.range_granted, Places.shown, Takers.size_here, Takers.takes_range, Takers.takes_units}
 use Rattle.offset_heaps.proofs.HeapsOf.relocate_aligned.Goals as goal
 
 pub returns-in_err-number-clause-none : goal.returns-in_err-number-clause-none

@@ -2,7 +2,7 @@ use Rattle.std.proofs.Common.{◌≡◌, ◌+◌, ◌*◌, ◌<◌, ◌≤◌, �
 use Rattle.std.proofs.lemmas.List.{drop_all, length-set}
 use Rattle.std.proofs.Math.Nat.{add-mul}
 use Rattle.std.specs.List.{FoldsTo}
-use Rattle.offset_heaps.specs.{Changing.IsCalledAt, Changing.CompactsSlot, Changing.moves_from, Changing.moves_in, Changing.numbered, Heaps.slot}
+use Rattle.offset_heaps.specs.{Changing.CompactsSlot, Changing.IsCalledAt, Changing.moves_from, Changing.moves_in, Changing.numbered, Heaps.slot}
 use Rattle.offset_heaps.proofs.{Compacted.folds_append, Compacted.moves_step, Sound.changes_more, Sound.noted_changed}
 use Rattle.offset_heaps.proofs.compact.compact_all.Goals as goal
 

@@ -1,4 +1,4 @@
-use Rattle.offset_heaps.proofs.DecidedCalls.{allocates_decided, compacts_all_decided, drops_decided, drops_empty_decided, emptiest_decided, free_decided, gives_up_decided, lengthens_decided, compacts_one_decided, relocates_decided, resets_decided, room_decided, size_decided, totals_decided}
+use Rattle.offset_heaps.proofs.DecidedCalls.{allocates_decided, compacts_all_decided, compacts_one_decided, drops_decided, drops_empty_decided, emptiest_decided, free_decided, gives_up_decided, lengthens_decided, relocates_decided, resets_decided, room_decided, size_decided, totals_decided}
 use Rattle.offset_heaps.proofs.{DecidedTight.tights_decided, DecidedWalks.before_decided, DecidedWalks.last_decided, Twins.range_twins}
 use Rattle.offset_heaps.proofs.laws.a_state_decides_each_step.Goals as goal
 

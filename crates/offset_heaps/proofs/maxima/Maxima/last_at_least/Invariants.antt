@@ -1,9 +1,9 @@
 use Rattle.std.proofs.Common.{◌≡◌, ◌+◌}
-use Rattle.offset_heaps.specs.Maxima.{Trails}
+use Rattle.offset_heaps.specs.Maxima.{IsLastInLevel}
 use Rattle.offset_heaps.proofs.maxima.Maxima.last_at_least.Given as goal
 
 abbrev pub invariant-loop-level : goal.invariant-loop-level
 invariant-loop-level l = record {
-  trails : Trails l.least l._level l.last l.self-inside.cells.items;
+  is_last : IsLastInLevel l.least l._level l.last l.self-inside.cells.items;
   accesses : l.count ≡ l.fn.count + 1 + l._level;
 }
