@@ -4,5 +4,5 @@ use Rattle.offset_heaps.proofs.LivePlaces.{first_of}
 use Rattle.offset_heaps.proofs.HeapsOf.first_live.Goals as goal
 
 pub returns-in-Some : goal.returns-in-Some
-returns-in-Some g c = first_of c.args.heap c.args.self.now.realm c.in-Some.guarded.now (heap_at c.args.heap c.args.self.now) c.first_live.result c.place_at.result
+returns-in-Some g c = first_of c.args.number c.args.self.now.realm c.in-Some.guarded.now (heap_at c.args.number c.args.self.now) c.first_live.result c.place_at.result
     (sym c.in-Some.ensures) c.first_live.ensures c.place_at.ensures
