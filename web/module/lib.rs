@@ -112,8 +112,8 @@ fn numbers(call: Call) -> [u32; WIDE] {
         Call::Compact => [10, 0, 0, 0, 0],
         Call::CompactBy(s) => [11, s, 0, 0, 0],
         Call::CompactWithin(s, o, u, r) => [12, s, o, u, r],
-        Call::Tight(n) => [13, n, 0, 0, 0],
-        Call::TightAligned(n, a) => [14, n, a, 0, 0],
+        Call::AllocateTight(n) => [13, n, 0, 0, 0],
+        Call::AllocateTightAligned(n, a) => [14, n, a, 0, 0],
         Call::MakeRoom(n) => [15, n, 0, 0, 0],
         Call::MakeRoomBy(n, a, s) => [16, n, a, s, 0],
         Call::Relocate(k) => [17, k, 0, 0, 0],
@@ -122,10 +122,10 @@ fn numbers(call: Call) -> [u32; WIDE] {
         Call::Offset(k) => [20, k, 0, 0, 0],
         Call::WouldBegin(n, 1) => [21, n, 0, 0, 0],
         Call::WouldBegin(n, a) => [22, n, a, 0, 0],
-        Call::First => [23, 0, 0, 0, 0],
-        Call::Last => [24, 0, 0, 0, 0],
-        Call::Before(k) => [25, k, 0, 0, 0],
-        Call::After(k) => [26, k, 0, 0, 0],
+        Call::FirstLive => [23, 0, 0, 0, 0],
+        Call::LastLive => [24, 0, 0, 0, 0],
+        Call::LiveBefore(k) => [25, k, 0, 0, 0],
+        Call::LiveAfter(k) => [26, k, 0, 0, 0],
         Call::RoomCost(n) => [27, n, 0, 0, 0],
         Call::RoomCostBy(n, a, s) => [28, n, a, s, 0],
         Call::Refusal(n) => [29, n, 0, 0, 0],
@@ -151,8 +151,8 @@ fn call_of([kind, a, b, c, d]: [u32; WIDE]) -> Call {
         10 => Call::Compact,
         11 => Call::CompactBy(a),
         12 => Call::CompactWithin(a, b, c, d),
-        13 => Call::Tight(a),
-        14 => Call::TightAligned(a, b),
+        13 => Call::AllocateTight(a),
+        14 => Call::AllocateTightAligned(a, b),
         15 => Call::MakeRoom(a),
         16 => Call::MakeRoomBy(a, b, c),
         17 => Call::Relocate(a),
@@ -161,10 +161,10 @@ fn call_of([kind, a, b, c, d]: [u32; WIDE]) -> Call {
         20 => Call::Offset(a),
         21 => Call::WouldBegin(a, 1),
         22 => Call::WouldBegin(a, b),
-        23 => Call::First,
-        24 => Call::Last,
-        25 => Call::Before(a),
-        26 => Call::After(a),
+        23 => Call::FirstLive,
+        24 => Call::LastLive,
+        25 => Call::LiveBefore(a),
+        26 => Call::LiveAfter(a),
         27 => Call::RoomCost(a),
         28 => Call::RoomCostBy(a, b, c),
         29 => Call::Refusal(a),
@@ -278,8 +278,8 @@ fn why<NI: NodeIndex>(space: &AllocatorOf<ByNode<NI>>, call: Call) -> Option<Ref
     match call {
         Call::Command(Command::Alloc(n)) => space.refusal(n),
         Call::Command(Command::Align(n, a)) => space.refusal_aligned(n, a),
-        Call::Tight(n) => space.refusal_tight(n),
-        Call::TightAligned(n, a) => space.refusal_tight_aligned(n, a),
+        Call::AllocateTight(n) => space.refusal_tight(n),
+        Call::AllocateTightAligned(n, a) => space.refusal_tight_aligned(n, a),
         _ => None,
     }
 }
@@ -306,7 +306,7 @@ impl<NI: NodeIndex> Space<NI> {
                 self.grants[name] = *number as u32;
                 [1, *number as u32, *offset, space.allocation_size(handle)]
             }
-            (Reply::Answer(A::Refused) | Reply::RoomMade(None, _) | Reply::RoomCost(None) | Reply::Beside(None), _) => {
+            (Reply::Answer(A::Refused) | Reply::RoomMade(None, _) | Reply::RoomCost(None) | Reply::Found(None), _) => {
                 [if asks(call) { 12 } else { 2 }, 0, 0, 0]
             }
             (Reply::Answer(A::Freed), Call::Command(Command::Free(k))) => [3, k, 0, 0],
@@ -326,7 +326,7 @@ impl<NI: NodeIndex> Space<NI> {
             }
             (Reply::Resized, _) => [17, 0, 0, 0],
             (Reply::Offset(n), _) => [18, 0, *n, 0],
-            (Reply::Beside(Some(range)), _) => [19, range.number as u32, range.offset, 0],
+            (Reply::Found(Some(range)), _) => [19, range.number as u32, range.offset, 0],
             (Reply::Refusal(why), _) => [20, 0, 0, why.map_or(0, |w| w as u32 + 1)],
             (Reply::Answer(A::Freed), _) => unreachable!("which range is free?"),
             _ => [11, 0, 0, 0],

@@ -1,7 +1,7 @@
 -- What the reasons of refusals advise: that `compact` makes room, or that a fresh space would not.
 use Rattle.offset_allocator.proofs.Common.{◌≡◌, ◌≢◌, ◌↔◌, ℕ, ◌+◌, ◌*◌, ◌^◌, ◌<◌, ◌≤◌, List, [], ◌∷◌, ◌++◌, length, sum, replicate, refl, sym, ap, subst, ◌∙◌, inl, inr, arith, length-append}
 use Rattle.offset_allocator.proofs.Common.{AllByRecursion, cases_lt, cases_eq, length-replicate, sum_by-cons, value, up, down, Block, View, free_sizes, bin_at, push, push_all, IsWellFormed, IsFresh}
-use Rattle.offset_allocator.proofs.Common.{Compacts, live, gathered, CanGrant, HasRoomFor, IsWhy, size_needed, common_steps}
+use Rattle.offset_allocator.proofs.Common.{Compacts, live, gathered, CanGrant, AdmitsBlocks, IsWhy, size_needed, common_steps}
 use Rattle.offset_allocator.proofs.{Classes.down_law, Classes.down_small, Classes.value_down, Classes.value_grows, Classes.up_reached, Always.adds_up, Reporting.Counting.value_within_free}
 use Rattle.offset_allocator.proofs.{Emptied.none_at, Taken.HasFit, Views.ViewFits.good_refusal, Views.ViewBins.names_same, Views.ViewBins.names_other}
 use Rattle.offset_allocator.specs.declared.reports.Refusal.{Refusal}
@@ -48,10 +48,10 @@ packed_fewer x bs = omega (arith, length-append (live bs) (gathered x (free_size
     parts [] = grind (arith, common_steps)
     parts (b ∷ bs) = grind (arith, common_steps, parts bs)
 
-module _ (v : View) (w : IsWellFormed v) (blocks n : ℕ) (room : HasRoomFor blocks v) where
+module _ (v : View) (w : IsWellFormed v) (blocks n : ℕ) (room : AdmitsBlocks blocks v) where
   -- what compaction leaves
   module _ (u : View) (c : Compacts v u) where
-    pub open_still : HasRoomFor blocks u
+    pub open_still : AdmitsBlocks blocks u
     open_still = omega (arith, room, packed_fewer c.name v.blocks, ap (λ (x : View). length x.blocks) c.view, ap (λ (x : View). x.max_allocs) c.view)
 
     bins_are : u.bins ≡ push_all (gathered c.name (free_sizes v.blocks)) (replicate 256 [])
@@ -96,7 +96,7 @@ module _ (v : View) (w : IsWellFormed v) (blocks n : ℕ) (room : HasRoomFor blo
       bins : u.bins ≡ alone f.name v.size
       bins = ap (λ (x : View). x.bins) f.view
 
-      open_too : HasRoomFor blocks u
+      open_too : AdmitsBlocks blocks u
       open_too = omega (arith, room, w.some, ap (λ (x : View). length x.blocks) f.view, ap (λ (x : View). x.max_allocs) f.view)
 
 -- a request that the space is too small for is not granted

@@ -6,7 +6,7 @@ use Rattle.offset_allocator.proofs.{Decided.both_stay, Decided.splits_same, Hold
 use Rattle.offset_allocator.proofs.{Views.Split.well_divided, Views.Split.part_length}
 use Rattle.offset_allocator.proofs.Common.{◌≡◌, ◌↔◌, ℕ, ◌+◌, ◌-◌, ◌<◌, ◌≤◌, ◌⊎◌, inl, inr, Bool, true, false, List, [], ◌∷◌, ◌++◌, length, Option, Some, None, IsSome, IfSome, if◌then◌else◌, refl, sym, ap, ap₂, subst, ◌∙◌, arith, cases_lt, reverse, reverse-append}
 use Rattle.offset_allocator.proofs.Common.{false≢true, AreCoalesced, Block, View, Place, Placed, placed_at, Handle, Grants, IsWellFormed, Splits, bin_at, free_part, down, units, value, placed}
-use Rattle.offset_allocator.specs.{AtPlace.AllocatesAt, AtPlace.BeginAfter, AtPlace.CanGrantAt, AtPlace.GrantsAt, AtPlace.HoldsAt, AtPlace.IsFreeAt, AtPlace.blocks_added, AtPlace.in_the_way, AtPlace.is_among}
+use Rattle.offset_allocator.specs.{AtPlace.AllocatesAt, AtPlace.BeginAfter, AtPlace.CanGrantAt, AtPlace.GrantsAt, AtPlace.HoldsAt, AtPlace.IsFreeAt, AtPlace.blocks_added, AtPlace.in_the_way, AtPlace.is_in_the_way}
 use Rattle.offset_allocator.specs.{Relations.SameState, Reporting.Listing.listing, Tight.with_first}
 
 -- ---- the walk
@@ -230,20 +230,20 @@ all_three false y z e f g = absurd (cc)
 
 module _ (offset n : ℕ) where
   -- a block that is free, or ends where the units begin or before, or begins where they end or after
-  clear_of : (o : ℕ) (b : Block) → (b.used ≡ false) ⊎ (o + b.size ≤ offset) ⊎ (offset + n ≤ o) → is_among offset n (placed_at o b) ≡ false
+  clear_of : (o : ℕ) (b : Block) → (b.used ≡ false) ⊎ (o + b.size ≤ offset) ⊎ (offset + n ≤ o) → is_in_the_way offset n (placed_at o b) ≡ false
   clear_of o b (inl e) = no_first (is_some (placed_at o b).handle) (nat_lt o (offset + n)) (nat_lt offset (o + b.size))
       (ap (λ (u : Bool). is_some (if u then Some (let h : Handle = record { name = b.name; offset = o } in h) else None)) e)
   clear_of o b (inr (inl l)) = no_third (is_some (placed_at o b).handle) (nat_lt o (offset + n)) (nat_lt offset (o + b.size)) (le-ltb offset (o + b.size) l)
   clear_of o b (inr (inr l)) = no_second (is_some (placed_at o b).handle) (nat_lt o (offset + n)) (nat_lt offset (o + b.size)) (le-ltb o (offset + n) l)
 
   -- a used one that is none of these
-  met : (o : ℕ) (b : Block) → b.used ≡ true → o < offset + n → offset < o + b.size → is_among offset n (placed_at o b) ≡ true
+  met : (o : ℕ) (b : Block) → b.used ≡ true → o < offset + n → offset < o + b.size → is_in_the_way offset n (placed_at o b) ≡ true
   met o b e l m = all_three (is_some (placed_at o b).handle) (nat_lt o (offset + n)) (nat_lt offset (o + b.size))
       (ap (λ (u : Bool). is_some (if u then Some (let h : Handle = record { name = b.name; offset = o } in h) else None)) e) (lt-ltb o (offset + n) l) (lt-ltb offset (o + b.size) m)
 
   -- none of these blocks, the first of which begins at o, is in the way
   abbrev AreClear : ℕ → List Block → Type 0
-  AreClear o bs = AllByRecursion (λ (b : Placed). is_among offset n b ≡ false) (placed o bs)
+  AreClear o bs = AllByRecursion (λ (b : Placed). is_in_the_way offset n b ≡ false) (placed o bs)
 
   clear_after : (o : ℕ) (bs : List Block) → offset + n ≤ o → AreClear o bs
   clear_after o [] l = tt
@@ -289,12 +289,12 @@ module _ (offset n : ℕ) where
         record { front = b ∷ r.front; block = r.block; after = r.after; is = ap (λ (l : List Block). b ∷ l) r.is; free = r.free; begins = omega (arith, r.begins); ends = omega (arith, r.ends) }
   ]
 
-  none_found : (v : View) → in_the_way offset n v ≡ None → find (is_among offset n) (listing v) ≡ None
-  none_found v e = elim (find (is_among offset n) (listing v)) as (λ r. find (is_among offset n) (listing v) ≡ r → option_and_then (λ (b : Placed). b.handle) r ≡ None → find (is_among offset n) (listing v) ≡ None) [
+  none_found : (v : View) → in_the_way offset n v ≡ None → find (is_in_the_way offset n) (listing v) ≡ None
+  none_found v e = elim (find (is_in_the_way offset n) (listing v)) as (λ r. find (is_in_the_way offset n) (listing v) ≡ r → option_and_then (λ (b : Placed). b.handle) r ≡ None → find (is_in_the_way offset n) (listing v) ≡ None) [
     | None ↦ λ q f. q
     | Some b ↦ λ q f. absurd (false≢true (
         sym (no_first (is_some b.handle) (nat_lt b.offset (offset + n)) (nat_lt offset (b.offset + b.size)) (ap (λ (h : Option Handle). is_some h) f))
-        ∙ found_holds (is_among offset n) (listing v) b q
+        ∙ found_holds (is_in_the_way offset n) (listing v) b q
         ))
   ] refl e
 
@@ -302,9 +302,9 @@ module _ (offset n : ℕ) where
   free_where_clear v known some l = (
     λ f.
         let all = clear_around 0 f.place.before f.place.block f.place.after f.free (omega (arith, f.holds.0)) (omega (arith, f.holds.1)) in
-        ap (option_and_then (λ (b : Placed). b.handle)) (none_back (is_among offset n) (placed 0 v.blocks) (subst (λ (bs : List Block). AreClear 0 bs) (sym f.there) all)),
+        ap (option_and_then (λ (b : Placed). b.handle)) (none_back (is_in_the_way offset n) (placed 0 v.blocks) (subst (λ (bs : List Block). AreClear 0 bs) (sym f.there) all)),
     λ e.
-        let h = holds_clear 0 v.blocks some (omega arith) (omega (arith, l, known.whole)) known.apart (back_none (is_among offset n) (placed 0 v.blocks) (none_found v e)) in
+        let h = holds_clear 0 v.blocks some (omega arith) (omega (arith, l, known.whole)) known.apart (back_none (is_in_the_way offset n) (placed 0 v.blocks) (none_found v e)) in
         record {
           place = record { before = h.front; block = h.block; after = h.after };
           there = h.is;

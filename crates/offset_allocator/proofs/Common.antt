@@ -33,7 +33,7 @@ unfoldable pub use Rattle.offset_allocator.specs.Layouts.{nodes_of, nodes_in}
 pub use Rattle.offset_allocator.specs.Reporting.Listing.{Placed, placed_at, placed}
 pub use Rattle.offset_allocator.specs.Ranges.{size_of, range_of, Range, IsLive, KeepsAll, Grants, KeepsOthers, AreDisjoint, KeepsRanges}
 pub use Rattle.offset_allocator.specs.Relations.{SameSpace, Splits, Frees, Resets, IsFresh, Extends, Aligns, Adds, Allocates, CanExtend}
-pub use Rattle.offset_allocator.specs.Requests.{IsSplitNearBest, IsGoodRefusal, HasRoomFor, CanGrant, units_needed, blocks_needed, size_needed, IsWhy}
+pub use Rattle.offset_allocator.specs.Requests.{IsSplitNearBest, IsGoodRefusal, AdmitsBlocks, CanGrant, units_needed, blocks_needed, size_needed, IsWhy}
 pub use Rattle.offset_allocator.specs.Reporting.FreeSizes.{largest, count_of}
 pub use Rattle.offset_allocator.specs.Resizing.{ResizesTo, Resizes, HasUnits, Shrinks, Grows, CanShrink, CanGrow, free_after}
 pub use Rattle.offset_allocator.specs.Bins.{ListsOnly}

@@ -4,7 +4,7 @@ use Rattle.offset_allocator.proofs.{Linking.Places.end_place, Filing.Filed.share
 use Rattle.offset_allocator.proofs.{Views.ViewBins.times_remove_all, Views.ViewTaken.well_added, Ranges.adds_keep}
 use Rattle.offset_allocator.proofs.Common.{ap₂, take, ◌≡◌, ◌↔◌, ℕ, ◌+◌, ◌-◌, ◌<◌, ◌≤◌, ◌^◌, Bool, true, false, not, ◌⊎◌, List, [], ◌∷◌, ◌++◌, length, refl, sym, ap, subst, ◌∙◌, inl, inr, arith}
 use Rattle.offset_allocator.proofs.Common.{slice_set, append-nil, true≢false, false≢true, AllByRecursion, down, Cells, ChainCells, Node, node, Block, View, count_named, bin_at, count_in_bin}
-use Rattle.offset_allocator.proofs.Common.{AreCoalesced, IsWellFormed, IsNew, free_block, units, replace, remove_all, push, remove, times, ends_used, HasRoomFor, KeepsAll, Adds, CanExtend, Extends}
+use Rattle.offset_allocator.proofs.Common.{AreCoalesced, IsWellFormed, IsNew, free_block, units, replace, remove_all, push, remove, times, ends_used, AdmitsBlocks, KeepsAll, Adds, CanExtend, Extends}
 use Rattle.offset_allocator.proofs.Common.{IsChain, HasPlace, blocks, IsAmong, IsUnlisted, bins_in, IsBinned}
 use Rattle.offset_allocator.proofs.Tallies.{listed_named, tally_append, units-append, times-append, one-eq, without, counted_none, free_units, free_sum}
 use Rattle.offset_allocator.proofs.Joints.{stepped, free_most, unused_unlisted, remove_free, free_units-append, free_units-free}
@@ -141,7 +141,7 @@ module _ {it : Fields} {more : ℕ} (r : Growth it more true) where
   pub append_unlisted : (y : ℕ) → count_named y ((end r).front ++ (end r).last ∷ []) ≡ 0 → IsUnlisted y (bins_in it.max it.cells.bins)
   append_unlisted y e = unused_unlisted (shown it) (w r) y (ap (count_named y) (end r).is ∙ e)
 
-  pub appended : (d : Cells) (k : ℕ) {last count top y n : ℕ} → HasRoomFor 1 (shown it) → n ≡ (node it.cells.chain it.last).size
+  pub appended : (d : Cells) (k : ℕ) {last count top y n : ℕ} → AdmitsBlocks 1 (shown it) → n ≡ (node it.cells.chain it.last).size
       → IsChain d.chain it.cells.chain.reserved last count (((end r).front ++ record (end r).last { size = n } ∷ []) ++ free_block y (((end r).last.size - n) + more) ∷ [])
       → IsBinned it.max d.bins top
       → bins_in it.max d.bins ≡ push (down more) y (bins_in it.max it.cells.bins) → count_named y ((end r).front ++ (end r).last ∷ []) ≡ 0 → y < length d.chain.nodes

@@ -5,7 +5,7 @@ use Rattle.offset_allocator.proofs.{Served.grants, Served.multiple, Padding.reac
 use Rattle.offset_allocator.proofs.Common.{◌≡◌, ℕ, zero, suc, ◌+◌, ◌-◌, ◌%◌, ◌<◌, ◌≤◌, ◌^◌, ◌↔◌, Bool, true, false, List, [], ◌∷◌, ◌++◌, length, Option, Some, None, IsSome, IfSome, is_some, nat_eq}
 use Rattle.offset_allocator.proofs.Common.{nat_le, cond, refl, sym, ap, ap₂, subst, ◌∙◌, inl, inr, arith, append-nil, get_or_past, cases_lt, le-leb, leb-true, false≢true, if◌then◌else◌, value, up}
 use Rattle.offset_allocator.proofs.Common.{down, Block, View, Place, Handle, one, units, times, count_named, count_in_bin, bin_at, push, remove, place_of, padding_to, free_sizes, IsWellFormed, Cells}
-use Rattle.offset_allocator.proofs.Common.{Node, bins_in, IsBinned, IsFoundFrom, HasRoomFor, CanGrant, blocks_needed, units_needed, Splits, Aligns, Grants, blocks, live, gathered, Compacts}
+use Rattle.offset_allocator.proofs.Common.{Node, bins_in, IsBinned, IsFoundFrom, AdmitsBlocks, CanGrant, blocks_needed, units_needed, Splits, Aligns, Grants, blocks, live, gathered, Compacts}
 use Rattle.offset_allocator.proofs.Common.{IsFresh, free_block, common_steps, max, sum, sum_by-cons}
 use Rattle.offset_allocator.proofs.Classes.{down_law, down_small, value_down, fits_size, value_clauses, up_after, up_itself, up_reached, value_rises}
 use Rattle.offset_allocator.proofs.Tallies.{hit_cases, one-same, one-eq, times-join, free_sum, tally_append, units-append, listed_named}
@@ -290,7 +290,7 @@ greatest_of n (b ∷ bs) l h = elim b.used as (λ u. b.used ≡ u → n ≤ grea
       ]
     ] refl h
 
-pub largest_holds : (v : View) (n : ℕ) → 1 ≤ n → CanHold n 1 v ↔ (HasRoomFor 1 v × (n ≤ greatest (free_sizes v.blocks)))
+pub largest_holds : (v : View) (n : ℕ) → 1 ≤ n → CanHold n 1 v ↔ (AdmitsBlocks 1 v × (n ≤ greatest (free_sizes v.blocks)))
 largest_holds v n l = (
   λ h.
       let p = h.1.0 in
@@ -300,7 +300,7 @@ largest_holds v n l = (
 )
 
 -- where a plain request by classes is refused, only the bin of its own class has a name from there on
-pub plain_listed : (v : View) → IsWellFormed v → (n : ℕ) → n < 2 ^ 32 → (CanGrant 1 n v → ⊥) → HasRoomFor 1 v → listed_from (down n) v.bins ≡ bin_at v.bins (down n)
+pub plain_listed : (v : View) → IsWellFormed v → (n : ℕ) → n < 2 ^ 32 → (CanGrant 1 n v → ⊥) → AdmitsBlocks 1 v → listed_from (down n) v.bins ≡ bin_at v.bins (down n)
 plain_listed v w n word refuses room =
     let after : up n ≤ down n + 1 = elim (cases_lt 0 n) [
       | inl l ↦ omega (arith, up_after n l word, (down_law n (down (n - 1)) word).1 (omega (arith, value_down (n - 1))))
@@ -346,7 +346,7 @@ one_free v n h e = gone h.1.0.before h.1.0.block h.1.0.after h.1.2 (ap free_size
     gone [] b cs u f = absurd (let q : b.size ∷ free_sizes cs ≡ [] = sym (ap (λ (t : Bool). if t then free_sizes cs else b.size ∷ free_sizes cs) u) ∙ f in cc)
     gone (a ∷ fs) b cs u f = elim a.used as (λ t. (if t then free_sizes (fs ++ b ∷ cs) else a.size ∷ free_sizes (fs ++ b ∷ cs)) ≡ [] → ⊥) [ true ↦ λ g. gone fs b cs u g | false ↦ λ g. absurd (cc) ] f
 
-module _ (v : View) (w : IsWellFormed v) (n : ℕ) (room : HasRoomFor 1 v) where
+module _ (v : View) (w : IsWellFormed v) (n : ℕ) (room : AdmitsBlocks 1 v) where
   pub tight_compacted : (u : View) → Compacts v u → (CanHold n 1 v → ⊥) → IsWhyTight n 1 v Fragmented ↔ CanHold n 1 u
   tight_compacted u c refuses = (λ y. from (free_sizes v.blocks) refl y.1, λ h. (room, back (free_sizes v.blocks) refl h, refuses))
     where

@@ -2,7 +2,7 @@
 use Rattle.offset_allocator.proofs.{AtPlace.at_decided, Decided.allocates_decided, Decided.aligns_decided, Decided.relocates_aligned_decided, Decided.relocates_decided, Decided.tight_decided, DecidedChanges.compacts_decided, DecidedChanges.extends_decided, DecidedChanges.frees_decided, DecidedChanges.grows_decided}
 use Rattle.offset_allocator.proofs.{DecidedChanges.resets_decided, DecidedChanges.retracts_decided, DecidedChanges.shrinks_decided, Linking.Rows.IsRow-kept}
 use Rattle.offset_allocator.proofs.Common.{◌≡◌, ℕ, zero, suc, ◌+◌, ◌<◌, ◌≤◌, Bool, true, false, List, [], ◌∷◌, length, Option, Some, None, refl, sym, ap, subst, ◌∙◌, inl, inr, arith}
-use Rattle.offset_allocator.proofs.Common.{ChainCells, Cells, node, blocks, IsChain, IsSound, view_of, Block, View, Handle, IsWellFormed, IsNew, free_sizes, sum, HasRoomFor, blocks_needed}
+use Rattle.offset_allocator.proofs.Common.{ChainCells, Cells, node, blocks, IsChain, IsSound, view_of, Block, View, Handle, IsWellFormed, IsNew, free_sizes, sum, AdmitsBlocks, blocks_needed}
 use Rattle.offset_allocator.proofs.Common.{Splits, Allocates, Aligns, Frees, Adds, Extends, Resets, Resizes, Shrinks, Grows, Compacts, IsFresh, size_of}
 use Rattle.offset_allocator.specs.Chain.{blocks_back}
 use Rattle.offset_allocator.specs.AtPlace.{AllocatesAt}
@@ -155,7 +155,7 @@ cuts_under limit a = record {
 }
 
 -- where a request would begin
-begins_under : {n : ℕ} {v : View} {o : ℕ} (limit : ℕ) → HasRoomFor 1 v → WouldBegin n (under limit v) o → WouldBegin n v o
+begins_under : {n : ℕ} {v : View} {o : ℕ} (limit : ℕ) → AdmitsBlocks 1 v → WouldBegin n (under limit v) o → WouldBegin n v o
 begins_under limit room a = record {
   before = a.before;
   block = a.block;
@@ -190,29 +190,29 @@ resizes_under {v = v} limit l a = record {
 
 -- each call, with the room that it asks for, under a larger limit
 module _ (limit : ℕ) (v w : View) (l : v.max_allocs ≤ limit) where
-  allocates_under : (n : ℕ) → HasRoomFor 1 v → (r : Option Handle) → Allocates n v w r → Allocates n (under limit v) (under limit w) r
+  allocates_under : (n : ℕ) → AdmitsBlocks 1 v → (r : Option Handle) → Allocates n v w r → Allocates n (under limit v) (under limit w) r
   allocates_under n room None a = (λ h. a.0 (room, h.1), ap (under limit) a.1)
   allocates_under n room (Some g) a = (omega (arith, room, l), split_under limit l a.1)
 
-  aligns_under : (n align : ℕ) → HasRoomFor (blocks_needed align) v → (r : Option Handle) → Aligns n align v w r → Aligns n align (under limit v) (under limit w) r
+  aligns_under : (n align : ℕ) → AdmitsBlocks (blocks_needed align) v → (r : Option Handle) → Aligns n align v w r → Aligns n align (under limit v) (under limit w) r
   aligns_under n align room None a = (λ h. a.0 (room, h.1), ap (under limit) a.1)
   aligns_under n align room (Some g) a = (omega (arith, room, l), split_under limit l a.1)
 
-  tight_under : (n align : ℕ) → HasRoomFor (blocks_needed align) v → (r : Option Handle) → AlignsTight n align v w r → AlignsTight n align (under limit v) (under limit w) r
+  tight_under : (n align : ℕ) → AdmitsBlocks (blocks_needed align) v → (r : Option Handle) → AlignsTight n align v w r → AlignsTight n align (under limit v) (under limit w) r
   tight_under n align room None a = (λ h. a.0 (room, h.1), ap (under limit) a.1)
   tight_under n align room (Some g) (inl a) = inl (aligns_under n align room (Some g) a)
   tight_under n align room (Some g) (inr a) = inr (λ h. a.0 (room, h.1), (omega (arith, room, l), (a.1.1.0, a.1.1.1, a.1.1.2, split_under limit l a.1.1.3)))
 
-  relocates_under : (x : ℕ) → HasRoomFor 1 v → (r : Option Handle) → Relocates x v w r → Relocates x (under limit v) (under limit w) r
+  relocates_under : (x : ℕ) → AdmitsBlocks 1 v → (r : Option Handle) → Relocates x v w r → Relocates x (under limit v) (under limit w) r
   relocates_under x room None a = (λ o h. a.0 o (begins_under limit room h), ap (under limit) a.1)
   relocates_under x room (Some g) a = (allocates_under (size_of x v) room (Some g) a.0, a.1)
 
-  relocates_aligned_under : (x align : ℕ) → 1 ≤ align → HasRoomFor (blocks_needed align) v → (r : Option Handle) → RelocatesAligned x align v w r → RelocatesAligned x align (under limit v) (under limit w) r
+  relocates_aligned_under : (x align : ℕ) → 1 ≤ align → AdmitsBlocks (blocks_needed align) v → (r : Option Handle) → RelocatesAligned x align v w r → RelocatesAligned x align (under limit v) (under limit w) r
   unfolding aligns_under split_under
   relocates_aligned_under x align some room None a = (λ o _ h. a.0 o room (begins_under limit (omega (arith, some, room)) h), ap (under limit) a.1)
   relocates_aligned_under x align some room (Some g) a = (aligns_under (size_of x v) align room (Some g) a.0, a.1)
 
-  at_under : (offset n : ℕ) → HasRoomFor 2 v → (r : Option Handle) → AllocatesAt offset n v w r → AllocatesAt offset n (under limit v) (under limit w) r
+  at_under : (offset n : ℕ) → AdmitsBlocks 2 v → (r : Option Handle) → AllocatesAt offset n v w r → AllocatesAt offset n (under limit v) (under limit w) r
   at_under offset n room None a = (
     λ h. a.0 (record { at = record { place = h.at.place; there = h.at.there; free = h.at.free; holds = h.at.holds }; room = omega (arith, room) }),
     ap (under limit) a.1,
@@ -232,12 +232,12 @@ module _ (limit : ℕ) (v w : View) (l : v.max_allocs ≤ limit) where
   compacts_under : Compacts v w → Compacts (under limit v) (under limit w)
   compacts_under a = record { name = a.name; below = omega (arith, a.below, l); first = a.first; names = a.names; absent = a.absent; view = ap (under limit) a.view }
 
-  extends_under : (more : ℕ) → HasRoomFor 1 v → (r : Bool) → Extends more v w r → Extends more (under limit v) (under limit w) r
+  extends_under : (more : ℕ) → AdmitsBlocks 1 v → (r : Bool) → Extends more v w r → Extends more (under limit v) (under limit w) r
   extends_under more room true (inl a) = inl (a.0, ap (under limit) a.1)
   extends_under more room true (inr a) = inr (a.0, (a.1.0, inl (omega (arith, room, l))), adds_under limit l a.2)
   extends_under more room false a = (a.0, λ h. a.1 (h.0, inl room), ap (under limit) a.2)
 
-  shrinks_under : (x n : ℕ) → HasRoomFor 1 v → (r : Bool) → Shrinks x n v w r → Shrinks x n (under limit v) (under limit w) r
+  shrinks_under : (x n : ℕ) → AdmitsBlocks 1 v → (r : Bool) → Shrinks x n v w r → Shrinks x n (under limit v) (under limit w) r
   shrinks_under x n room true (inl a) = inl (a.0, ap (under limit) a.1)
   shrinks_under x n room true (inr a) = inr (a.0, (a.1.0, λ h. inr (omega (arith, room, l))), resizes_under limit l a.2)
   shrinks_under x n room false a = (λ h. a.0 (h.0, λ _. inr room), ap (under limit) a.1)
@@ -258,24 +258,24 @@ module _ (limit : ℕ) (v w : View) (l : v.max_allocs ≤ limit) where
 
 -- the answers, since the view and the call decide them
 module _ (limit : ℕ) (v v' w w' : View) (known : IsWellFormed v) (l : v.max_allocs ≤ limit) (same : SameUnder limit v v') where
-  pub allocates_raised : (n : ℕ) → HasRoomFor 1 v → (r r' : Option Handle) → Allocates n v w r → Allocates n v' w' r' → (r ≡ r') × SameUnder limit w w'
+  pub allocates_raised : (n : ℕ) → AdmitsBlocks 1 v → (r r' : Option Handle) → Allocates n v w r → Allocates n v' w' r' → (r ≡ r') × SameUnder limit w w'
   allocates_raised n room r r' a b = allocates_decided n (under limit v) v' (under limit w) w' (well_under v limit l known) same r r' (allocates_under limit v w l n room r a) b
 
-  pub aligns_raised : (n align : ℕ) → HasRoomFor (blocks_needed align) v → (r r' : Option Handle) → Aligns n align v w r → Aligns n align v' w' r' → (r ≡ r') × SameUnder limit w w'
+  pub aligns_raised : (n align : ℕ) → AdmitsBlocks (blocks_needed align) v → (r r' : Option Handle) → Aligns n align v w r → Aligns n align v' w' r' → (r ≡ r') × SameUnder limit w w'
   aligns_raised n align room r r' a b = aligns_decided n align (under limit v) v' (under limit w) w' (well_under v limit l known) same r r' (aligns_under limit v w l n align room r a) b
 
-  pub tight_raised : (n align : ℕ) → HasRoomFor (blocks_needed align) v → (r r' : Option Handle) → AlignsTight n align v w r → AlignsTight n align v' w' r' → (r ≡ r') × SameUnder limit w w'
+  pub tight_raised : (n align : ℕ) → AdmitsBlocks (blocks_needed align) v → (r r' : Option Handle) → AlignsTight n align v w r → AlignsTight n align v' w' r' → (r ≡ r') × SameUnder limit w w'
   tight_raised n align room r r' a b = tight_decided n align (under limit v) v' (under limit w) w' (well_under v limit l known) same r r' (tight_under limit v w l n align room r a) b
 
-  pub relocates_raised : (x : ℕ) → HasRoomFor 1 v → (r r' : Option Handle) → Relocates x v w r → Relocates x v' w' r' → (r ≡ r') × SameUnder limit w w'
+  pub relocates_raised : (x : ℕ) → AdmitsBlocks 1 v → (r r' : Option Handle) → Relocates x v w r → Relocates x v' w' r' → (r ≡ r') × SameUnder limit w w'
   relocates_raised x room r r' a b = relocates_decided x (under limit v) v' (under limit w) w' (well_under v limit l known) same r r' (relocates_under limit v w l x room r a) b
 
-  pub relocates_aligned_raised : (x align : ℕ) → 1 ≤ align → HasRoomFor (blocks_needed align) v → (r r' : Option Handle) → RelocatesAligned x align v w r → RelocatesAligned x align v' w' r'
+  pub relocates_aligned_raised : (x align : ℕ) → 1 ≤ align → AdmitsBlocks (blocks_needed align) v → (r r' : Option Handle) → RelocatesAligned x align v w r → RelocatesAligned x align v' w' r'
       → (r ≡ r') × SameUnder limit w w'
   relocates_aligned_raised x align some room r r' a b =
       relocates_aligned_decided x align (under limit v) v' (under limit w) w' some (well_under v limit l known) same r r' (relocates_aligned_under limit v w l x align some room r a) b
 
-  pub at_raised : (offset n : ℕ) → HasRoomFor 2 v → (r r' : Option Handle) → AllocatesAt offset n v w r → AllocatesAt offset n v' w' r' → (r ≡ r') × SameUnder limit w w'
+  pub at_raised : (offset n : ℕ) → AdmitsBlocks 2 v → (r r' : Option Handle) → AllocatesAt offset n v w r → AllocatesAt offset n v' w' r' → (r ≡ r') × SameUnder limit w w'
   at_raised offset n room r r' a b = at_decided offset n (under limit v) v' (under limit w) w' (well_under v limit l known) same r r' (at_under limit v w l offset n room r a) b
 
   pub retracts_raised : (less : ℕ) → (r r' : Bool) → Retracts less v w r → Retracts less v' w' r' → (r ≡ r') × SameUnder limit w w'
@@ -290,10 +290,10 @@ module _ (limit : ℕ) (v v' w w' : View) (known : IsWellFormed v) (l : v.max_al
   pub resets_raised : Resets v w → Resets v' w' → SameUnder limit w w'
   resets_raised a b = resets_decided (under limit v) v' (under limit w) w' (well_under v limit l known) same (resets_under limit v w l a) b
 
-  pub extends_raised : (more : ℕ) → HasRoomFor 1 v → (r r' : Bool) → Extends more v w r → Extends more v' w' r' → (r ≡ r') × SameUnder limit w w'
+  pub extends_raised : (more : ℕ) → AdmitsBlocks 1 v → (r r' : Bool) → Extends more v w r → Extends more v' w' r' → (r ≡ r') × SameUnder limit w w'
   extends_raised more room r r' a b = extends_decided more (under limit v) v' (under limit w) w' (well_under v limit l known) same r r' (extends_under limit v w l more room r a) b
 
-  pub shrinks_raised : (x n : ℕ) → HasRoomFor 1 v → (r r' : Bool) → Shrinks x n v w r → Shrinks x n v' w' r' → (r ≡ r') × SameUnder limit w w'
+  pub shrinks_raised : (x n : ℕ) → AdmitsBlocks 1 v → (r r' : Bool) → Shrinks x n v w r → Shrinks x n v' w' r' → (r ≡ r') × SameUnder limit w w'
   shrinks_raised x n room r r' a b = shrinks_decided x n (under limit v) v' (under limit w) w' (well_under v limit l known) same r r' (shrinks_under limit v w l x n room r a) b
 
   pub grows_raised : (x n : ℕ) → (r r' : Bool) → Grows x n v w r → Grows x n v' w' r' → (r ≡ r') × SameUnder limit w w'

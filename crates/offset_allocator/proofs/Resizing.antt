@@ -7,7 +7,7 @@ use Rattle.offset_allocator.proofs.{Sound.Fields, Sound.AreSound, Sound.shown, S
 use Rattle.offset_allocator.proofs.Common.{take, IsSome, ◌≡◌, ◌≢◌, ◌↔◌, ℕ, zero, suc, ◌+◌, ◌-◌, ◌<◌, ◌≤◌, Bool, true, false, ◌⊎◌, List, [], ◌∷◌, ◌++◌, length, Option, Some, None, is_some, nat_eq}
 use Rattle.offset_allocator.proofs.Common.{refl, sym, ap, ap₂, subst, ◌∙◌, inl, inr, arith, length-append, eq-zero-or-pos, if◌then◌else◌, false≢true, true≢false, and_right, Cells, Node, Block, View}
 use Rattle.offset_allocator.proofs.Common.{Place, one, units, count_named, used_of, used_block, AreCoalesced, IsWellFormed, IsNew, free_start, without_start, free_part, remove_all, push_all, replace}
-use Rattle.offset_allocator.proofs.Common.{HasRoomFor, range_of, size_of, KeepsOthers, SameSpace, Resizes, ResizesTo, Shrinks, Grows, CanShrink, CanGrow, HasUnits, free_after, HasPlace, IsFreeAfter}
+use Rattle.offset_allocator.proofs.Common.{AdmitsBlocks, range_of, size_of, KeepsOthers, SameSpace, Resizes, ResizesTo, Shrinks, Grows, CanShrink, CanGrow, HasUnits, free_after, HasPlace, IsFreeAfter}
 use Rattle.offset_allocator.proofs.Common.{bins_in, IsBinned, option_map, unwrap_or, common_steps}
 use Rattle.offset_allocator.proofs.Tallies.{tally_three, part_sums, counted_none, new_absent, hit_cases, one-same, free_units, free_sum}
 use Rattle.offset_allocator.specs.{Names.AreTaken, Names.names_of, Relations.SameState}
@@ -41,7 +41,7 @@ module _ {x n : ℕ} {v u : View} (r : Resizes x n v u) (k : IsWellFormed v) whe
   named_parts : (y : ℕ) → 1 ≤ count_named y parts → (1 ≤ count_named y old) ⊎ IsNew y v
   named_parts y l = grind (arith, part_named)
 
-  pub well_resized : (1 ≤ length r.next) ⊎ HasRoomFor 1 v → IsWellFormed u
+  pub well_resized : (1 ≤ length r.next) ⊎ AdmitsBlocks 1 v → IsWellFormed u
   well_resized room = well_same (replace v r.before old parts r.after) u r.view (well_replaced v r.before old parts r.after v.size k
       (record {
         list_is = r.blocks;
@@ -98,7 +98,7 @@ module _ {f : Fields} {x : ℕ} (call : Release f x) where
   pub free_beside : units (free_start (at call).place.after) ≤ f.free
   free_beside = omega (arith, had_free)
 
-  module _ (n : ℕ) (enough : n ≤ both) (room : (1 ≤ length (free_start (at call).place.after)) ⊎ HasRoomFor 1 (shown f))
+  module _ (n : ℕ) (enough : n ≤ both) (room : (1 ≤ length (free_start (at call).place.after)) ⊎ AdmitsBlocks 1 (shown f))
       (d : Cells) (last count name : ℕ) (there : HasPlace d.chain f.cells.chain.reserved last count x (record {
         before = (at call).place.before;
         block = record (at call).place.block { size = n };
@@ -209,7 +209,7 @@ module _ {f : Fields} {x : ℕ} (call : Release f x) where
   pub resizes_short : (n accesses : ℕ) → both < n → ResizesTo x n (shown f) (shown (record f { accesses = accesses })) false
   resizes_short n accesses l = (λ c. omega (arith, c.0, l, size_there, ap units next_there), refl)
 
-  pub resizes_done : (n : ℕ) (u : View) → n ≢ (at call).place.block.size → n ≤ both → (1 ≤ length (free_start (at call).place.after)) ⊎ HasRoomFor 1 (shown f)
+  pub resizes_done : (n : ℕ) (u : View) → n ≢ (at call).place.block.size → n ≤ both → (1 ≤ length (free_start (at call).place.after)) ⊎ AdmitsBlocks 1 (shown f)
       → Resizes x n (shown f) u → ResizesTo x n (shown f) u true
   resizes_done n u ne m room r = grind (arith, size_there, next_there)
 

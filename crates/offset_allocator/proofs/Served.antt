@@ -2,7 +2,7 @@
 use Rattle.offset_allocator.specs.Relations.{SameState}
 use Rattle.offset_allocator.proofs.Common.{◌≡◌, ◌↔◌, ℕ, ◌+◌, ◌%◌, ◌<◌, ◌≤◌, Bool, length, Option, Some, None, IsSome, IfSome, if◌then◌else◌, refl, sym, ap, ap₂, subst, ◌∙◌, arith, le-leb, cases_lt}
 use Rattle.offset_allocator.proofs.Common.{false≢true, lt-leb, down, View, Handle, units, count_named, place_of, IsWellFormed, free_sizes, reported_largest, padding_to, max_size, largest}
-use Rattle.offset_allocator.proofs.Common.{IsGoodRefusal, HasRoomFor, CanGrant, blocks_needed, units_needed, Splits, Allocates, Aligns, IsSplitNearBest, Grants}
+use Rattle.offset_allocator.proofs.Common.{IsGoodRefusal, AdmitsBlocks, CanGrant, blocks_needed, units_needed, Splits, Allocates, Aligns, IsSplitNearBest, Grants}
 use Rattle.offset_allocator.proofs.Views.ViewFits.{HasName, there_middle, near_best_fit, good_refusal, fits_exactly, refusal_past, largest_small}
 use Rattle.offset_allocator.proofs.{Padding.reaches, Refusals.fit_small, Views.Split.well_split, Views.Split.part_room, Ranges.beside, Ranges.split_grants, Views.ViewPlaces.place_here}
 
@@ -10,7 +10,7 @@ use Rattle.offset_allocator.proofs.{Padding.reaches, Refusals.fit_small, Views.S
 -- of them, after padding
 abbrev pub Serves : ℕ → ℕ → ℕ → (ℕ → ℕ) → View → View → Option Handle → Type 0
 Serves blocks needed n padding_at v w None = (CanGrant blocks needed v → ⊥) × SameState v w
-Serves blocks needed n padding_at v w (Some g) = HasRoomFor blocks v × Splits needed n padding_at v w g
+Serves blocks needed n padding_at v w (Some g) = AdmitsBlocks blocks v × Splits needed n padding_at v w g
 
 pub plain_serves : (n : ℕ) (v w : View) (r : Option Handle) → Allocates n v w r → Serves 1 n n (λ offset. 0) v w r
 plain_serves n v w None a = a
@@ -25,7 +25,7 @@ aligned_serves n align v w None a = a
 aligned_serves n align v w (Some g) a = a
 
 -- where a region is reported, one more block may exist
-pub reported_room : (v : View) → 1 ≤ reported_largest v → HasRoomFor 1 v
+pub reported_room : (v : View) → 1 ≤ reported_largest v → AdmitsBlocks 1 v
 reported_room v l = grind (arith, cases_lt, le-leb)
 
 module _ (blocks needed n : ℕ) (padding_at : ℕ → ℕ) (v w : View) (known : IsWellFormed v) where
@@ -37,7 +37,7 @@ module _ (blocks needed n : ℕ) (padding_at : ℕ → ℕ) (v w : View) (known 
   same None a e = a.1
   same (Some g) a e = absurd (cc)
 
-  pub granted : 1 ≤ blocks → (r : Option Handle) → Serves blocks needed n padding_at v w r → 1 ≤ needed → IsSome r ↔ (HasRoomFor blocks v × (needed ≤ reported_largest v))
+  pub granted : 1 ≤ blocks → (r : Option Handle) → Serves blocks needed n padding_at v w r → 1 ≤ needed → IsSome r ↔ (AdmitsBlocks blocks v × (needed ≤ reported_largest v))
   granted some r a l = let c = can_grant r a in (
     λ h. let k = c.0 h in (k.0, subst (λ m. needed ≤ m) (sym (reported k.0)) ((fits_exactly v known needed (omega (arith, fit_small needed v known k.1, known.fits)) known.fits l).0 k.1)),
     λ h.
@@ -45,10 +45,10 @@ module _ (blocks needed n : ℕ) (padding_at : ℕ → ℕ) (v w : View) (known 
         c.1 (h.0, (fits_exactly v known needed (largest_small v known known.fits needed l within) known.fits l).1 within),
   )
     where
-      reported : HasRoomFor blocks v → reported_largest v ≡ largest (free_sizes v.blocks)
+      reported : AdmitsBlocks blocks v → reported_largest v ≡ largest (free_sizes v.blocks)
       reported room = ap (λ (b : Bool). if b then 0 else largest (free_sizes v.blocks)) (lt-leb v.max_allocs (length v.blocks + 1) (omega (arith, room, some)))
 
-  pub refused : (r : Option Handle) → Serves blocks needed n padding_at v w r → r ≡ None → HasRoomFor blocks v → IsGoodRefusal needed (free_sizes v.blocks)
+  pub refused : (r : Option Handle) → Serves blocks needed n padding_at v w r → r ≡ None → AdmitsBlocks blocks v → IsGoodRefusal needed (free_sizes v.blocks)
   refused (Some g) a e room = grind arith
   refused None a e room = grind (arith, cases_lt, refusal_past, good_refusal)
 

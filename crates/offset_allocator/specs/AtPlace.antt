@@ -4,7 +4,7 @@ use Rattle.std.specs.List.{AllByRecursion, find}
 use Rattle.offset_allocator.specs.Classes.{value, down}
 use Rattle.offset_allocator.specs.Relations.{SameState, Splits}
 use Rattle.offset_allocator.specs.Reporting.Listing.{Placed, listing, placed}
-use Rattle.offset_allocator.specs.Requests.{HasRoomFor}
+use Rattle.offset_allocator.specs.Requests.{AdmitsBlocks}
 use Rattle.offset_allocator.specs.Tight.{with_first}
 use Rattle.offset_allocator.specs.View.{View, Handle, Place, units}
 
@@ -27,7 +27,7 @@ pub record IsFreeAt (offset n : ℕ) (v : View) : Type 0 where
 -- and there is room for the blocks that are added, and for one at least, as for any grant
 pub record CanGrantAt (offset n : ℕ) (v : View) : Type 0 where
   pub at : IsFreeAt offset n v
-  pub room : HasRoomFor (max 1 (blocks_added offset n at.place)) v
+  pub room : AdmitsBlocks (max 1 (blocks_added offset n at.place)) v
 
 -- each of some blocks that is free begins after the offset
 abbrev pub BeginAfter : ℕ → List Placed → Type 0
@@ -37,7 +37,7 @@ BeginAfter offset bs = AllByRecursion (λ (b : Placed). b.handle ≡ None → of
 -- the newest of its bin
 pub record GrantsAt (offset n : ℕ) (v w : View) (g : Handle) : Type 0 where
   pub at : IsFreeAt offset n v
-  pub room : HasRoomFor (max 1 (blocks_added offset n at.place)) v
+  pub room : AdmitsBlocks (max 1 (blocks_added offset n at.place)) v
   pub last : BeginAfter offset (placed (units at.place.before + at.place.block.size) at.place.after)
   pub split : Splits (value (down at.place.block.size)) n (λ begin. offset - begin) (with_first (down at.place.block.size) at.place.block.name v) w g
 
@@ -47,9 +47,9 @@ AllocatesAt offset n v w None = (CanGrantAt offset n v → ⊥) × SameState v w
 AllocatesAt offset n v w (Some g) = GrantsAt offset n v w g
 
 -- a used block has one of the n units from an offset on, or lies among them
-abbrev pub is_among : ℕ → ℕ → Placed → Bool
-is_among offset n b = is_some b.handle && nat_lt b.offset (offset + n) && nat_lt offset (b.offset + b.size)
+abbrev pub is_in_the_way : ℕ → ℕ → Placed → Bool
+is_in_the_way offset n b = is_some b.handle && nat_lt b.offset (offset + n) && nat_lt offset (b.offset + b.size)
 
 -- the handle of the last live range that is in the way of these units
 abbrev pub in_the_way : ℕ → ℕ → View → Option Handle
-in_the_way offset n v = option_and_then (λ (b : Placed). b.handle) (find (is_among offset n) (listing v))
+in_the_way offset n v = option_and_then (λ (b : Placed). b.handle) (find (is_in_the_way offset n) (listing v))

@@ -4,7 +4,7 @@ use Rattle.std.specs.Prelude.{◌≡◌, ◌≢◌, ℕ, zero, suc, ◌+◌, ◌
 use Rattle.std.specs.List.{AllByRecursion}
 use Rattle.offset_allocator.specs.Classes.{up, down}
 use Rattle.offset_allocator.specs.Names.{Renames}
-use Rattle.offset_allocator.specs.Requests.{HasRoomFor, CanGrant, blocks_needed, units_needed}
+use Rattle.offset_allocator.specs.Requests.{AdmitsBlocks, CanGrant, blocks_needed, units_needed}
 use Rattle.offset_allocator.specs.View.{View, Block, Handle, last_used, units, used_of, bin_at, AreCoalesced, IsNew, max_size, padding_to, replace, remove, push_all, free_block, free_part}
 
 -- the same blocks and bins, however many accesses are counted, and whichever names are unused
@@ -73,13 +73,13 @@ pub record Splits (needed n : ℕ) (padding_at : ℕ → ℕ) (v w : View) (g : 
 -- a request for n units: it is refused exactly when it cannot be granted, and then nothing changes
 abbrev pub Allocates : ℕ → View → View → Option Handle → Type 0
 Allocates n v w None = (CanGrant 1 n v → ⊥) × SameState v w
-Allocates n v w (Some g) = HasRoomFor 1 v × Splits n n (λ offset. 0) v w g
+Allocates n v w (Some g) = AdmitsBlocks 1 v × Splits n n (λ offset. 0) v w g
 
 -- a request for n units from a multiple of align on, likewise: it may add more blocks, and takes a block of a class
 -- large enough for the units needed
 abbrev pub Aligns : ℕ → ℕ → View → View → Option Handle → Type 0
 Aligns n align v w None = (CanGrant (blocks_needed align) (units_needed n align) v → ⊥) × SameState v w
-Aligns n align v w (Some g) = HasRoomFor (blocks_needed align) v
+Aligns n align v w (Some g) = AdmitsBlocks (blocks_needed align) v
     × Splits (units_needed n align) n (padding_to align) v w g
 
 -- the used block named x becomes free and coalesces with its free neighbours, left and right: the block keeps the name
@@ -117,7 +117,7 @@ pub record Adds (more : ℕ) (v w : View) : Type 0 where
 -- a space can have this many units more: the sum is at most the largest size, and there is room for one more block or
 -- the last block is free
 abbrev pub CanExtend : ℕ → View → Type 0
-CanExtend more v = (v.size + more ≤ max_size) × (HasRoomFor 1 v ⊎ ((before : List Block) × (last : Block) × (v.blocks ≡ before ++ last ∷ []) × (last.used ≡ false)))
+CanExtend more v = (v.size + more ≤ max_size) × (AdmitsBlocks 1 v ⊎ ((before : List Block) × (last : Block) × (v.blocks ≡ before ++ last ∷ []) × (last.used ≡ false)))
 
 -- a call for more units at the end
 abbrev pub Extends : ℕ → View → View → Bool → Type 0

@@ -1,5 +1,5 @@
 -- What is reported.
-pub mod Beside
+pub mod Walking
 pub mod Dumping
 pub mod FreeSizes
 pub mod Listing

@@ -7,8 +7,8 @@ use Rattle.offset_allocator.specs.Classes.{value, up}
 use Rattle.offset_allocator.specs.View.{View, Handle, Place, bin_at, free_sizes, padding_to, place_of, units}
 
 -- there is room for k more blocks; one name always stays without a block, as in the original
-abbrev pub HasRoomFor : ℕ → View → Type 0
-HasRoomFor k v = length v.blocks + k < v.max_allocs
+abbrev pub AdmitsBlocks : ℕ → View → Type 0
+AdmitsBlocks k v = length v.blocks + k < v.max_allocs
 
 -- how many blocks a request may add: 1 with align 1 (the remainder), 2 above (the padding too)
 abbrev pub blocks_needed : ℕ → ℕ
@@ -21,7 +21,7 @@ units_needed size align = size + align - 1
 -- when a request is granted: there is room for the blocks that it may add, and some bin is not empty whose class is
 -- large enough, which means that all its blocks have at least the units needed
 abbrev pub CanGrant : ℕ → ℕ → View → Type 0
-CanGrant blocks units v = HasRoomFor blocks v × ((c : ℕ) × (up units ≤ c) × (bin_at v.bins c ≢ []))
+CanGrant blocks units v = AdmitsBlocks blocks v × ((c : ℕ) × (up units ≤ c) × (bin_at v.bins c ≢ []))
 
 -- the smallest size of a free block that the request may take: that of a class large enough, and at least one unit
 abbrev pub size_needed : ℕ → ℕ
@@ -52,9 +52,9 @@ IsGoodRefusal n ns = AllByRecursion (λ t. 8 * t < 9 * n) ns
 -- free block is of a class large enough
 abbrev pub IsWhy : ℕ → ℕ → View → Refusal → Type 0
 IsWhy blocks units v Nodes = v.max_allocs ≤ length v.blocks + blocks
-IsWhy blocks units v TooLarge = HasRoomFor blocks v × (v.size < value (up units))
-IsWhy blocks units v Space = HasRoomFor blocks v × (value (up units) ≤ v.size) × (sum (free_sizes v.blocks) < size_needed units) × (CanGrant blocks units v → ⊥)
-IsWhy blocks units v Fragmented = HasRoomFor blocks v × (size_needed units ≤ sum (free_sizes v.blocks)) × (CanGrant blocks units v → ⊥)
+IsWhy blocks units v TooLarge = AdmitsBlocks blocks v × (v.size < value (up units))
+IsWhy blocks units v Space = AdmitsBlocks blocks v × (value (up units) ≤ v.size) × (sum (free_sizes v.blocks) < size_needed units) × (CanGrant blocks units v → ⊥)
+IsWhy blocks units v Fragmented = AdmitsBlocks blocks v × (size_needed units ≤ sum (free_sizes v.blocks)) × (CanGrant blocks units v → ⊥)
 
 -- the text of a reason
 abbrev pub refusal_words : Refusal → List ℕ

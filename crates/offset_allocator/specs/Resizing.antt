@@ -2,7 +2,7 @@
 use Rattle.std.specs.Prelude.{◌≡◌, ◌≢◌, ℕ, ◌+◌, ◌<◌, ◌≤◌, ◌⊎◌, Bool, true, false, List, [], ◌∷◌, ◌++◌, Some, option_map, unwrap_or}
 use Rattle.std.specs.List.{AllByRecursion}
 use Rattle.offset_allocator.specs.View.{View, Block, Place, units, count_named, place_of, free_start, free_part, used_block, replace, AreCoalesced, IsNew}
-use Rattle.offset_allocator.specs.Requests.{HasRoomFor}
+use Rattle.offset_allocator.specs.Requests.{AdmitsBlocks}
 use Rattle.offset_allocator.specs.Ranges.{Range, range_of, size_of}
 use Rattle.offset_allocator.specs.Names.{Renames}
 use Rattle.offset_allocator.specs.Relations.{SameSpace, SameState}
@@ -14,7 +14,7 @@ free_after x v = unwrap_or (option_map (λ (p : Place). free_start p.after) (pla
 -- a range can shrink to n units: it has at least as many, and if it has more, there is a free block directly after it
 -- or room for one more block
 abbrev pub CanShrink : ℕ → ℕ → View → Type 0
-CanShrink x n v = (n ≤ size_of x v) × (n < size_of x v → (free_after x v ≢ []) ⊎ HasRoomFor 1 v)
+CanShrink x n v = (n ≤ size_of x v) × (n < size_of x v → (free_after x v ≢ []) ⊎ AdmitsBlocks 1 v)
 
 -- a range can grow to n units: it has at most as many, and the free block directly after it has those that it lacks
 abbrev pub CanGrow : ℕ → ℕ → View → Type 0
@@ -23,7 +23,7 @@ CanGrow x n v = (size_of x v ≤ n) × (n ≤ size_of x v + units (free_after x 
 -- a range can have n units in place: those that it lacks are in the free block directly after it, and those that it gives
 -- back go to that block, or there is room for one more
 abbrev pub CanResize : ℕ → ℕ → View → Type 0
-CanResize x n v = (n ≤ size_of x v + units (free_after x v)) × (n < size_of x v → (free_after x v ≢ []) ⊎ HasRoomFor 1 v)
+CanResize x n v = (n ≤ size_of x v + units (free_after x v)) × (n < size_of x v → (free_after x v ≢ []) ⊎ AdmitsBlocks 1 v)
 
 -- a range has n units after the call, from the same offset on
 abbrev pub HasUnits : ℕ → ℕ → View → View → Type 0

@@ -6,12 +6,12 @@ use Rattle.offset_allocator.specs.declared.reports.Refusal.TheVariants.{Nodes, T
 use Rattle.offset_allocator.specs.Cells.{ChainCells, node}
 use Rattle.offset_allocator.specs.Classes.{value, down}
 use Rattle.offset_allocator.specs.Relations.{SameState, Splits, Aligns}
-use Rattle.offset_allocator.specs.Requests.{HasRoomFor, CanGrant, Holds, blocks_needed, units_needed}
+use Rattle.offset_allocator.specs.Requests.{AdmitsBlocks, CanGrant, Holds, blocks_needed, units_needed}
 use Rattle.offset_allocator.specs.View.{View, Handle, Place, units, place_of, padding_to, push, remove, free_sizes}
 
 -- a free block holds n units from a multiple of align on, and there is room for the blocks that the request may add
 abbrev pub CanHold : ℕ → ℕ → View → Type 0
-CanHold n align v = HasRoomFor (blocks_needed align) v × ((p : Place) × (v.blocks ≡ p.before ++ (p.block ∷ p.after)) × (p.block.used ≡ false) × Holds n align p)
+CanHold n align v = AdmitsBlocks (blocks_needed align) v × ((p : Place) × (v.blocks ≡ p.before ++ (p.block ∷ p.after)) × (p.block.used ≡ false) × Holds n align p)
 
 -- whether the block of a name holds them
 abbrev pub holds : ℕ → ℕ → Option Place → Bool
@@ -34,7 +34,7 @@ with_first c x v = record v { bins = push c x (remove c x v.bins) }
 -- It is refused where no free block holds it
 abbrev pub FillsFirst : ℕ → ℕ → View → View → Option Handle → Type 0
 FillsFirst n align v w None = (CanHold n align v → ⊥) × SameState v w
-FillsFirst n align v w (Some g) = HasRoomFor (blocks_needed align) v × ((c x : ℕ) × (first_holding n align v ≡ Some x) × Splits (value c) n (padding_to align) (with_first c x v) w g)
+FillsFirst n align v w (Some g) = AdmitsBlocks (blocks_needed align) v × ((c x : ℕ) × (first_holding n align v ≡ Some x) × Splits (value c) n (padding_to align) (with_first c x v) w g)
 
 -- a request as `Aligns` has it, and where that refuses it, one for the block that is first to hold it
 abbrev pub AlignsTight : ℕ → ℕ → View → View → Option Handle → Type 0
@@ -46,9 +46,9 @@ AlignsTight n align v w (Some g) = Aligns n align v w (Some g)
 -- are all free units together, or there are none. Fragmented: together they are enough, but no free block holds it
 abbrev pub IsWhyTight : ℕ → ℕ → View → Refusal → Type 0
 IsWhyTight n align v Nodes = v.max_allocs ≤ length v.blocks + blocks_needed align
-IsWhyTight n align v TooLarge = HasRoomFor (blocks_needed align) v × (v.size < n)
-IsWhyTight n align v Space = HasRoomFor (blocks_needed align) v × (n ≤ v.size) × (sum (free_sizes v.blocks) < max 1 n) × (CanHold n align v → ⊥)
-IsWhyTight n align v Fragmented = HasRoomFor (blocks_needed align) v × (max 1 n ≤ sum (free_sizes v.blocks)) × (CanHold n align v → ⊥)
+IsWhyTight n align v TooLarge = AdmitsBlocks (blocks_needed align) v × (v.size < n)
+IsWhyTight n align v Space = AdmitsBlocks (blocks_needed align) v × (n ≤ v.size) × (sum (free_sizes v.blocks) < max 1 n) × (CanHold n align v → ⊥)
+IsWhyTight n align v Fragmented = AdmitsBlocks (blocks_needed align) v × (max 1 n ≤ sum (free_sizes v.blocks)) × (CanHold n align v → ⊥)
 
 -- the same of a name, by the tables
 abbrev pub holds_in : ChainCells → ℕ → ℕ → ℕ → Bool

@@ -11,7 +11,7 @@ ghost use Rattle.offset_allocator.specs.Classes.{up};
 ghost use Rattle.offset_allocator.specs.Ranges.{Grants};
 ghost use Rattle.offset_allocator.specs.Relations.{SameState, Splits};
 ghost use Rattle.offset_allocator.specs.Reporting.Listing.{placed};
-ghost use Rattle.offset_allocator.specs.Requests.{HasRoomFor};
+ghost use Rattle.offset_allocator.specs.Requests.{AdmitsBlocks};
 ghost use Rattle.offset_allocator.specs.View.{Place, bin_at, units};
 
 use crate::accesses::Accesses;
@@ -48,7 +48,7 @@ fn last_free_to<T: Tables>(tables: &T, last: u32, offset: u32, count: &mut Acces
 }
 
 // Whether a block of `size` units from `begin` on has one of the `units` from an offset on, or lies among them.
-fn is_among(offset: u32, units: u32, begin: u32, size: u32) -> bool
+fn is_in_the_way(offset: u32, units: u32, begin: u32, size: u32) -> bool
     ensures { result ≡ (nat_lt begin (offset + units) && nat_lt offset (begin + size)) }
 {
     (begin as u64) < offset as u64 + units as u64 && (offset as u64) < begin as u64 + size as u64
@@ -75,7 +75,7 @@ impl<T: Tables> AllocatorOf<T> {
     fn grant_part(&mut self, class: u32, start: u32, parts: Parts) -> Allocation<T::Index>
         requires classed { class < 256 }
         requires filled { bin_at self.old.bins class ≢ [] }
-        requires enough { HasRoomFor (max 1 (min 1 parts.padding + min 1 parts.remainder)) self.old }
+        requires enough { AdmitsBlocks (max 1 (min 1 parts.padding + min 1 parts.remainder)) self.old }
         requires whole { (p : Place) (older : List ℕ) → self.old.blocks ≡ p.before ++ (p.block ∷ p.after)
             → bin_at self.old.bins class ≡ p.block.name ∷ older
             → (start ≡ units p.before + parts.padding)
@@ -109,7 +109,7 @@ impl<T: Tables> AllocatorOf<T> {
             Some(parts) => parts,
         };
         let more = (parts.padding.min(1) + parts.remainder.min(1)).max(1);
-        if !self.has_room_for(more) {
+        if !self.admits_blocks(more) {
             return None;
         }
         let class = self.bring_first(name);
@@ -184,10 +184,10 @@ impl<T: Tables> AllocatorOf<T> {
     ///
     /// ```
     /// let mesh = space.allocate(300).unwrap();
-    /// assert_eq!(space.handle_at(299), Some(mesh));
-    /// assert_eq!(space.handle_at(300), None);
+    /// assert_eq!(space.live_at(299), Some(mesh));
+    /// assert_eq!(space.live_at(300), None);
     /// ```
-    pub fn handle_at(&self, offset: u32) -> Option<Allocation<T::Index>>
+    pub fn live_at(&self, offset: u32) -> Option<Allocation<T::Index>>
         ensures { result ≡ in_the_way offset 1 self.now }
     {
         in_the_way_counted(self, offset, 1, &mut Accesses::new())
@@ -245,7 +245,7 @@ pub fn in_the_way_counted<T: Tables>(
     allocator.formed();
     let mut blocks = allocator.blocks();
     while let Some(block) = next_block_counted(&mut blocks, count) {
-        if block.allocation.is_some() && is_among(offset, size, block.offset, block.size) {
+        if block.allocation.is_some() && is_in_the_way(offset, size, block.offset, block.size) {
             return block.allocation;
         }
     }

@@ -6,8 +6,8 @@ ghost use Rattle.std.specs.Prelude.{[], Bool, IsTrue, None, Option, Some, length
 ghost use Rattle.std.specs.List.{AllByRecursion};
 ghost use Rattle.offset_allocator.specs.Accesses.{Costs};
 ghost use Rattle.offset_allocator.specs.AtPlace.{AllocatesAt, IsFreeAt, in_the_way};
-ghost use Rattle.offset_allocator.specs.Reporting.Beside.{AreOfLive, IsWalk, first_live, last_live};
-ghost use Rattle.offset_allocator.specs.Reporting.Beside.{live_after, live_before, live_handles};
+ghost use Rattle.offset_allocator.specs.Reporting.Walking.{AreOfLive, IsWalk, first_live, last_live};
+ghost use Rattle.offset_allocator.specs.Reporting.Walking.{live_after, live_before, live_handles};
 ghost use Rattle.offset_allocator.specs.Classes.{value, up, down};
 ghost use Rattle.offset_allocator.specs.View.{View, AreNames, Block, Handle, IsWellFormed, free_sizes};
 ghost use Rattle.offset_allocator.specs.View.{reported_free};
@@ -16,7 +16,7 @@ ghost use Rattle.offset_allocator.specs.Ranges.{Range, range_of, AreDisjoint};
 ghost use Rattle.offset_allocator.specs.Relations.{SameSpace, SameState, Aligns, Allocates, Extends, Frees};
 ghost use Rattle.offset_allocator.specs.Relations.{IsFresh, IsRaised, Resets, SameUnder};
 ghost use Rattle.offset_allocator.specs.Moving.Relocating.{Relocates, RelocatesAligned};
-ghost use Rattle.offset_allocator.specs.Requests.{CanGrant, HasRoomFor, IsWhy, blocks_needed};
+ghost use Rattle.offset_allocator.specs.Requests.{CanGrant, AdmitsBlocks, IsWhy, blocks_needed};
 ghost use Rattle.offset_allocator.specs.Reporting.Reports.{IsReport};
 ghost use Rattle.offset_allocator.specs.Resizing.{Grows, Shrinks};
 ghost use Rattle.offset_allocator.specs.Moving.Retracting.{Retracts};
@@ -140,7 +140,7 @@ pub fn statistics_belong_together<T: Tables>(allocator: &AllocatorOf<T>)
     ensures few { (s : Statistics) → AreStatistics s allocator.now → s.free_blocks ≤ s.live_ranges + 1 }
     ensures report { (s : Statistics) (r : StorageReport) → AreStatistics s allocator.now
         → IsReport r allocator.now
-        → HasRoomFor 1 allocator.now
+        → AdmitsBlocks 1 allocator.now
         → (r.total_free_space ≡ s.free_units) × (r.largest_free_region ≡ s.largest_free_region) }
 {
     allocator.formed();
@@ -176,7 +176,7 @@ pub fn few_are_live<T: Tables>(allocator: &AllocatorOf<T>)
 pub fn blocks_are_few<T: Tables>(allocator: &AllocatorOf<T>)
     ensures count { length allocator.now.blocks ≤ 2 * used_of allocator.now.blocks + 1 }
     ensures room { (l : ℕ) → used_of allocator.now.blocks < l → 2 * l + 2 ≤ allocator.now.max_allocs
-        → HasRoomFor 2 allocator.now }
+        → AdmitsBlocks 2 allocator.now }
 {
     allocator.formed();
 }
@@ -213,7 +213,7 @@ pub fn padding_is_least()
 pub fn a_compacted_space_grants<T: Tables>(allocator: &AllocatorOf<T>)
     ensures { (v : View) (n : ℕ) → 1 ≤ n → Compacts v allocator.now
         → CanGrant 1 n allocator.now
-        ↔ (HasRoomFor 1 allocator.now × (n ≤ value (down (sum (free_sizes v.blocks))))) }
+        ↔ (AdmitsBlocks 1 allocator.now × (n ≤ value (down (sum (free_sizes v.blocks))))) }
 {
     allocator.formed();
 }
@@ -222,10 +222,10 @@ pub fn a_compacted_space_grants<T: Tables>(allocator: &AllocatorOf<T>)
 /// `Fragmented` that would be granted after `compact`, and those as `TooLarge` that a fresh space of this
 /// size and limit would refuse. A request that is granted has no reason, and none has two.
 pub fn refusals_advise<T: Tables>(allocator: &AllocatorOf<T>)
-    ensures compacted { (blocks units : ℕ) (v : View) → HasRoomFor blocks allocator.now
+    ensures compacted { (blocks units : ℕ) (v : View) → AdmitsBlocks blocks allocator.now
         → (CanGrant blocks units allocator.now → ⊥) → Compacts allocator.now v
         → IsWhy blocks units allocator.now Fragmented ↔ CanGrant blocks units v }
-    ensures fresh { (blocks units : ℕ) (v : View) → HasRoomFor blocks allocator.now
+    ensures fresh { (blocks units : ℕ) (v : View) → AdmitsBlocks blocks allocator.now
         → IsFresh allocator.now.size allocator.now.max_allocs v
         → IsWhy blocks units allocator.now TooLarge ↔ (CanGrant blocks units v → ⊥) }
     ensures one { (blocks units : ℕ) (r s : Refusal) → IsWhy blocks units allocator.now r
@@ -257,9 +257,9 @@ pub fn room_is_advised<T: Tables>(allocator: &AllocatorOf<T>)
 /// space of this size and limit would refuse. A request that is granted, aligned or not, has no reason, and
 /// none has two.
 pub fn tight_refusals_advise<T: Tables>(allocator: &AllocatorOf<T>)
-    ensures compacted { (n : ℕ) (v : View) → HasRoomFor 1 allocator.now → Compacts allocator.now v
+    ensures compacted { (n : ℕ) (v : View) → AdmitsBlocks 1 allocator.now → Compacts allocator.now v
         → (CanHold n 1 allocator.now → ⊥) → IsWhyTight n 1 allocator.now Fragmented ↔ CanHold n 1 v }
-    ensures fresh { (n : ℕ) (v : View) → HasRoomFor 1 allocator.now
+    ensures fresh { (n : ℕ) (v : View) → AdmitsBlocks 1 allocator.now
         → IsFresh allocator.now.size allocator.now.max_allocs v
         → IsWhyTight n 1 allocator.now TooLarge ↔ (CanHold n 1 v → ⊥) }
     ensures one { (n align : ℕ) (r s : Refusal) → IsWhyTight n align allocator.now r
@@ -425,39 +425,39 @@ pub fn a_raised_limit_changes_no_answer()
         → IsFresh size limit w }
     ensures raised { (limit : ℕ) (v w : View) → IsRaised limit v w → SameUnder limit v w }
     ensures allocate { (limit n : ℕ) (v v' w w' : View) → IsWellFormed v → v.max_allocs ≤ limit
-        → SameUnder limit v v' → HasRoomFor 1 v → (r r' : Option Handle)
+        → SameUnder limit v v' → AdmitsBlocks 1 v → (r r' : Option Handle)
         → Allocates n v w r → Allocates n v' w' r' → (r ≡ r') × SameUnder limit w w' }
     ensures allocate_aligned { (limit n align : ℕ) (v v' w w' : View) → IsWellFormed v
-        → v.max_allocs ≤ limit → SameUnder limit v v' → HasRoomFor (blocks_needed align) v
+        → v.max_allocs ≤ limit → SameUnder limit v v' → AdmitsBlocks (blocks_needed align) v
         → (r r' : Option Handle) → Aligns n align v w r → Aligns n align v' w' r'
         → (r ≡ r') × SameUnder limit w w' }
     ensures allocate_tight { (limit n align : ℕ) (v v' w w' : View) → IsWellFormed v
-        → v.max_allocs ≤ limit → SameUnder limit v v' → HasRoomFor (blocks_needed align) v
+        → v.max_allocs ≤ limit → SameUnder limit v v' → AdmitsBlocks (blocks_needed align) v
         → (r r' : Option Handle) → AlignsTight n align v w r → AlignsTight n align v' w' r'
         → (r ≡ r') × SameUnder limit w w' }
     ensures relocate { (limit x : ℕ) (v v' w w' : View) → IsWellFormed v → v.max_allocs ≤ limit
-        → SameUnder limit v v' → HasRoomFor 1 v → (r r' : Option Handle)
+        → SameUnder limit v v' → AdmitsBlocks 1 v → (r r' : Option Handle)
         → Relocates x v w r → Relocates x v' w' r' → (r ≡ r') × SameUnder limit w w' }
     ensures relocate_aligned { (limit x align : ℕ) (v v' w w' : View) → 1 ≤ align → IsWellFormed v
-        → v.max_allocs ≤ limit → SameUnder limit v v' → HasRoomFor (blocks_needed align) v
+        → v.max_allocs ≤ limit → SameUnder limit v v' → AdmitsBlocks (blocks_needed align) v
         → (r r' : Option Handle) → RelocatesAligned x align v w r → RelocatesAligned x align v' w' r'
         → (r ≡ r') × SameUnder limit w w' }
     // at most two blocks are added
     ensures allocate_at { (limit offset n : ℕ) (v v' w w' : View) → IsWellFormed v → v.max_allocs ≤ limit
-        → SameUnder limit v v' → HasRoomFor 2 v → (r r' : Option Handle)
+        → SameUnder limit v v' → AdmitsBlocks 2 v → (r r' : Option Handle)
         → AllocatesAt offset n v w r → AllocatesAt offset n v' w' r' → (r ≡ r') × SameUnder limit w w' }
     ensures free { (limit x : ℕ) (v v' w w' : View) → IsWellFormed v → v.max_allocs ≤ limit
         → SameUnder limit v v' → Frees x v w → Frees x v' w' → SameUnder limit w w' }
     ensures reset { (limit : ℕ) (v v' w w' : View) → IsWellFormed v → v.max_allocs ≤ limit
         → SameUnder limit v v' → Resets v w → Resets v' w' → SameUnder limit w w' }
     ensures extend { (limit more : ℕ) (v v' w w' : View) → IsWellFormed v → v.max_allocs ≤ limit
-        → SameUnder limit v v' → HasRoomFor 1 v → (r r' : Bool)
+        → SameUnder limit v v' → AdmitsBlocks 1 v → (r r' : Bool)
         → Extends more v w r → Extends more v' w' r' → (r ≡ r') × SameUnder limit w w' }
     ensures retract { (limit less : ℕ) (v v' w w' : View) → IsWellFormed v → v.max_allocs ≤ limit
         → SameUnder limit v v' → (r r' : Bool)
         → Retracts less v w r → Retracts less v' w' r' → (r ≡ r') × SameUnder limit w w' }
     ensures shrink { (limit x n : ℕ) (v v' w w' : View) → IsWellFormed v → v.max_allocs ≤ limit
-        → SameUnder limit v v' → HasRoomFor 1 v → (r r' : Bool)
+        → SameUnder limit v v' → AdmitsBlocks 1 v → (r r' : Bool)
         → Shrinks x n v w r → Shrinks x n v' w' r' → (r ≡ r') × SameUnder limit w w' }
     ensures grow { (limit x n : ℕ) (v v' w w' : View) → IsWellFormed v → v.max_allocs ≤ limit
         → SameUnder limit v v' → (r r' : Bool)

@@ -24,7 +24,7 @@ ghost use Rattle.offset_allocator.specs.Accesses.{Costs};
 ghost use Rattle.offset_allocator.specs.Ranges.{Range, range_of, size_of, Grants, IsLive, KeepsAll};
 ghost use Rattle.offset_allocator.specs.Ranges.{KeepsOthers};
 ghost use Rattle.offset_allocator.specs.Requests.{IsGoodRefusal, IsSplitNearBest, CanGrant};
-ghost use Rattle.offset_allocator.specs.Requests.{IsWhy, HasRoomFor, blocks_needed, units_needed};
+ghost use Rattle.offset_allocator.specs.Requests.{IsWhy, AdmitsBlocks, blocks_needed, units_needed};
 ghost use Rattle.offset_allocator.specs.View.{count_named, is_full, free_sizes, reported_largest, used_of};
 ghost use Rattle.offset_allocator.specs.Relations.{Allocates, Aligns, Frees, Extends, CanExtend};
 ghost use Rattle.offset_allocator.specs.Relations.{SameState, IsFresh, Resets};
@@ -302,7 +302,7 @@ impl<T: Tables> AllocatorOf<T> {
         ensures nearly { IfSome result (IsSplitNearBest size self.old) }
         // A refusal with room for one more block means that every free block is smaller than 9/8 of the
         // request.
-        ensures refused { result ≡ None → HasRoomFor 1 self.old
+        ensures refused { result ≡ None → AdmitsBlocks 1 self.old
             → IsGoodRefusal size (free_sizes self.old.blocks) }
         // At most 64 accesses to table cells; for a grant at least 7, so that a body has to count them.
         ensures accesses { Costs 0 64 self.old.accesses self.new.accesses }
@@ -492,7 +492,7 @@ impl<T: Tables> AllocatorOf<T> {
         // when there is room for the blocks needed, and there is a free block in a size class whose blocks
         // all have at least the units needed.
         ensures granted { 1 ≤ units_needed size align → (IsSome result
-            ↔ (HasRoomFor (blocks_needed align) self.old
+            ↔ (AdmitsBlocks (blocks_needed align) self.old
             × (units_needed size align ≤ reported_largest self.old))) }
         ensures can_grant { IsSome result
             ↔ CanGrant (blocks_needed align) (units_needed size align) self.old }
@@ -507,7 +507,7 @@ impl<T: Tables> AllocatorOf<T> {
         // as large as that block. A refusal with room for the blocks needed means that every free block is
         // smaller than 9/8 of these units.
         ensures nearly { IfSome result (IsSplitNearBest (units_needed size align) self.old) }
-        ensures refused { result ≡ None → HasRoomFor (blocks_needed align) self.old
+        ensures refused { result ≡ None → AdmitsBlocks (blocks_needed align) self.old
             → IsGoodRefusal (units_needed size align) (free_sizes self.old.blocks) }
         // It makes at most 128 accesses to table cells, and a grant at least 7.
         ensures accesses { Costs 0 128 self.old.accesses self.new.accesses }

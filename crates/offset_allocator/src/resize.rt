@@ -132,7 +132,7 @@ impl<T: Tables> AllocatorOf<T> {
         if size > old_size + more {
             return false;
         }
-        if next.is_none() && !self.has_room_for(1) {
+        if next.is_none() && !self.admits_blocks(1) {
             return false;
         }
         neighbours::resize(&mut self.store, name, old_size, next, size);

@@ -9,7 +9,7 @@ ghost use Rattle.offset_allocator.specs.Cells.{IsBare};
 ghost use Rattle.offset_allocator.specs.Bins.{IsFoundFrom};
 ghost use Rattle.offset_allocator.specs.Store.{AreBinned, bins_of};
 ghost use Rattle.offset_allocator.specs.Ranges.{range_of, IsLive, KeepsAll, KeepsOthers};
-ghost use Rattle.offset_allocator.specs.Requests.{NewestHolds, HasRoomFor, blocks_needed, units_needed};
+ghost use Rattle.offset_allocator.specs.Requests.{NewestHolds, AdmitsBlocks, blocks_needed, units_needed};
 ghost use Rattle.offset_allocator.specs.View.{IsWellFormed, bin_at, ends_used, padding_to, free_block, push};
 ghost use Rattle.offset_allocator.specs.View.{last_used, used_of};
 ghost use Rattle.offset_allocator.specs.Relations.{Splits, Aligns, Frees, Adds, SameState, Resets};
@@ -114,8 +114,8 @@ impl<T: Tables> AllocatorOf<T> {
     /// Whether the node limit admits this number of further blocks. The first test costs less, and is mostly
     /// enough: at most `max_allocs` nodes are made, so it implies the second.
     #[inline(always)]
-    pub(crate) fn has_room_for(&self, blocks: u32) -> bool
-        ensures { IsTrue result ↔ HasRoomFor blocks self.now }
+    pub(crate) fn admits_blocks(&self, blocks: u32) -> bool
+        ensures { IsTrue result ↔ AdmitsBlocks blocks self.now }
     {
         self.store.spare_count > blocks || self.unused_nodes() > blocks
     }
@@ -125,7 +125,7 @@ impl<T: Tables> AllocatorOf<T> {
     #[inline(always)]
     pub(crate) fn grant(&mut self, class: u32, size: u32, align: u32) -> Allocation<T::Index>
         requires some { 1 ≤ align }
-        requires enough { HasRoomFor (blocks_needed align) self.old }
+        requires enough { AdmitsBlocks (blocks_needed align) self.old }
         requires classed { class < 256 }
         requires filled { bin_at self.old.bins class ≢ [] }
         requires holds { NewestHolds class size align self.old }
@@ -161,7 +161,7 @@ impl<T: Tables> AllocatorOf<T> {
         ensures accesses { Costs 0 61 self.old.accesses self.new.accesses }
         ensures accesses_min { IsSome result → self.old.accesses + 7 ≤ self.new.accesses }
     {
-        if !self.has_room_for(align.min(2)) {
+        if !self.admits_blocks(align.min(2)) {
             return None;
         }
         if size > u32::MAX - (align - 1) {
@@ -232,7 +232,7 @@ impl<T: Tables> AllocatorOf<T> {
         requires more { 0 < more }
         requires fits { self.old.size + more ≤ 4294967295 }
         requires used { ends_used self.old.blocks ≡ true }
-        requires enough { HasRoomFor 1 self.old }
+        requires enough { AdmitsBlocks 1 self.old }
         ensures step { Adds more self.old self.new }
         ensures kept { KeepsAll self.old self.new }
         ensures accesses { Costs 9 27 self.old.accesses self.new.accesses }

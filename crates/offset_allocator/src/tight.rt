@@ -9,7 +9,7 @@ ghost use Rattle.offset_allocator.specs.Bins.{HasBins, IsBinned, bins_in};
 ghost use Rattle.offset_allocator.specs.Classes.{down, value};
 ghost use Rattle.offset_allocator.specs.Ranges.{Grants};
 ghost use Rattle.offset_allocator.specs.Relations.{Aligns, Allocates, SameState, Splits};
-ghost use Rattle.offset_allocator.specs.Requests.{CanGrant, HasRoomFor, blocks_needed, units_needed};
+ghost use Rattle.offset_allocator.specs.Requests.{CanGrant, AdmitsBlocks, blocks_needed, units_needed};
 ghost use Rattle.offset_allocator.specs.Reporting.Statistics.{greatest};
 ghost use Rattle.offset_allocator.specs.Tight.{AlignsTight, CanHold, FillsFirst, IsWhyTight, first_holding};
 ghost use Rattle.offset_allocator.specs.Tight.{holds_in, listed_from, with_first};
@@ -164,7 +164,7 @@ impl<T: Tables> AllocatorOf<T> {
     // Grants `size` units of the first block that holds them.
     fn grant_first(&mut self, name: u32, size: u32, align: u32) -> Allocation<T::Index>
         requires some { 1 ≤ align }
-        requires enough { HasRoomFor (blocks_needed align) self.old }
+        requires enough { AdmitsBlocks (blocks_needed align) self.old }
         requires first { first_holding size align self.old ≡ Some name }
         ensures step { (c : ℕ)
             × Splits (value c) size (padding_to align) (with_first c name self.old) self.new result }
@@ -178,7 +178,7 @@ impl<T: Tables> AllocatorOf<T> {
     // Grants `size` units of the first block that holds them, where there is one.
     fn look_further(&mut self, size: u32, align: u32) -> Option<Allocation<T::Index>>
         requires some { 1 ≤ align }
-        requires enough { HasRoomFor (blocks_needed align) self.old }
+        requires enough { AdmitsBlocks (blocks_needed align) self.old }
         ensures step { FillsFirst size align self.old self.new result }
         ensures accesses { Costs 0 (73 + 6 * length (listed_from (down size) self.old.bins))
             self.old.accesses self.new.accesses }
@@ -205,7 +205,7 @@ impl<T: Tables> AllocatorOf<T> {
         ensures step { AlignsTight size align self.old self.new result }
         ensures accesses { (self.new.accesses ≤ self.old.accesses + 61)
             ⊎ ((CanGrant (blocks_needed align) (units_needed size align) self.old → ⊥)
-            × HasRoomFor (blocks_needed align) self.old
+            × AdmitsBlocks (blocks_needed align) self.old
             × (self.new.accesses ≤ self.old.accesses + 134
             + 6 * length (listed_from (down size) self.old.bins))) }
         ensures grows { self.old.accesses ≤ self.new.accesses }
@@ -214,7 +214,7 @@ impl<T: Tables> AllocatorOf<T> {
         match self.serve(size, align) {
             Some(handle) => Some(handle),
             None => {
-                if self.has_room_for(align.min(2)) {
+                if self.admits_blocks(align.min(2)) {
                     self.look_further(size, align)
                 } else {
                     None
@@ -242,7 +242,7 @@ impl<T: Tables> AllocatorOf<T> {
         // largest free block has `size` units; any request, when there is room, and some free block has
         // `size` units.
         ensures granted { 1 ≤ size
-            → (IsSome result ↔ (HasRoomFor 1 self.old × (size ≤ greatest (free_sizes self.old.blocks)))) }
+            → (IsSome result ↔ (AdmitsBlocks 1 self.old × (size ≤ greatest (free_sizes self.old.blocks)))) }
         ensures can_hold { IsSome result ↔ CanHold size 1 self.old }
         // Where `allocate` grants it, this is its grant.
         ensures plain { CanGrant 1 size self.old → Allocates size self.old self.new result }

@@ -12,7 +12,7 @@ use Rattle.offset_script.proofs.Pairs.{Kind, Lives, Frees, Pair, pair, left_tag,
 use Rattle.offset_script.proofs.Pairs.{same_units, same_short, same_free_sizes, same_chosen, pair_free_part, lefts_free_part, rights_free_part, in_free_part, AreAllAgreed, same_tests}
 use Rattle.std.specs.Option.{option_or}
 use Rattle.offset_allocator.specs.{Classes.down, View.padding_to, Classes.value, Classes.up, declared.moves.room.RoomCost.RoomCost}
-use Rattle.offset_calls.specs.Calls.{answered, Beside, beside, make_room, remakes, RoomMade}
+use Rattle.offset_calls.specs.Calls.{answered, Found, beside, make_room, remakes, RoomMade}
 use Rattle.offset_calls.specs.Calls as plain
 use Rattle.offset_calls.specs.declared.calls.LiveRange.{LiveRange}
 use Rattle.offset_calls.specs.{Ending.first_live, Ending.last_live, Ending.live_before, Ending.live_after, Histories.raise_range, Room.Split, Room.cheapest, Room.slid}
@@ -415,7 +415,7 @@ module _ (r : ℕ → ℕ) (g d : ℕ) (back : (k : ℕ) → r (number_with g d 
       → f (record { before = lefts xs; block = left q; after = lefts ys }) ≡ option_map (raise_range g d) (f' (record { before = rights xs; block = right q; after = rights ys })))
       → (o o' : Option machine.Place) → IsSamePlace (λ q. Unit {0}) a.pairs o o' → beside f o ≡ raise g d (beside f' o')
   beside_same f f' same None None neither = refl
-  beside_same f f' same o o' (both xs q ys e u) = ap Beside (same xs q ys (λ x i. subst (IsIn x) (sym e) (in_parts x xs q ys i)))
+  beside_same f f' same o o' (both xs q ys e u) = ap Found (same xs q ys (λ x i. subst (IsIn x) (sym e) (in_parts x xs q ys i)))
 
   pub same_call : (c : Call) → AreSame r g d (step c s) (step (renumber r c) t)
   same_call (call.Command c) = let o = alike_step r d c s t a in record { reply = ap Answer o.answer; state = o.state }
@@ -427,8 +427,8 @@ module _ (r : ℕ → ℕ) (g d : ℕ) (back : (k : ℕ) → r (number_with g d 
   same_call (call.CompactWithin n from u m) = within_same n _ _ (both_sides (first_run (longest_that (is_within u m)) n from 0) (same_within u m n from 0 a.pairs))
   same_call (call.Offset k) = quiet _ _ (offset_same _ _ (same_placed r d s t a k))
   same_call (call.Refusal n) = quiet _ _ (ap Refusal (reason_same 1 n))
-  same_call (call.Tight n) = tight_same n 1
-  same_call (call.TightAligned n align) = tight_same n align
+  same_call (call.AllocateTight n) = tight_same n 1
+  same_call (call.AllocateTightAligned n align) = tight_same n align
   same_call (call.AllocateAt offset n) = at_same offset n
   same_call (call.RefusalTight n) = quiet _ _ (ap Refusal (held_reason 1 n 1))
   same_call (call.RefusalTightAligned n align) = quiet _ _ (ap Refusal (held_reason (if nat_le align 1 then 1 else 2) n align))
@@ -442,13 +442,13 @@ module _ (r : ℕ → ℕ) (g d : ℕ) (back : (k : ℕ) → r (number_with g d 
   same_call (call.RelocateAligned k align) =
       let o = same_relocated_aligned r d s t a align _ _ (same_placed r d s t a k) in record { reply = ap Answer o.answer; state = o.state }
   same_call (call.Retract n) = if_same (AreSame r g d) _ _ _ _ _ _ (same_can r d s t a n) (λ e. record { reply = refl; state = retracted_alike r d s t a n }) (quiet _ _ refl)
-  same_call call.First = quiet _ _ (ap Beside (ap (first_live 0) a.left_blocks ∙ sent_first (number_with g d) 0 a.pairs sent_pairs
+  same_call call.FirstLive = quiet _ _ (ap Found (ap (first_live 0) a.left_blocks ∙ sent_first (number_with g d) 0 a.pairs sent_pairs
       ∙ ap (λ bs. option_map (raise_range g d) (first_live 0 bs)) (sym a.right_blocks)))
-  same_call call.Last = quiet _ _ (ap Beside (ap (last_live 0) a.left_blocks ∙ sent_last (number_with g d) 0 a.pairs sent_pairs
+  same_call call.LastLive = quiet _ _ (ap Found (ap (last_live 0) a.left_blocks ∙ sent_last (number_with g d) 0 a.pairs sent_pairs
       ∙ ap (λ bs. option_map (raise_range g d) (last_live 0 bs)) (sym a.right_blocks)))
-  same_call (call.Before k) = quiet _ _ (beside_same live_before live_before
+  same_call (call.LiveBefore k) = quiet _ _ (beside_same live_before live_before
       (λ xs q ys i. sent_last (number_with g d) 0 xs (λ x j. sent_pairs x (i x (inl j)))) _ _ (same_placed r d s t a k))
-  same_call (call.After k) = quiet _ _ (beside_same live_after live_after
+  same_call (call.LiveAfter k) = quiet _ _ (beside_same live_after live_after
       (λ xs q ys i. sent_first (number_with g d) (total (lefts xs) + q.size) ys (λ x j. sent_pairs x (i x (inr j)))
       ∙ ap (λ m. option_map (raise_range g d) (first_live (m + q.size) (rights ys))) (same_total xs)) _ _ (same_placed r d s t a k))
   same_call (call.RefusalAligned n align) = quiet _ _ (ap₂ (λ x y. Refusal (if nat_le align 1 then x else y)) (reason_same 1 n) (reason_same 2 (n + align - 1)))

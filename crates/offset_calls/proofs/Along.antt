@@ -2,7 +2,7 @@
 use Rattle.offset_calls.proofs.Common.{◌≡◌, ℕ, zero, suc, ◌+◌, ◌<◌, ◌≤◌, Bool, true, false, ◌&&◌, List, [], ◌∷◌, ◌++◌, length, map, take, All, get_or, Option, Some, None, IsTrue, is_some, nat_eq}
 use Rattle.offset_calls.proofs.Common.{slice_get, option_map, if◌then◌else◌, refl, sym, ap, ap₂, subst, ◌∙◌, inl, inr, arith, eq-eqb, ne_eqb, append-nil, append_assoc, length-append, AllByRecursion}
 use Rattle.offset_calls.proofs.Common.{cases_eq, eqb-true, and_parts, false≢true, length-map, map-append, take_more, Block, Handle, Place, IsWellFormed, is_used_at, IsFresh, Ticket, Guard, AreAlike}
-use Rattle.offset_calls.proofs.Common.{IsLive, range_of, kept_name, State, start, Call, Reply, after, is_valid, replies, reply_view, step, renumber, AreKept, IsGrantOf, IsGrown, IsLedger, Serves}
+use Rattle.offset_calls.proofs.Common.{IsLive, range_of, kept_name, State, start, Call, Reply, after, is_valid, replies, reply_view, step, renumber, AreKept, IsGrantOf, IsGrown, AreAllTickets, TakesTicket}
 use Rattle.offset_calls.proofs.Common.{IsNumberOf, handle_of, handles_of, is_that, live_name, meant, number_in, number_of, passed, ticket_of}
 use Rattle.std.specs.Option.{option_map_or}
 use Rattle.std.proofs.lemmas.List.Elements.{All-append, All-get_or, Contains-append_left, Contains-append_right}
@@ -47,7 +47,7 @@ that_alike t u a = ap₂ (λ b c. b && c) (eq-eqb t.name u.name (sym a.0)) (ap�
 alike_that : (t u : Ticket) → is_that t (Some u) ≡ true → AreAlike u t
 alike_that t u h = search (arith, and_parts, nat_eq, eqb-true)
 
-module _ (g : Guard) (ts more : List Ticket) (is : IsLedger g ts) (kept : AreKept g.space (handles_of g ts)) where
+module _ (g : Guard) (ts more : List Ticket) (is : AreAllTickets g ts) (kept : AreKept g.space (handles_of g ts)) where
   -- any ticket means the grant that gave it, also where its number was not given yet
   number_any : (t : Ticket) → kept_name (handles_of g ts) (number_of (ts ++ more) t) ≡ live_name (Some t) g
   number_any t = go (is_some (range_of t g)) refl
@@ -133,9 +133,9 @@ pub none_granted : (ts : List Ticket) (rs : List Reply) → ts ≡ [] → All (I
 none_granted ts rs e k d l = absurd (let n = ap length e in omega arith)
 
 module _ (size limit : ℕ) (low : 2 ≤ limit) (g h : Guard) (ts us : List Ticket) (calls : List TicketCall) (c : TicketCall) (found left : List program.Reply) (x : program.Reply)
-    (is : IsLedger g ts) (p : IsPlayed size limit g ts calls found) (formed : IsWellFormed h.space) (valid : IsTrue (is_valid c.call)) (more_found : left ≡ found ++ x ∷ [])
-    (serves : (k : ℕ) → IsNumberOf k (passed ts c) g ts → Serves (renumber (λ j. k) c.call) g ts h us (reply_view x)) where
-  pub served : Serves (renumber (λ j. option_map_or (number_of (ts ++ [])) c.ticket (number_in c.call)) c.call) g ts h us (reply_view x)
+    (is : AreAllTickets g ts) (p : IsPlayed size limit g ts calls found) (formed : IsWellFormed h.space) (valid : IsTrue (is_valid c.call)) (more_found : left ≡ found ++ x ∷ [])
+    (serves : (k : ℕ) → IsNumberOf k (passed ts c) g ts → TakesTicket (renumber (λ j. k) c.call) g ts h us (reply_view x)) where
+  pub served : TakesTicket (renumber (λ j. option_map_or (number_of (ts ++ [])) c.ticket (number_in c.call)) c.call) g ts h us (reply_view x)
   served = serves (option_map_or (number_of (ts ++ [])) c.ticket (number_in c.call)) (is_number g ts [] is (all_kept_played size limit g ts calls found low p) c)
 
   module _ (more : List Ticket) where
@@ -172,11 +172,11 @@ module _ (size limit : ℕ) (low : 2 ≤ limit) (g h : Guard) (ts us : List Tick
 
 -- a loop over calls: one more
 pub goes_on : (size limit realm : ℕ) → 2 ≤ limit → (g h : Guard) (ts us : List Ticket) (calls : List TicketCall) (i : ℕ) (d : TicketCall) (found left : List program.Reply)
-    → IsLedger g ts → length ts ≤ i → IsPlayed size limit g ts (take i calls) found → g.realm ≡ realm → All (IsGrantOf (map reply_view found)) ts
+    → AreAllTickets g ts → length ts ≤ i → IsPlayed size limit g ts (take i calls) found → g.realm ≡ realm → All (IsGrantOf (map reply_view found)) ts
     → IsWellFormed h.space → i < length calls → All (λ c. IsTrue (is_valid c.call)) calls
-    → IsAppended (λ r. (k : ℕ) → IsNumberOf k (passed ts (get_or calls i d)) g ts → Serves (renumber (λ j. k) (get_or calls i d).call) g ts h us r) found left
+    → IsAppended (λ r. (k : ℕ) → IsNumberOf k (passed ts (get_or calls i d)) g ts → TakesTicket (renumber (λ j. k) (get_or calls i d).call) g ts h us r) found left
     → record {
-      ledger : IsLedger h us;
+      all_tickets : AreAllTickets h us;
       few : length us ≤ i + 1;
       played : IsPlayed size limit h us (take (i + 1) calls) left;
       realm : h.realm ≡ realm;
@@ -186,7 +186,7 @@ goes_on size limit realm low g h ts us calls i d found left is few p same_realm 
     let v = All-get_or (λ c. IsTrue (is_valid c.call)) calls i d within valid in
     let s = served size limit low g h ts us (take i calls) (get_or calls i d) found left more.0 is p formed v more.1 more.2 in
     record {
-      ledger = s.ledger;
+      all_tickets = s.all_tickets;
       few = few_more ts us (reply_view more.0) i s.grown few;
       played = subst (λ cs. IsPlayed size limit h us cs left) (sym (take_more calls i d within))
           (played_more size limit low g h ts us (take i calls) (get_or calls i d) found left more.0 is p formed v more.1 more.2);

@@ -1,7 +1,7 @@
 -- A request for the units from an offset on takes the same block on the plain machine.
 use Rattle.offset_calls.proofs.Common.{◌≡◌, ℕ, zero, suc, ◌+◌, ◌-◌, ◌≤◌, Bool, true, false, not, ◌&&◌, List, [], ◌∷◌, ◌++◌, length, Option, Some, None, nat_le, if◌then◌else◌}
 use Rattle.offset_calls.proofs.Common.{refl, sym, ap, ap₂, subst, subst₂, ◌∙◌, arith, le-leb, lt-leb, leb-true, leb-false, and_parts, map-append, length-append, Block, Place, View, Handle, units}
-use Rattle.offset_calls.proofs.Common.{IsWellFormed, HasRoomFor, State, Tag, Live, Free, is_free, total, is_short_of, stamp_of_padding, placed}
+use Rattle.offset_calls.proofs.Common.{IsWellFormed, AdmitsBlocks, State, Tag, Live, Free, is_free, total, is_short_of, stamp_of_padding, placed}
 use Rattle.std.specs.Prelude.{max, min}
 use Rattle.std.proofs.lemmas.Bool.{cond_both, not-false}
 use Rattle.offset_allocator.specs.{Classes.down, AtPlace.AllocatesAt, AtPlace.BeginAfter, AtPlace.CanGrantAt, AtPlace.GrantsAt, AtPlace.IsFreeAt}
@@ -79,7 +79,7 @@ module _ (v : View) (kept_name : ℕ → Option ℕ) (s : State) (w : IsWellForm
         holds = (omega (arith, same, l), omega (arith, same, leb-true (offset + n) (total (tags sp.before) + sp.label.size) parts.0));
       } in
       let room = room_for v kept_name s w ws g (max 1 (blocks_added offset n (plain_place sp))) (is_not _ parts.1) in
-      record { at = at; room = subst (λ k. HasRoomFor k v) (same_added sp) room }
+      record { at = at; room = subst (λ k. AdmitsBlocks k v) (same_added sp) room }
 
   -- a request that is refused
   refused_is : (CanGrantAt offset n v → ⊥) → (o : Option machine.Place) → last_place offset 0 s.blocks ≡ o → request_at offset n s o ≡ machine.returns_only s machine.Refused
@@ -110,7 +110,7 @@ module _ (v : View) (kept_name : ℕ → Option ℕ) (s : State) (w : IsWellForm
       ∙ last_here offset 0 (tags sp.before) (by_tag sp.label) (tags sp.after) free (omega (arith, before, same, a.at.holds.0)) (last_none offset (0 + total (tags sp.before) + sp.label.size) sp.after after) in
       let added : max 1 (named.blocks_added offset n p) ≡ max 1 (blocks_added offset n (plain_place sp)) =
       sym (same_added sp ∙ ap (λ (q : Place). max 1 (named.blocks_added offset n q)) h.2) in
-      let room : HasRoomFor (max 1 (blocks_added offset n (plain_place sp))) v = subst (λ k. HasRoomFor k v) added a.room in
+      let room : AdmitsBlocks (max 1 (blocks_added offset n (plain_place sp))) v = subst (λ k. AdmitsBlocks k v) added a.room in
       let takes : can_take offset n s (plain_place sp) ≡ true =
       ap₂ (λ x y. x && not y) (le-leb (offset + n) (total (tags sp.before) + sp.label.size) (omega (arith, before, size, same, a.at.holds.1)))
       (has_room v kept_name s w ws g (max 1 (blocks_added offset n (plain_place sp))) room) in

@@ -3,7 +3,7 @@ use Rattle.offset_allocator.proofs.{Moving.Begins.begins_still, Sound.well_unuse
 use Rattle.offset_allocator.specs.{Moving.Relocating.WouldBegin, Classes.up, Classes.down, Requests.CanGrant, View.max_size, View.padding_to}
 use Rattle.offset_calls.proofs.Common.{◌≡◌, ℕ, zero, suc, ◌+◌, ◌-◌, ◌<◌, ◌≤◌, ◌&&◌, Bool, true, false, not, List, [], ◌∷◌, Option, Some, None, nat_lt, if◌then◌else◌, refl, sym}
 use Rattle.offset_calls.proofs.Common.{ap, ap₂, subst, subst₂, ◌∙◌, inl, inr, arith, cases_lt, lt-leb, le-leb, le-ltb, true≢false, map-append}
-use Rattle.offset_calls.proofs.Common.{View, Place, bin_at, units, blocks_needed, units_needed, IsWellFormed, HasRoomFor, State, is_free, total, chosen_place, is_short_of, fits, Reply, Answer, Offset}
+use Rattle.offset_calls.proofs.Common.{View, Place, bin_at, units, blocks_needed, units_needed, IsWellFormed, AdmitsBlocks, State, is_free, total, chosen_place, is_short_of, fits, Reply, Answer, Offset}
 use Rattle.offset_script.proofs.{Agreed.has_room, Agreed.room_for, Agreement.HasBlocksOf, Agreement.by_tag, Labels.tags, Chosen.named_spot, Found.not_chosen, Members.IsIn, Members.in_right, Well.IsWell}
 use Rattle.offset_script.specs.Machine as machine
 use Rattle.offset_calls.specs.{Calls.begin_of, Steps.IsBegin, Steps.begins_at}
@@ -12,7 +12,7 @@ use Rattle.std.specs.Prelude.{◌↔◌, IsSome}
 
 -- ---- one offset
 
-begins_from : (v : View) → IsWellFormed v → (n c : ℕ) → HasRoomFor 1 v → IsLeast v.bins (up n) c → (xs : List ℕ) → bin_at v.bins c ≡ xs → (o : ℕ) × WouldBegin n v o
+begins_from : (v : View) → IsWellFormed v → (n c : ℕ) → AdmitsBlocks 1 v → IsLeast v.bins (up n) c → (xs : List ℕ) → bin_at v.bins c ≡ xs → (o : ℕ) × WouldBegin n v o
 begins_from v w n c room least [] e = absurd (least.1 e)
 begins_from v w n c room least (x ∷ xs) e =
     let t = taken v w c x xs e in (
@@ -32,7 +32,7 @@ begins_from v w n c room least (x ∷ xs) e =
     )
 
 -- a request that can be granted would begin somewhere
-begins_somewhere : (v : View) → IsWellFormed v → (n : ℕ) → HasRoomFor 1 v → HasFit n v → (o : ℕ) × WouldBegin n v o
+begins_somewhere : (v : View) → IsWellFormed v → (n : ℕ) → AdmitsBlocks 1 v → HasFit n v → (o : ℕ) × WouldBegin n v o
 begins_somewhere v w n room h = let l = least v.bins (h.0 - up n) (up n) h.0 (omega (arith, h.1)) h.2 in begins_from v w n l.0 room l.1 (bin_at v.bins l.0) refl
 
 pub same_begin : (v : View) → IsWellFormed v → (n align : ℕ) → 1 ≤ align → (b b' : Option ℕ) → IsBegin n align v b → IsBegin n align v b' → b ≡ b'

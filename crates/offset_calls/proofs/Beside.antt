@@ -1,16 +1,16 @@
 -- The live ranges beside one another: their numbers, and those of the plain machine.
 use Rattle.offset_calls.proofs.Common.{◌≡◌, ℕ, ◌+◌, Bool, true, false, not, List, [], ◌∷◌, ◌++◌, length, reverse, Option, Some, None, option_map, option_and_then, if◌then◌else◌, refl, sym, ap, ap₂}
 use Rattle.offset_calls.proofs.Common.{subst, subst₂, ◌∙◌, inl, inr, arith, AllByRecursion, reverse-append, Block, View, Handle, Place, IsWellFormed, units, Placed, placed, listing, kept_name}
-use Rattle.offset_calls.proofs.Common.{AreKept, Tag, Live, Free, State, is_free, Ticket, Guard, IsLedger, handles_of}
+use Rattle.offset_calls.proofs.Common.{AreKept, Tag, Live, Free, State, is_free, Ticket, Guard, AreAllTickets, handles_of}
 use Rattle.std.specs.{List.slice_index, Option.option_or}
 use Rattle.offset_allocator.specs.{View.place_of, Reporting.Listing.placed_at}
-use Rattle.offset_allocator.specs.Reporting.Beside.{first_handle, first_live, last_live, live_before, live_after}
+use Rattle.offset_allocator.specs.Reporting.Walking.{first_handle, first_live, last_live, live_before, live_after}
 use Rattle.offset_allocator.proofs.Views.ViewPlaces.{place_at}
 use Rattle.offset_guarded.specs.Guard.{ticket_at}
 use Rattle.offset_script.proofs.{Agreement.Label, Agreement.by_name, Agreement.HasBlocksOf, Chosen.Spot, Chosen.named_place, Chosen.plain_place}
 use Rattle.offset_script.proofs.{Ends.total_units, Labels.names, Labels.tags, Members.IsIn, Members.in_left, Members.in_right, Well.IsWell}
 use Rattle.offset_calls.specs.declared.calls.LiveRange.{LiveRange}
-use Rattle.offset_calls.specs.{Calls.Beside, Steps.AreNumbers, Steps.Finds, Steps.IsKeptSome, Steps.IsNumbered}
+use Rattle.offset_calls.specs.{Calls.Found, Steps.AreNumbers, Steps.Finds, Steps.IsKeptSome, Steps.IsNumbered}
 use Rattle.offset_calls.specs.Ending as plain
 use Rattle.offset_calls.proofs.{Compacted.one_number, Kept.number_kept, Resized.found, Resized.spot, Tickets.kept_serial}
 
@@ -95,7 +95,7 @@ module _ (x : ℕ) (v : View) (handles : List (Option Handle)) (a : AreKept v ha
 
 -- by the numbers at names
 pub finds_some : (handles : List (Option Handle)) (numbers : List ℕ) (o : Option Handle) (g : Handle) (n m : ℕ) → AreNumbers handles (length handles) numbers → IsKeptSome handles o
-    → o ≡ Some g → n ≡ slice_index numbers g.name → m ≡ g.offset → Finds handles o (Beside (Some (record { number = n; offset = m })))
+    → o ≡ Some g → n ≡ slice_index numbers g.name → m ≡ g.offset → Finds handles o (Found (Some (record { number = n; offset = m })))
 finds_some handles numbers o g n m a kept e f h =
     let k = kept g e in (
       Some (record { number = n; offset = m }),
@@ -104,7 +104,7 @@ finds_some handles numbers o g n m a kept e f h =
     )
 
 -- by serials
-pub are_serials : (g : Guard) (ts : List Ticket) (o : Option Handle) → IsLedger g ts → IsKeptSome (handles_of g ts) o
+pub are_serials : (g : Guard) (ts : List Ticket) (o : Option Handle) → AreAllTickets g ts → IsKeptSome (handles_of g ts) o
     → IsNumbered (handles_of g ts) o (option_map (λ (t : Ticket). record { number = t.serial; offset = t.offset }) (option_map (λ (h : Handle). ticket_at h g) o))
 are_serials g ts None is kept = tt
 are_serials g ts (Some h) is kept = let k = kept h refl in (subst (λ n. kept_name (handles_of g ts) n ≡ Some h.name) (sym (kept_serial g ts k.0 h.name is k.1)) k.1, refl)

@@ -10,14 +10,14 @@ pub use Rattle.offset_allocator.specs.Moving.Compacting.{live, Compacts}
 pub use Rattle.offset_allocator.specs.Reporting.Listing.{Placed, placed, listing, as_placed}
 pub use Rattle.offset_allocator.specs.Ranges.{Range, size_of}
 pub use Rattle.offset_allocator.specs.Relations.{IsFresh, SameSpace, Extends, Frees, Resets}
-pub use Rattle.offset_allocator.specs.Requests.{HasRoomFor, IsWhy, size_needed, blocks_needed, units_needed}
+pub use Rattle.offset_allocator.specs.Requests.{AdmitsBlocks, IsWhy, size_needed, blocks_needed, units_needed}
 pub use Rattle.offset_allocator.specs.View.{Block, Handle, Place, IsWellFormed, is_used_at, View, one, count_named, bin_at, push_all, times, count_in_bin, units, AreCoalesced, replace}
 pub use Rattle.offset_allocator.specs.declared.reports.Refusal.TheVariants.{Nodes, TooLarge, Space, Fragmented}
 pub use Rattle.offset_calls.specs.Calls.{Reply, Answer, Compacted, Offset, Refusal, Outcome, starts_free, resize, resized, replies_only, number, move_of, moves, gathered, compact, offset_at}
 pub use Rattle.offset_calls.specs.Calls.{shortage, reason, step, replies, after, is_valid, reply_view, Move, Resized, can_shrink, can_grow, move_view}
 pub use Rattle.offset_calls.specs.Histories.{renumber, number_with, raise_move, raise, IsQuestion, replies_renumbered, without_offset}
 pub use Rattle.offset_calls.specs.Steps.{AreKept, AreNumbered, Takes, IsReason}
-pub use Rattle.offset_calls.specs.Tickets.{IsGrantOf, IsGrown, IsLedger, Serves, IsNumberOf, handle_of, handles_of, is_that, live_name, meant, number_in, number_of, passed, ticket_of, AreInOrder}
+pub use Rattle.offset_calls.specs.Tickets.{IsGrantOf, IsGrown, AreAllTickets, TakesTicket, IsNumberOf, handle_of, handles_of, is_that, live_name, meant, number_in, number_of, passed, ticket_of, AreInOrder}
 pub use Rattle.offset_calls.specs.Tickets.{IsStored}
 pub use Rattle.offset_calls.specs.declared.calls.Call.{Call}
 pub use Rattle.offset_guarded.specs.Guard.{Guard, AreAlike, IsLive, range_of, Grants, IsSame, KeepsAll, KeepsLive, KeepsOthers, KeepsSerials, KeepsSizes, handle_in, serial_of}

@@ -83,7 +83,7 @@ same_range hs apart (Some g) (Some r) (Some r') n k =
     ap Some (ap₂ (λ (k o : ℕ). let q : LiveRange = record { number = k; offset = o } in q) number offset)
 
 finds_same : (hs : List (Option Handle)) → AreNamedApart hs → (g : Option Handle) (r r' : Reply) → Finds hs g r → Finds hs g r' → r ≡ r'
-finds_same hs apart g r r' f k = f.2 ∙ ap plain.Beside (same_range hs apart g f.0 k.0 f.1 k.1) ∙ sym k.2
+finds_same hs apart g r r' f k = f.2 ∙ ap plain.Found (same_range hs apart g f.0 k.0 f.1 k.1) ∙ sym k.2
 
 same_reason : (v : View) → IsWellFormed v → (blocks units : ℕ) (r r' : Option Refusal) → IsReason blocks units v r → IsReason blocks units v r' → r ≡ r'
 same_reason v known blocks units None None a b = refl
@@ -198,8 +198,8 @@ module _ (v : View) (known : IsWellFormed v) (accesses : ℕ) (w w' : View) (hs 
   takes_same (call.Refusal n) r r' t k = stay r r' (t.1.2 ∙ ap plain.Refusal (same_reason v known 1 n t.1.0 k.1.0 t.1.1 k.1.1) ∙ sym k.1.2) t.0 k.0
   takes_same (call.RefusalAligned n align) r r' t k = stay r r'
       (t.1.2 ∙ ap plain.Refusal (same_reason v known (blocks_needed align) (units_needed n align) t.1.0 k.1.0 t.1.1 k.1.1) ∙ sym k.1.2) t.0 k.0
-  takes_same (call.Tight n) r r' t k = tight_taken n 1 r r' t k
-  takes_same (call.TightAligned n align) r r' t k = tight_taken n align r r' t k
+  takes_same (call.AllocateTight n) r r' t k = tight_taken n 1 r r' t k
+  takes_same (call.AllocateTightAligned n align) r r' t k = tight_taken n align r r' t k
   takes_same (call.AllocateAt offset n) r r' t k = at_taken offset n r r' t k
   takes_same (call.RefusalTight n) r r' t k = stay r r' (t.1.2 ∙ ap plain.Refusal (same_reason_tight v known n 1 t.1.0 k.1.0 t.1.1 k.1.1) ∙ sym k.1.2) t.0 k.0
   takes_same (call.RefusalTightAligned n align) r r' t k = stay r r' (t.1.2 ∙ ap plain.Refusal (same_reason_tight v known n align t.1.0 k.1.0 t.1.1 k.1.1) ∙ sym k.1.2) t.0 k.0
@@ -214,10 +214,10 @@ module _ (v : View) (known : IsWellFormed v) (accesses : ℕ) (w w' : View) (hs 
   takes_same (call.RelocateAligned i align) r r' t k = both_named (kept_name hs i) _ _ _ _ _
       (λ x f g. answered f.1 g.1 r r' f.4 g.4 (granted f.0 g.0 (relocates_aligned_decided x align v z w w' t.0 known refl f.0 g.0 f.2 g.2) f.1 g.1 f.3 g.3)) (λ f g. stay r r' (f.1 ∙ sym g.1) f.0 g.0) t.1 k.1
   takes_same (call.Retract n) r r' t k = resized_taken t.0 k.0 r r' (retracts_decided n v z w w' refl t.0 k.0 t.1 k.1) t.2 k.2 t.3 k.3
-  takes_same call.First r r' t k = stay r r' (finds_same hs apart _ r r' t.1 k.1) t.0 k.0
-  takes_same call.Last r r' t k = stay r r' (finds_same hs apart _ r r' t.1 k.1) t.0 k.0
-  takes_same (call.Before i) r r' t k = stay r r' (both_named (kept_name hs i) _ _ _ _ _ (λ x f g. finds_same hs apart _ r r' f g) (λ f g. f ∙ sym g) t.1 k.1) t.0 k.0
-  takes_same (call.After i) r r' t k = stay r r' (both_named (kept_name hs i) _ _ _ _ _ (λ x f g. finds_same hs apart _ r r' f g) (λ f g. f ∙ sym g) t.1 k.1) t.0 k.0
+  takes_same call.FirstLive r r' t k = stay r r' (finds_same hs apart _ r r' t.1 k.1) t.0 k.0
+  takes_same call.LastLive r r' t k = stay r r' (finds_same hs apart _ r r' t.1 k.1) t.0 k.0
+  takes_same (call.LiveBefore i) r r' t k = stay r r' (both_named (kept_name hs i) _ _ _ _ _ (λ x f g. finds_same hs apart _ r r' f g) (λ f g. f ∙ sym g) t.1 k.1) t.0 k.0
+  takes_same (call.LiveAfter i) r r' t k = stay r r' (both_named (kept_name hs i) _ _ _ _ _ (λ x f g. finds_same hs apart _ r r' f g) (λ f g. f ∙ sym g) t.1 k.1) t.0 k.0
 
 pub takes_decided : (c : Call) (v v' w w' : View) → IsWellFormed v → SameState v v' → (hs left left' : List (Option Handle)) → AreNamedApart hs → (r r' : Reply) → Takes c v hs w left r
     → Takes c v' hs w' left' r' → (r ≡ r') × SameState w w' × (left ≡ left')
@@ -369,8 +369,8 @@ module _ (v w : View) (known : IsWellFormed v) (after : IsWellFormed w) (hs left
   takes_held (call.Offset i) r t = stays_held t.0
   takes_held (call.Refusal n) r t = stays_held t.0
   takes_held (call.RefusalAligned n align) r t = stays_held t.0
-  takes_held (call.Tight n) r t = tight_held n 1 t.0 t.1 t.2 t.3
-  takes_held (call.TightAligned n align) r t = tight_held n align t.0 t.1 t.2 t.3
+  takes_held (call.AllocateTight n) r t = tight_held n 1 t.0 t.1 t.2 t.3
+  takes_held (call.AllocateTightAligned n align) r t = tight_held n align t.0 t.1 t.2 t.3
   takes_held (call.AllocateAt offset n) r t = at_held offset n t.0 t.1 t.2 t.3
   takes_held (call.RefusalTight n) r t = stays_held t.0
   takes_held (call.RefusalTightAligned n align) r t = stays_held t.0
@@ -383,10 +383,10 @@ module _ (v w : View) (known : IsWellFormed v) (after : IsWellFormed w) (hs left
   takes_held (call.Relocate i) r t = either (kept_name hs i) _ _ _ (λ x e u. relocated_held x u.0 u.1 u.2 u.3) (λ u. stays_held u.0) t
   takes_held (call.RelocateAligned i align) r t = either (kept_name hs i) _ _ _ (λ x e u. aligned_relocated_held x align u.0 u.1 u.2 u.3) (λ u. stays_held u.0) t.1
   takes_held (call.Retract n) r t = same_held t.2 (retracted_held n t.0 t.1)
-  takes_held call.First r t = stays_held t.0
-  takes_held call.Last r t = stays_held t.0
-  takes_held (call.Before i) r t = stays_held t.0
-  takes_held (call.After i) r t = stays_held t.0
+  takes_held call.FirstLive r t = stays_held t.0
+  takes_held call.LastLive r t = stays_held t.0
+  takes_held (call.LiveBefore i) r t = stays_held t.0
+  takes_held (call.LiveAfter i) r t = stays_held t.0
 
 -- ---- runs
 pub runs_decided : (cs : List Call) (v v' w w' : View) (hs kept kept' : List (Option Handle)) (rs rs' : List Reply) → IsWellFormed v → SameState v v' → AreHeld v hs → Runs v hs cs rs w kept

@@ -1,7 +1,7 @@
 -- The same call in the same guarded allocator, with the same tickets, has the same reply, and leaves the same tickets.
 use Rattle.offset_calls.proofs.Common.{◌≡◌, ℕ, ◌+◌, ◌-◌, Bool, true, false, ◌⊎◌, List, [], ◌∷◌, ◌++◌, length, Option, Some, None, refl, sym, ap, ap₂, subst, subst₂, ◌∙◌, inl, inr, arith, length-append}
 use Rattle.offset_calls.proofs.Common.{length-map, map-append, if◌then◌else◌, View, Handle, IsWellFormed, kept_name, IsKept, Call, Command, Reply, Answer, Takes, Guard, Ticket, handle_in, handle_of, handles_of}
-use Rattle.offset_calls.proofs.{Common.meant, Common.AreInOrder, Common.IsGrown, Common.IsLedger, Common.Serves, Decided.takes_decided, Kept.either, Tickets.kept_serial}
+use Rattle.offset_calls.proofs.{Common.meant, Common.AreInOrder, Common.IsGrown, Common.AreAllTickets, Common.TakesTicket, Decided.takes_decided, Kept.either, Tickets.kept_serial}
 use Rattle.std.proofs.lemmas.List.{length-set}
 use Rattle.offset_allocator.specs.Relations.{SameState}
 use Rattle.offset_allocator.proofs.Decided.{last_same}
@@ -47,8 +47,8 @@ module _ (v w : View) (hs left : List (Option Handle)) where
   more_call (call.Offset i) r t = same t.0.1
   more_call (call.Refusal n) r t = same t.0.1
   more_call (call.RefusalAligned n align) r t = same t.0.1
-  more_call (call.Tight n) r t = more t.0 t.1 t.3
-  more_call (call.TightAligned n align) r t = more t.0 t.1 t.3
+  more_call (call.AllocateTight n) r t = more t.0 t.1 t.3
+  more_call (call.AllocateTightAligned n align) r t = more t.0 t.1 t.3
   more_call (call.AllocateAt offset n) r t = more t.0 t.1 t.3
   more_call (call.RefusalTight n) r t = same t.0.1
   more_call (call.RefusalTightAligned n align) r t = same t.0.1
@@ -60,10 +60,10 @@ module _ (v w : View) (hs left : List (Option Handle)) where
   more_call (call.Relocate i) r t = either (kept_name hs i) _ _ _ (λ x u. more u.0 u.1 u.3) (λ u. same u.0.1) t
   more_call (call.RelocateAligned i align) r t = either (kept_name hs i) _ _ _ (λ x u. more u.0 u.1 u.3) (λ u. same u.0.1) t.1
   more_call (call.Retract n) r t = same t.2
-  more_call call.First r t = same t.0.1
-  more_call call.Last r t = same t.0.1
-  more_call (call.Before i) r t = same t.0.1
-  more_call (call.After i) r t = same t.0.1
+  more_call call.FirstLive r t = same t.0.1
+  more_call call.LastLive r t = same t.0.1
+  more_call (call.LiveBefore i) r t = same t.0.1
+  more_call (call.LiveAfter i) r t = same t.0.1
 
 -- ---- tickets
 last_realm : (realm n : ℕ) (ts : List Ticket) (t : Ticket) → AreInOrder realm n (ts ++ t ∷ []) → t.realm ≡ realm
@@ -82,7 +82,7 @@ handle_name h t a e = go _ e
 last_name : (h : Guard) (ts : List Ticket) (t : Ticket) (hs : List (Option Handle)) (a : Handle) → handles_of h (ts ++ t ∷ []) ≡ hs ++ Some a ∷ [] → t.name ≡ a.name
 last_name h ts t hs a e = handle_name h t a (last_same (handles_of h ts) hs (handle_of h t) (Some a) (sym (map-append (handle_of h) ts (t ∷ [])) ∙ e)).0
 
-named_apart : (g : Guard) (ts : List Ticket) → IsLedger g ts → AreNamedApart (handles_of g ts)
+named_apart : (g : Guard) (ts : List Ticket) → AreAllTickets g ts → AreNamedApart (handles_of g ts)
 named_apart g ts is j k x d e = sym (kept_serial g ts j x is d) ∙ kept_serial g ts k x is e
 
 -- one step
@@ -90,11 +90,11 @@ record AreTwins (g g' : Guard) (ts : List Ticket) : Type 0 where
   state : SameState g.space g'.space
   handles : handles_of g ts ≡ handles_of g' ts
   realm : g.realm ≡ g'.realm
-  ledger : IsLedger g ts
+  all_tickets : AreAllTickets g ts
 
-module _ (c : Call) (g g' h h' : Guard) (ts us us' : List Ticket) (r r' : Reply) (known : IsWellFormed g.space) (twins : AreTwins g g' ts) (s : Serves c g ts h us r) (t : Serves c g' ts h' us' r') where
+module _ (c : Call) (g g' h h' : Guard) (ts us us' : List Ticket) (r r' : Reply) (known : IsWellFormed g.space) (twins : AreTwins g g' ts) (s : TakesTicket c g ts h us r) (t : TakesTicket c g' ts h' us' r') where
   step : (r ≡ r') × SameState h.space h'.space × (handles_of h us ≡ handles_of h' us')
-  step = takes_decided c g.space g'.space h.space h'.space known twins.state (handles_of g ts) (handles_of h us) (handles_of h' us') (named_apart g ts twins.ledger) r r' s.takes
+  step = takes_decided c g.space g'.space h.space h'.space known twins.state (handles_of g ts) (handles_of h us) (handles_of h' us') (named_apart g ts twins.all_tickets) r r' s.takes
       (subst (λ l. Takes c g'.space l h'.space (handles_of h' us') r') (sym twins.handles) t.takes)
 
   lengths : length us ≡ length us'
@@ -108,8 +108,8 @@ module _ (c : Call) (g g' h h' : Guard) (ts us us' : List Ticket) (r r' : Reply)
         let q : Answer (machine.Grant a.serial a.offset) ≡ Answer (machine.Grant b.serial b.offset) = sym k ∙ step.0 ∙ l in
         let serial : a.serial ≡ b.serial = cc in
         let offset : a.offset ≡ b.offset = cc in
-        let one : a.realm ≡ h.realm = last_realm h.realm 0 ts a (subst (AreInOrder h.realm 0) e s.ledger.order) in
-        let other : b.realm ≡ h'.realm = last_realm h'.realm 0 ts b (subst (AreInOrder h'.realm 0) f t.ledger.order) in
+        let one : a.realm ≡ h.realm = last_realm h.realm 0 ts a (subst (AreInOrder h.realm 0) e s.all_tickets.order) in
+        let other : b.realm ≡ h'.realm = last_realm h'.realm 0 ts b (subst (AreInOrder h'.realm 0) f t.all_tickets.order) in
         let realm : a.realm ≡ b.realm = one ∙ s.realm ∙ twins.realm ∙ sym t.realm ∙ sym other in
         let first = last_name h ts a (handles_of g ts) n.0 (ap (handles_of h) (sym e) ∙ n.1) in
         let second = last_name h' ts b (handles_of g ts) n.0 (ap (handles_of h') (sym f) ∙ sym step.2 ∙ n.1) in
@@ -133,7 +133,7 @@ module _ (c : Call) (g g' h h' : Guard) (ts us us' : List Ticket) (r r' : Reply)
           state = step.1;
           handles = step.2 ∙ ap (handles_of h') (sym same);
           realm = s.realm ∙ twins.realm ∙ sym t.realm;
-          ledger = s.ledger;
+          all_tickets = s.all_tickets;
         },
       )
 
@@ -151,13 +151,13 @@ served_alike (c ∷ cs) g g' h h' ts us us' (r ∷ rs) (r' ∷ rs') known twins 
     let later = served_alike cs s.0 t.0 h h' s.1 us us' rs rs' s.3 e.2 s.4 (subst (λ now. AreServed t.0 now cs rs' h' us') (sym e.1) t.4) in
     (ap₂ (λ (a : Reply) (l : List Reply). a ∷ l) e.0 later.0, later.1, later.2)
 
-pub guarded_decided : (g g' h h' : Guard) (ts us us' : List Ticket) (cs : List TicketCall) (rs rs' : List Reply) → IsWellFormed g.space → SameGuard g g' → IsLedger g ts → AreServed g ts cs rs h us
+pub guarded_decided : (g g' h h' : Guard) (ts us us' : List Ticket) (cs : List TicketCall) (rs rs' : List Reply) → IsWellFormed g.space → SameGuard g g' → AreAllTickets g ts → AreServed g ts cs rs h us
     → AreServed g' ts cs rs' h' us' → (rs ≡ rs') × SameState h.space h'.space × (us ≡ us')
 guarded_decided g g' h h' ts us us' cs rs rs' known same is s t = served_alike cs g g' h h' ts us us' rs rs' known
     (record {
       state = ap (λ (z : Guard). z.space) same;
       handles = sym (ap (λ (z : Guard). handles_of z ts) same);
       realm = sym (ap (λ (z : Guard). z.realm) same);
-      ledger = is;
+      all_tickets = is;
     })
     s t

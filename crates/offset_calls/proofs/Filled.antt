@@ -2,7 +2,7 @@
 use Rattle.offset_calls.proofs.Common.{◌≡◌, ◌≢◌, ℕ, zero, suc, ◌+◌, ◌-◌, ◌<◌, ◌≤◌, Bool, true, false, not, ◌&&◌, ◌⊎◌, List, [], ◌∷◌, ◌++◌, length, Option, Some, None, nat_lt, nat_le, if◌then◌else◌}
 use Rattle.offset_calls.proofs.Common.{refl, sym, ap, ap₂, subst, ◌∙◌, inl, inr, arith, eq-eqb, lt-leb, le-leb, leb-true, lt-ltb, cases_eq, cases_lt, true≢false, and_parts, get_or_past, slice_set}
 use Rattle.offset_calls.proofs.Common.{nat_eq, is_some, map-append, push_all, View, Handle, times}
-use Rattle.offset_calls.proofs.Common.{bin_at, units, IsWellFormed, SameSpace, State, is_free, total, chosen_place, is_short_of, replace, blocks_needed, units_needed, HasRoomFor}
+use Rattle.offset_calls.proofs.Common.{bin_at, units, IsWellFormed, SameSpace, State, is_free, total, chosen_place, is_short_of, replace, blocks_needed, units_needed, AdmitsBlocks}
 use Rattle.std.proofs.Common.{cond}
 use Rattle.std.proofs.lemmas.Bool.{not-false, or_left}
 use Rattle.std.specs.{List.concat, List.find, List.filter, Option.option_or}
@@ -248,11 +248,11 @@ module _ (v : View) (kept_name : ℕ → Option ℕ) (s : State) (w : IsWellForm
   is_labelled : IsLabelled v g.labels
   is_labelled = labelled v kept_name s w ws g
 
-  none_by_class : HasRoomFor (blocks_needed align) v → (CanGrant (blocks_needed align) (units_needed n align) v → ⊥) → chosen_place (units_needed n align) s.blocks ≡ None
+  none_by_class : AdmitsBlocks (blocks_needed align) v → (CanGrant (blocks_needed align) (units_needed n align) v → ⊥) → chosen_place (units_needed n align) s.blocks ≡ None
   none_by_class room refuses = ap (chosen_place (units_needed n align)) g.state ∙ none_chosen v w g.labels is_labelled (units_needed n align) (λ h. refuses (room, h))
 
   -- a request that is refused
-  no_place : HasRoomFor (blocks_needed align) v → (CanHold n align v → ⊥) → place ≡ None
+  no_place : AdmitsBlocks (blocks_needed align) v → (CanHold n align v → ⊥) → place ≡ None
   unfolding place
   no_place room none = ap₂ option_or (none_by_class room (λ c. none (grant_holds v w n align some c)))
       (ap (holding_place n align 0) g.state ∙ none_held v w g.labels is_labelled n align (λ p e f h. none (room, (p, e, f, h))))

@@ -1,11 +1,11 @@
 -- The steps of calls are those of the plain machine.
 use Rattle.offset_allocator.specs.{Relations.SameState, declared.reports.Refusal.Refusal, Classes.value, Classes.up, Classes.down, Ranges.range_of, Resizing.Shrinks, Resizing.Grows}
-use Rattle.offset_allocator.specs.{Resizing.Resizes, View.padding_to, Tight.CanHold, Tight.IsWhyTight, Reporting.Beside.live_before, Reporting.Beside.live_after, Moving.Relocating.Relocates}
+use Rattle.offset_allocator.specs.{Resizing.Resizes, View.padding_to, Tight.CanHold, Tight.IsWhyTight, Reporting.Walking.live_before, Reporting.Walking.live_after, Moving.Relocating.Relocates}
 use Rattle.offset_allocator.specs.Moving.Retracting.{Retracts, Cuts}
 use Rattle.offset_calls.proofs.Common.{◌≡◌, ◌≢◌, ◌⊎◌, ℕ, zero, suc, ◌+◌, ◌-◌, ◌<◌, ◌≤◌, leb-false, Bool, true, false, not, ◌&&◌, List, [], ◌∷◌, length, sum, Option, Some, None, is_some, IfSome}
 use Rattle.offset_calls.proofs.Common.{IsTrue, option_map, option_and_then, nat_eq, nat_lt, nat_le, if◌then◌else◌, refl, sym, ap, ap₂, subst, ◌∙◌, inl, inr, arith, eq-eqb, ne_eqb, le-leb, leb-true}
 use Rattle.offset_calls.proofs.Common.{lt-ltb, le-ltb, cases_eq, cases_lt, true≢false, false≢true, and_parts, lt-leb, Nodes, TooLarge, Space, Fragmented, View, Handle, times, count_in_bin, bin_at}
-use Rattle.offset_calls.proofs.Common.{units, IsWellFormed, HasRoomFor, IsWhy, size_needed, blocks_needed, units_needed, Range, size_of, kept_name, IfNamed, Stays, State, is_free, free_sizes, total}
+use Rattle.offset_calls.proofs.Common.{units, IsWellFormed, AdmitsBlocks, IsWhy, size_needed, blocks_needed, units_needed, Range, size_of, kept_name, IfNamed, Stays, State, is_free, free_sizes, total}
 use Rattle.offset_calls.proofs.Common.{chosen_place, is_short_of, fits, Call, Reply, Answer, Resized, Compacted, Offset, Outcome, can_shrink, can_grow, resize, resized, replies_only}
 use Rattle.offset_calls.proofs.Common.{shortage, reason, offset_at, step, after, is_valid, compact, starts_free, Takes, IsReason}
 use Rattle.offset_allocator.proofs.{Advice.free_within, Tallies.hit_cases}
@@ -15,7 +15,7 @@ use Rattle.offset_script.proofs.{Members.in_map, Found.not_chosen, Well.IsWell, 
 use Rattle.offset_script.proofs.{Chosen.named_place, Found.chosen_at, Lists.whole, Tests.same_some, Well.free_part_is, Well.well_grant}
 use Rattle.std.specs.{Prelude.max, Option.option_or}
 use Rattle.std.proofs.lemmas.Bool.{cond_both}
-use Rattle.offset_calls.specs.{Steps.IsReasonTight, Steps.TakesTight, Calls.answered, Calls.Beside, Calls.beside, Calls.remakes, Room.cheapest, Ending.begins_before}
+use Rattle.offset_calls.specs.{Steps.IsReasonTight, Steps.TakesTight, Calls.answered, Calls.Found, Calls.beside, Calls.remakes, Room.cheapest, Ending.begins_before}
 use Rattle.offset_calls.specs.Calls as reply
 use Rattle.offset_calls.specs.{Ending.relocate, Ending.can_retract, Ending.retracted, Steps.Finds}
 use Rattle.offset_calls.specs.Tight.{holding_place, request_tight, allocate_tight, lack, reason_held, reason_tight}
@@ -137,8 +137,8 @@ well_call (call.Grow k n) s w = well_resize s w k n (can_grow n) (λ p d c. grow
 well_call call.Compact s w = well_compact s w
 well_call (call.CompactBy n) s w = well_steps s w n
 well_call (call.CompactWithin n from u m) s w = well_within s w n from u m
-well_call (call.Tight n) s w = well_tight s w n 1
-well_call (call.TightAligned n align) s w = well_tight s w n align
+well_call (call.AllocateTight n) s w = well_tight s w n 1
+well_call (call.AllocateTightAligned n align) s w = well_tight s w n align
 well_call (call.AllocateAt offset n) s w = well_at s w offset n
 well_call (call.MakeRoom n) s w = well_room s w (value (up n)) (cheapest (value (up n)) s.blocks) refl
 well_call (call.MakeRoomBy n align m) s w = well_room_by s w m (value (up (n + align - 1))) (min align 2)
@@ -257,7 +257,7 @@ module _ (v w : View) (hs left : List (Option Handle)) (r : Reply) (s : State) (
   reason_is : (blocks n : ℕ) (why : Option Refusal) → IsReason blocks n v why → why ≡ reason blocks n s
   reason_is blocks n why t = go why refl
     where
-      none : HasRoomFor blocks v → why ≢ None → is_some (chosen_place n s.blocks) ≡ false
+      none : AdmitsBlocks blocks v → why ≢ None → is_some (chosen_place n s.blocks) ≡ false
       none room d = ap is_some (ap (chosen_place n) p.agrees.state ∙ none_chosen v p.formed p.agrees.labels (labelled v (kept_name hs) s p.formed ws p.agrees) n (λ h. d (t.0.1 (room, h))))
 
       some : (x : Refusal) → why ≡ Some x → why ≢ None
@@ -272,7 +272,7 @@ module _ (v w : View) (hs left : List (Option Handle)) (r : Reply) (s : State) (
       is_why : (x : Refusal) → why ≡ Some x → IsWhy blocks n v x
       is_why x e = subst (λ o. IfSome o (IsWhy blocks n v)) e t.1
 
-      is_short : (x : Refusal) → why ≡ Some x → HasRoomFor blocks v → here ≡ x → why ≡ reason blocks n s
+      is_short : (x : Refusal) → why ≡ Some x → AdmitsBlocks blocks v → here ≡ x → why ≡ reason blocks n s
       is_short x e room is =
           e ∙ sym (ap (λ a. reason_of a (is_some (chosen_place n s.blocks)) here) (has_room v (kept_name hs) s p.formed ws p.agrees blocks room)
           ∙ ap₂ (reason_of false) (none room (some x e)) is)
@@ -298,12 +298,12 @@ module _ (v w : View) (hs left : List (Option Handle)) (r : Reply) (s : State) (
           (le-ltb (sum (free_sizes s.blocks)) (size_needed n) (let f = same_free in let m = h.1 in omega arith)))
 
   -- why a request is refused that takes any free block which holds it
-  held_can : (n align : ℕ) (q : machine.Place) → holding_place n align 0 s.blocks ≡ Some q → HasRoomFor (blocks_needed align) v → CanHold n align v
+  held_can : (n align : ℕ) (q : machine.Place) → holding_place n align 0 s.blocks ≡ Some q → AdmitsBlocks (blocks_needed align) v → CanHold n align v
   held_can n align q e room =
       let r = held_spot v p.formed p.agrees.labels (labelled v (kept_name hs) s p.formed ws p.agrees) n align q (sym (ap (holding_place n align 0) p.agrees.state) ∙ e) in
       (room, (named_place r.0, there v p.formed p.agrees.labels (labelled v (kept_name hs) s p.formed ws p.agrees) n align r.0 r.1, ap not r.3, r.4))
 
-  none_found : (n align : ℕ) → (CanHold n align v → ⊥) → HasRoomFor (blocks_needed align) v → (o : Option machine.Place) → holding_place n align 0 s.blocks ≡ o → is_some o ≡ false
+  none_found : (n align : ℕ) → (CanHold n align v → ⊥) → AdmitsBlocks (blocks_needed align) v → (o : Option machine.Place) → holding_place n align 0 s.blocks ≡ o → is_some o ≡ false
   none_found n align none room None e = refl
   none_found n align none room (Some q) e = absurd (none (held_can n align q e room))
 
@@ -322,7 +322,7 @@ module _ (v w : View) (hs left : List (Option Handle)) (r : Reply) (s : State) (
       refuses : (x : Refusal) → why ≡ Some x → CanHold n align v → ⊥
       refuses x e c = let f : Some x ≡ None = sym e ∙ t.0.1 c in cc
 
-      lacks : (x : Refusal) → why ≡ Some x → HasRoomFor (blocks_needed align) v → here ≡ x → why ≡ reason_held (blocks_needed align) n align s
+      lacks : (x : Refusal) → why ≡ Some x → AdmitsBlocks (blocks_needed align) v → here ≡ x → why ≡ reason_held (blocks_needed align) n align s
       lacks x e room is =
           e ∙ sym (ap (λ a. reason_of a (is_some (holding_place n align 0 s.blocks)) here) (has_room v (kept_name hs) s p.formed ws p.agrees (blocks_needed align) room)
           ∙ ap₂ (reason_of false) (none_found n align (refuses x e) room _ refl) is)
@@ -419,12 +419,12 @@ module _ (v w : View) (hs left : List (Option Handle)) (r : Reply) (s : State) (
   before_step : (k : ℕ) (o : Option ℕ) → kept_name hs k ≡ o → IfNamed o (λ x. Finds hs (live_before x v) r) (r ≡ Answer machine.Gone)
       → r ≡ beside plain.live_before (machine.place_of k s.blocks)
   before_step k None e t = t ∙ sym (ap (beside plain.live_before) (gone_there k e))
-  before_step k (Some x) e t = t.2 ∙ ap Beside (before_same v hs s p.formed ws p.agrees k x e t.0 t.1) ∙ sym (ap (beside plain.live_before) (at k x 0 e))
+  before_step k (Some x) e t = t.2 ∙ ap Found (before_same v hs s p.formed ws p.agrees k x e t.0 t.1) ∙ sym (ap (beside plain.live_before) (at k x 0 e))
 
   after_step : (k : ℕ) (o : Option ℕ) → kept_name hs k ≡ o → IfNamed o (λ x. Finds hs (live_after x v) r) (r ≡ Answer machine.Gone)
       → r ≡ beside plain.live_after (machine.place_of k s.blocks)
   after_step k None e t = t ∙ sym (ap (beside plain.live_after) (gone_there k e))
-  after_step k (Some x) e t = t.2 ∙ ap Beside (after_same v hs s p.formed ws p.agrees k x e t.0 t.1) ∙ sym (ap (beside plain.live_after) (at k x 0 e))
+  after_step k (Some x) e t = t.2 ∙ ap Found (after_same v hs s p.formed ws p.agrees k x e t.0 t.1) ∙ sym (ap (beside plain.live_after) (at k x 0 e))
 
   -- the plain machine follows each call
   pub follows : (c : Call) → IsTrue (is_valid c) → Takes c v hs w left r → Follows (step c s) w left r
@@ -441,8 +441,8 @@ module _ (v w : View) (hs left : List (Option Handle)) (r : Reply) (s : State) (
   follows (call.Refusal n) valid t = quiet _ _ refl t.0 (t.1.2 ∙ ap reply.Refusal (reason_is 1 n t.1.0 t.1.1))
   follows (call.RefusalAligned n align) valid t = quiet _ _ refl t.0
       (t.1.2 ∙ ap reply.Refusal (reason_is (blocks_needed align) (units_needed n align) t.1.0 t.1.1 ∙ aligned_reason n align (leb-true 1 align valid)))
-  follows (call.Tight n) valid t = tight_step n 1 (omega arith) t
-  follows (call.TightAligned n align) valid t = tight_step n align (leb-true 1 align valid) t
+  follows (call.AllocateTight n) valid t = tight_step n 1 (omega arith) t
+  follows (call.AllocateTightAligned n align) valid t = tight_step n align (leb-true 1 align valid) t
   follows (call.AllocateAt offset n) valid t = at_step offset n t
   follows (call.RefusalTight n) valid t = quiet _ _ refl t.0 (tight_reason_step n 1 (omega arith) t.1.0 t.1.1 t.1.2)
   follows (call.RefusalTightAligned n align) valid t = quiet _ _ refl t.0 (tight_reason_step n align (leb-true 1 align valid) t.1.0 t.1.1 t.1.2)
@@ -455,7 +455,7 @@ module _ (v w : View) (hs left : List (Option Handle)) (r : Reply) (s : State) (
   follows (call.Relocate k) valid t = relocate_step k (kept_name hs k) refl t
   follows (call.RelocateAligned k align) valid t = relocate_aligned_step k align t.0 (kept_name hs k) refl t.1
   follows (call.Retract n) valid t = retract_step n t.0 t.1 t.2 t.3
-  follows call.First valid t = quiet _ _ refl t.0 (t.1.2 ∙ ap Beside (first_same v hs s p.formed ws p.agrees t.1.0 t.1.1))
-  follows call.Last valid t = quiet _ _ refl t.0 (t.1.2 ∙ ap Beside (last_same v hs s p.formed ws p.agrees t.1.0 t.1.1))
-  follows (call.Before k) valid t = quiet _ _ refl t.0 (before_step k (kept_name hs k) refl t.1)
-  follows (call.After k) valid t = quiet _ _ refl t.0 (after_step k (kept_name hs k) refl t.1)
+  follows call.FirstLive valid t = quiet _ _ refl t.0 (t.1.2 ∙ ap Found (first_same v hs s p.formed ws p.agrees t.1.0 t.1.1))
+  follows call.LastLive valid t = quiet _ _ refl t.0 (t.1.2 ∙ ap Found (last_same v hs s p.formed ws p.agrees t.1.0 t.1.1))
+  follows (call.LiveBefore k) valid t = quiet _ _ refl t.0 (before_step k (kept_name hs k) refl t.1)
+  follows (call.LiveAfter k) valid t = quiet _ _ refl t.0 (after_step k (kept_name hs k) refl t.1)

@@ -5,7 +5,7 @@ use Rattle.offset_calls.proofs.Common.{Option, Some, None, option_map}
 use Rattle.offset_calls.proofs.{Along.replies-append, Alike.same_replies, Alike.number_back_again, Followed.well_call, Followed.well_calls}
 use Rattle.offset_script.proofs.{Fresh.IsOneFree, Fresh.one_free, Fresh.alike_fresh, Fresh.raise_none, Fresh.renumber_same, Members.map_same, Nests.AreTraceless, Nests.traceless, Nests.alike_after}
 use Rattle.offset_script.proofs.{Nests.number_without_none, Similar.similar_refl, Lists.count, Lists.hit_self, Well.IsWell, Well.well_start, Well.well_after}
-use Rattle.offset_calls.specs.{Calls.CompactedWithin, Calls.Move, Calls.RoomMade, Calls.Beside, Histories.raise_range}
+use Rattle.offset_calls.specs.{Calls.CompactedWithin, Calls.Move, Calls.RoomMade, Calls.Found, Histories.raise_range}
 use Rattle.offset_calls.specs.declared.calls.LiveRange.{LiveRange}
 use Rattle.offset_script.specs.declared.scripts.Command.TheVariants as command
 use Rattle.offset_script.specs.Machine as machine
@@ -41,7 +41,7 @@ raised_none g (Answer a) = ap Answer (raise_none a)
 raised_none g (Compacted ms) = ap Compacted (moves_none g ms)
 raised_none g (CompactedWithin p ms) = ap (CompactedWithin p) (moves_none g ms)
 raised_none g (RoomMade c ms) = ap (RoomMade c) (moves_none g ms)
-raised_none g (Beside r) = ap Beside (same_range r)
+raised_none g (Found r) = ap Found (same_range r)
   where
     same_range : (r : Option LiveRange) → option_map (raise_range g 0) r ≡ r
     same_range None = refl
@@ -55,8 +55,8 @@ renumbered_none g (call.Grow k n) = ap (λ k. call.Grow k n) (number_without_non
 renumbered_none g (call.Offset k) = ap call.Offset (number_without_none g k)
 renumbered_none g (call.Relocate k) = ap call.Relocate (number_without_none g k)
 renumbered_none g (call.RelocateAligned k align) = ap (λ k. call.RelocateAligned k align) (number_without_none g k)
-renumbered_none g (call.Before k) = ap call.Before (number_without_none g k)
-renumbered_none g (call.After k) = ap call.After (number_without_none g k)
+renumbered_none g (call.LiveBefore k) = ap call.LiveBefore (number_without_none g k)
+renumbered_none g (call.LiveAfter k) = ap call.LiveAfter (number_without_none g k)
 renumbered_none g other = refl
 
 pub as_before : (g j : ℕ) (cs : List Call) (s : State) → j ≡ 0 → map (raise g j) (replies (map (renumber (number_without g j)) cs) s) ≡ replies cs s
@@ -76,10 +76,10 @@ counts_only (call.RefusalTightAligned n align) s h = refl
 counts_only (call.WouldBegin n align) s h = refl
 counts_only (call.RoomCost n) s h = refl
 counts_only (call.RoomCostBy n align m) s h = refl
-counts_only call.First s h = refl
-counts_only call.Last s h = refl
-counts_only (call.Before k) s h = refl
-counts_only (call.After k) s h = refl
+counts_only call.FirstLive s h = refl
+counts_only call.LastLive s h = refl
+counts_only (call.LiveBefore k) s h = refl
+counts_only (call.LiveAfter k) s h = refl
 counts_only other s h = absurd h
 
 pub question_law : (size limit : ℕ) → 2 ≤ limit → (before : List Call) (q : Call) (rest : List Call) → IsQuestion q

@@ -150,8 +150,8 @@ module _ (v w : View) (hs left : List (Option Handle)) (before : IsWellFormed v)
   next_call (call.Offset k) r valid t = next_same hs left t.0.1
   next_call (call.Refusal n) r valid t = next_same hs left t.0.1
   next_call (call.RefusalAligned n align) r valid t = next_same hs left t.0.1
-  next_call (call.Tight n) r valid t = next_tight n 1 (omega arith) t.1 t.0 t.2 t.3
-  next_call (call.TightAligned n align) r valid t = next_tight n align (leb-true 1 align valid) t.1 t.0 t.2 t.3
+  next_call (call.AllocateTight n) r valid t = next_tight n 1 (omega arith) t.1 t.0 t.2 t.3
+  next_call (call.AllocateTightAligned n align) r valid t = next_tight n align (leb-true 1 align valid) t.1 t.0 t.2 t.3
   next_call (call.AllocateAt offset n) r valid t = next_at offset n t.1 t.0 t.2 t.3
   next_call (call.RefusalTight n) r valid t = next_same hs left t.0.1
   next_call (call.RefusalTightAligned n align) r valid t = next_same hs left t.0.1
@@ -163,10 +163,10 @@ module _ (v w : View) (hs left : List (Option Handle)) (before : IsWellFormed v)
   next_call (call.Relocate k) r valid t = either (kept_name hs k) _ _ _ (λ x u. next_relocated x u.1 u.0 u.2 u.3) (λ u. next_same hs left u.0.1) t
   next_call (call.RelocateAligned k align) r valid t = either (kept_name hs k) _ _ _ (λ x u. next_relocated_aligned x align u.1 u.0 u.2 u.3) (λ u. next_same hs left u.0.1) t.1
   next_call (call.Retract n) r valid t = next_same hs left t.2
-  next_call call.First r valid t = next_same hs left t.0.1
-  next_call call.Last r valid t = next_same hs left t.0.1
-  next_call (call.Before k) r valid t = next_same hs left t.0.1
-  next_call (call.After k) r valid t = next_same hs left t.0.1
+  next_call call.FirstLive r valid t = next_same hs left t.0.1
+  next_call call.LastLive r valid t = next_same hs left t.0.1
+  next_call (call.LiveBefore k) r valid t = next_same hs left t.0.1
+  next_call (call.LiveAfter k) r valid t = next_same hs left t.0.1
 
 -- the numbers that were read stay right
 pub numbers_next : (hs left : List (Option Handle)) (read : ℕ) (numbers : List ℕ) → IsNext hs left → AreNumbers hs read numbers → AreNumbers left read numbers

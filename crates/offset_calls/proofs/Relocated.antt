@@ -5,7 +5,7 @@ use Rattle.offset_allocator.specs.{Names.AreTaken, Names.names_of, Moving.Reloca
 use Rattle.offset_allocator.specs.{Moving.Relocating.offset_of, View.IsNew, View.used_block, View.free_part, Relations.SameState}
 use Rattle.offset_calls.proofs.Common.{◌≡◌, ◌≢◌, ℕ, zero, suc, ◌+◌, ◌-◌, ◌<◌, ◌≤◌, Bool, true, false, not, List, [], ◌∷◌, ◌++◌, length, Option, Some, None, nat_eq, nat_le, if◌then◌else◌, refl, sym}
 use Rattle.offset_calls.proofs.Common.{ap, ap₂, subst, ◌∙◌, inl, inr, arith, eq-eqb, ne_eqb, cases_eq, cases_lt, leb-true, lt-ltb, le-ltb, and_parts, option_map, option_and_then, unwrap_or}
-use Rattle.offset_calls.proofs.Common.{AllByRecursion, Block, View, Handle, Place, one, count_named, times, bin_at, units, IsWellFormed, HasRoomFor, Range, kept_name, IsKept, State, is_free, total}
+use Rattle.offset_calls.proofs.Common.{AllByRecursion, Block, View, Handle, Place, one, count_named, times, bin_at, units, IsWellFormed, AdmitsBlocks, Range, kept_name, IsKept, State, is_free, total}
 use Rattle.offset_calls.proofs.{Common.chosen_place, Common.is_short_of, Common.fits, Common.Reply, Common.Answer, Common.le-leb, Resized.found, Resized.spot, Resized.size_found}
 use Rattle.offset_script.proofs.{Agreed.agrees_but, Agreed.agrees_quiet, Agreed.room_for, Agreed.serve_agrees, Agreement.HasBlocksOf, Agreement.IsAtState, Chosen.Spot, Chosen.plain_place}
 use Rattle.offset_script.proofs.{Chosen.plain_spot, Chosen.listed_spot, Ends.total_units, Labels.names, Labels.tags, Found.chosen_at, Well.IsWell, Simulation.requested}
@@ -90,7 +90,7 @@ one_name k y zero = refl
 one_name k y (suc n) = ([], inl refl, refl)
 
 -- the grant of n units of the newest block of the smallest class, where the name that a remainder takes is new
-granted_from : (v : View) → IsWellFormed v → (n c : ℕ) → HasRoomFor 1 v → (y : (x : ℕ) × (x < v.max_allocs) × AllByRecursion (λ (b : Block). b.name ≢ x) v.blocks) → v.unused ≡ y.0 ∷ []
+granted_from : (v : View) → IsWellFormed v → (n c : ℕ) → AdmitsBlocks 1 v → (y : (x : ℕ) × (x < v.max_allocs) × AllByRecursion (λ (b : Block). b.name ≢ x) v.blocks) → v.unused ≡ y.0 ∷ []
     → IsLeast v.bins (up n) c → (xs : List ℕ) → bin_at v.bins c ≡ xs → (u : View) × (g : Handle) × Allocates n v u (Some g)
 granted_from v w n c room y alone least [] e = absurd (least.1 e)
 granted_from v w n c room y alone least (x ∷ xs) e =
@@ -233,7 +233,7 @@ module _ (v w : View) (hs left : List (Option Handle)) (r : Reply) (s : State) (
       (sym (found v (kept_name hs) s p.formed ws p.agrees k x e).placed) (relocates_there g a t kept is)
 
   -- the machine begins where the allocator does
-  begins_at : (m : ℕ) (n align : ℕ) (h : Handle) → HasRoomFor 1 v → (t : Splits m n (padding_to align) v w h) → (machine.allocate m s).answer ≡ machine.Grant (s.grants + 1) (units t.before)
+  begins_at : (m : ℕ) (n align : ℕ) (h : Handle) → AdmitsBlocks 1 v → (t : Splits m n (padding_to align) v w h) → (machine.allocate m s).answer ≡ machine.Grant (s.grants + 1) (units t.before)
   begins_at m n align h room t =
       let c = chosen v p.formed p.agrees.labels (labelled v (kept_name hs) s p.formed ws p.agrees) m n (padding_to align) w h t in
       let at : chosen_place m s.blocks ≡ Some (plain_place c.spot) = ap (chosen_place m) p.agrees.state ∙ c.is in
@@ -273,7 +273,7 @@ module _ (v w : View) (hs left : List (Option Handle)) (r : Reply) (s : State) (
         let n = size_found v (kept_name hs) s p.formed ws p.agrees k x e in
         let moved : (al : Aligns at.label.size align v w (Some h)) × (units al.1.before < total (tags at.before)) =
         subst₂ (λ z o. (al : Aligns z align v w (Some h)) × (units al.1.before < o)) n begins t in
-        let room : HasRoomFor 1 v = let q = moved.0.0 in omega (arith, q, least) in
+        let room : AdmitsBlocks 1 v = let q = moved.0.0 in omega (arith, q, least) in
         let b : would ≡ true = ap (begins_before (total (tags at.before))) (begins_at (at.label.size + align - 1) at.label.size align h room moved.0.1) ∙ lt-ltb (units moved.0.1.before) (total (tags at.before)) moved.1 in
         subst (λ b. Agrees (if b then machine.allocate_aligned at.label.size align s else machine.returns_only s machine.Refused)) (sym b) (asked (Some h) a moved.0 kept is)
 

@@ -2,7 +2,7 @@
 use Rattle.offset_calls.proofs.Common.{◌≡◌, ◌≢◌, ℕ, zero, suc, ◌+◌, ◌-◌, ◌<◌, ◌≤◌, Bool, true, false, not, ◌&&◌, ◌||◌, ◌⊎◌, List, [], ◌∷◌, ◌++◌, length, Option, Some, None, nat_eq, nat_le}
 use Rattle.offset_calls.proofs.Common.{if◌then◌else◌, refl, sym, ap, ap₂, subst, ◌∙◌, inl, inr, arith, le-leb, leb-true, leb-false, append-nil, length-append, false≢true, and_parts, and_right}
 use Rattle.std.specs.Prelude.{option_map, unwrap_or}
-use Rattle.offset_calls.proofs.Common.{map-append, AllByRecursion, Block, View, Place, units, IsWellFormed, AreCoalesced, replace, HasRoomFor, size_of, SameSpace, Tag, Live, Free, State, is_free}
+use Rattle.offset_calls.proofs.Common.{map-append, AllByRecursion, Block, View, Place, units, IsWellFormed, AreCoalesced, replace, AdmitsBlocks, size_of, SameSpace, Tag, Live, Free, State, is_free}
 use Rattle.offset_calls.proofs.Common.{has_number, total, is_short_of, stamp_of_call, stamp_of_padding, without_start, units_at_start, starts_free, can_shrink, can_grow, resized}
 use Rattle.std.proofs.Math.Bool.{or-true}
 use Rattle.offset_allocator.proofs.{Views.ViewApart.right_false, Reading.size_at, Reading.size_is}
@@ -98,7 +98,7 @@ module _ (v : View) (kept_name : ℕ → Option ℕ) (s : State) (w : IsWellForm
       let parts = and_parts (nat_le n spot.label.size) (starts_free (tags spot.after) || not (is_short_of 1 s)) c in
       (let l = leb-true n spot.label.size parts.0 in let z = size_found in omega arith, λ l. go (starts_free (tags spot.after)) (is_short_of 1 s) refl refl parts.1)
     where
-      go : (a b : Bool) → starts_free (tags spot.after) ≡ a → is_short_of 1 s ≡ b → (a || not b) ≡ true → (free_after x v ≢ []) ⊎ HasRoomFor 1 v
+      go : (a b : Bool) → starts_free (tags spot.after) ≡ a → is_short_of 1 s ≡ b → (a || not b) ≡ true → (free_after x v ≢ []) ⊎ AdmitsBlocks 1 v
       go true b f h p = inl (λ z. free_some spot.after f (sym after_found ∙ z))
       go false false f h p = inr (room_for v kept_name s w ws g 1 h)
       go false true f h p = absurd (false≢true p)

@@ -9,7 +9,7 @@ use Rattle.offset_script.proofs.{Pairs.same_free_sizes, Pairs.same_place_of, Mem
 use Rattle.offset_script.proofs.Members.{in_right}
 use Rattle.offset_allocator.specs.{View.padding_to, Classes.value, Classes.up, declared.moves.room.RoomCost.RoomCost}
 use Rattle.std.specs.Option.{option_or}
-use Rattle.offset_calls.specs.{Calls.answered, Calls.Beside, Calls.beside, Calls.make_room, Calls.RoomMade, Ending.first_live, Ending.last_live, Ending.live_before}
+use Rattle.offset_calls.specs.{Calls.answered, Calls.Found, Calls.beside, Calls.make_room, Calls.RoomMade, Ending.first_live, Ending.last_live, Ending.live_before}
 use Rattle.offset_calls.specs.Calls as plain
 use Rattle.offset_calls.specs.{Ending.live_after, Histories.goes_by_begin, Room.Split, Room.cheapest}
 use Rattle.offset_calls.specs.declared.calls.LiveRange.{LiveRange}
@@ -175,7 +175,7 @@ module _ (s t : State) (a : IsSameSpace s t) where
       → f (record { before = lefts xs; block = left q; after = lefts ys }) ≡ f (record { before = rights xs; block = right q; after = rights ys }))
       → (o o' : Option machine.Place) → IsSamePlace (λ q. Unit {0}) a.blocks.pairs o o' → without_offset (beside f o) ≡ without_offset (beside f o')
   beside_reply f same None None neither = refl
-  beside_reply f same o o' (both xs q ys e u) = ap Beside (same xs q ys (λ x i. subst (IsIn x) (sym e) (in_parts x xs q ys i)))
+  beside_reply f same o o' (both xs q ys e u) = ap Found (same xs q ys (λ x i. subst (IsIn x) (sym e) (in_parts x xs q ys i)))
 
   next_reply : (c : Call) → goes_by_begin c ≡ false → without_offset (step c s).reply ≡ without_offset (step c t).reply
   next_reply (call.Command c) other = ap Answer (same_next s t a c)
@@ -186,8 +186,8 @@ module _ (s t : State) (a : IsSameSpace s t) where
   next_reply (call.CompactWithin n from u m) other = within_reply n _ _ (both_sides (first_run (longest_that (is_within u m)) n from 0) (same_within u m n from 0 a.blocks.pairs))
   next_reply (call.Offset k) other = ap without_offset (offset_reply _ _ (placed k))
   next_reply (call.Refusal n) other = ap Refusal (reason_reply 1 n)
-  next_reply (call.Tight n) other = tight_reply n 1
-  next_reply (call.TightAligned n align) other = tight_reply n align
+  next_reply (call.AllocateTight n) other = tight_reply n 1
+  next_reply (call.AllocateTightAligned n align) other = tight_reply n align
   next_reply (call.AllocateAt offset n) other = ap Answer (at_reply offset n _ _ (last_places offset))
   next_reply (call.RefusalTight n) other = ap Refusal (held_reason 1 n 1)
   next_reply (call.RefusalTightAligned n align) other = ap Refusal (held_reason (if nat_le align 1 then 1 else 2) n align)
@@ -202,12 +202,12 @@ module _ (s t : State) (a : IsSameSpace s t) where
   next_reply (call.RelocateAligned k align) other = absurd (true≢false other)
   next_reply (call.Retract n) other = if_same (λ (x y : Outcome). without_offset x.reply ≡ without_offset y.reply) _ _ _ _ _ _
       (ap (nat_le n) (ap machine.units_at_end a.blocks.left_blocks ∙ same_free_end a.blocks.pairs ∙ ap machine.units_at_end (sym a.blocks.right_blocks))) (λ z. refl) refl
-  next_reply call.First other = ap Beside (ap (first_live 0) a.blocks.left_blocks ∙ sent_first (λ n. n) 0 a.blocks.pairs sent_all ∙ sent_none (first_live 0 (rights a.blocks.pairs))
+  next_reply call.FirstLive other = ap Found (ap (first_live 0) a.blocks.left_blocks ∙ sent_first (λ n. n) 0 a.blocks.pairs sent_all ∙ sent_none (first_live 0 (rights a.blocks.pairs))
       ∙ ap (first_live 0) (sym a.blocks.right_blocks))
-  next_reply call.Last other = ap Beside (ap (last_live 0) a.blocks.left_blocks ∙ sent_last (λ n. n) 0 a.blocks.pairs sent_all ∙ sent_none (last_live 0 (rights a.blocks.pairs))
+  next_reply call.LastLive other = ap Found (ap (last_live 0) a.blocks.left_blocks ∙ sent_last (λ n. n) 0 a.blocks.pairs sent_all ∙ sent_none (last_live 0 (rights a.blocks.pairs))
       ∙ ap (last_live 0) (sym a.blocks.right_blocks))
-  next_reply (call.Before k) other = beside_reply live_before (λ xs q ys i. sent_last (λ n. n) 0 xs (λ x j. sent_all x (i x (inl j))) ∙ sent_none (last_live 0 (rights xs))) _ _ (placed k)
-  next_reply (call.After k) other = beside_reply live_after
+  next_reply (call.LiveBefore k) other = beside_reply live_before (λ xs q ys i. sent_last (λ n. n) 0 xs (λ x j. sent_all x (i x (inl j))) ∙ sent_none (last_live 0 (rights xs))) _ _ (placed k)
+  next_reply (call.LiveAfter k) other = beside_reply live_after
       (λ xs q ys i. sent_first (λ n. n) (total (lefts xs) + q.size) ys (λ x j. sent_all x (i x (inr j))) ∙ sent_none (first_live (total (lefts xs) + q.size) (rights ys))
       ∙ ap (λ m. first_live (m + q.size) (rights ys)) (same_total xs)) _ _ (placed k)
   next_reply (call.RefusalAligned n align) other = ap₂ (λ x y. Refusal (if nat_le align 1 then x else y)) (reason_reply 1 n) (reason_reply 2 (n + align - 1))

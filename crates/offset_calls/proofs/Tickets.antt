@@ -2,7 +2,7 @@
 use Rattle.offset_calls.proofs.Common.{◌≡◌, ◌≢◌, ℕ, zero, suc, ◌+◌, ◌<◌, Bool, ◌&&◌, List, [], ◌∷◌, ◌++◌, length, Option, Some, None, IfSome, is_some, nat_eq, slice_get, slice_index_or, slice_set}
 use Rattle.offset_calls.proofs.Common.{option_map, if◌then◌else◌, refl, sym, ap, ap₂, subst, ◌∙◌, inl, inr, arith, length-append, false≢true, map-append, length-map, Handle, View, Ticket, Guard}
 use Rattle.offset_calls.proofs.Common.{AreAlike, Grants, IsLive, IsSame, KeepsAll, KeepsLive, KeepsOthers, KeepsSerials, KeepsSizes, handle_in, range_of, serial_of, Extends, Frees, Resets, Command}
-use Rattle.offset_calls.proofs.Common.{kept_name, IsKept, Call, Answer, Reply, Takes, renumber, AreInOrder, IsGrown, IsLedger, IsStored, Serves, IsNumberOf}
+use Rattle.offset_calls.proofs.Common.{kept_name, IsKept, Call, Answer, Reply, Takes, renumber, AreInOrder, IsGrown, AreAllTickets, IsStored, TakesTicket, IsNumberOf}
 use Rattle.offset_calls.proofs.Common.{handle_of, handles_of, live_name, ticket_of}
 use Rattle.offset_allocator.specs.{View.free_sizes, Reporting.FreeSizes.rows_below}
 use Rattle.offset_guarded.proofs.Guards.{live_fits}
@@ -58,20 +58,20 @@ freed_handles g h t u realm n (x ∷ ts) zero o e a k gone =
 freed_handles g h t u realm n (x ∷ ts) (suc i) o e a k gone = search (arith, (freed_handles g h t u realm (n + 1) ts i o.2 e a k gone), is_some, in_order)
 
 -- one more ticket has one more handle
-pub more_handles : (size : ℕ) (g h : Guard) (ts : List Ticket) (t : Ticket) → IsLedger g ts → Grants size g h t → handles_of h (ts ++ t ∷ []) ≡ handles_of g ts ++ Some (handle_in t) ∷ []
+pub more_handles : (size : ℕ) (g h : Guard) (ts : List Ticket) (t : Ticket) → AreAllTickets g ts → Grants size g h t → handles_of h (ts ++ t ∷ []) ≡ handles_of g ts ++ Some (handle_in t) ∷ []
 more_handles size g h ts t is n =
     map-append (handle_of h) ts (t ∷ [])
     ∙ ap₂ (λ b l. l ++ handle_if b t ∷ []) (ap is_some n.range) (other_handles g h t g.realm 0 ts is.order n.others (λ i l d. let s = n.serial in let a = is.all in omega arith))
 
-pub more_ledger : (size : ℕ) (g h : Guard) (ts : List Ticket) (t : Ticket) → IsLedger g ts → Grants size g h t → IsLedger h (ts ++ t ∷ [])
+pub more_ledger : (size : ℕ) (g h : Guard) (ts : List Ticket) (t : Ticket) → AreAllTickets g ts → Grants size g h t → AreAllTickets h (ts ++ t ∷ [])
 more_ledger size g h ts t is n = search (arith, order-append, length-append)
 
 -- at the start there is none
-pub no_tickets : (g : Guard) (ts : List Ticket) → ts ≡ [] → g.given ≡ 0 → IsLedger g ts
+pub no_tickets : (g : Guard) (ts : List Ticket) → ts ≡ [] → g.given ≡ 0 → AreAllTickets g ts
 no_tickets g ts e n = record { order = subst (AreInOrder g.realm 0) (sym e) tt; all = ap length e ∙ sym n }
 
 -- the tickets stay those of all grants
-pub same_ledger : (g h : Guard) (ts : List Ticket) → IsLedger g ts → h.realm ≡ g.realm → h.given ≡ g.given → IsLedger h ts
+pub same_ledger : (g h : Guard) (ts : List Ticket) → AreAllTickets g ts → h.realm ≡ g.realm → h.given ≡ g.given → AreAllTickets h ts
 same_ledger g h ts is r n = record { order = subst (λ r. AreInOrder r 0 ts) (sym r) is.order; all = is.all ∙ sym n }
 
 -- ---- numbers
@@ -95,7 +95,7 @@ pub kept_live : (g : Guard) (ts : List Ticket) (k x : ℕ) → kept_name (handle
 kept_live g ts k x e none = search (arith, kept_ticket, false≢true, is_some)
 
 -- it is the serial of that ticket
-pub kept_serial : (g : Guard) (ts : List Ticket) (k x : ℕ) → IsLedger g ts → kept_name (handles_of g ts) k ≡ Some x → serial_of x g ≡ k
+pub kept_serial : (g : Guard) (ts : List Ticket) (k x : ℕ) → AreAllTickets g ts → kept_name (handles_of g ts) k ≡ Some x → serial_of x g ≡ k
 kept_serial g ts zero x is e = absurd (cc)
 kept_serial g ts (suc k) x is e =
     let u = kept_ticket g ts (suc k) x e in
@@ -111,12 +111,12 @@ same_live : (g h : Guard) → IsSame g h → KeepsLive g h
 same_live g h same t = search (arith, is_some, nat_eq)
 
 -- a request
-pub stored : (n : ℕ) (g h : Guard) (ts us : List Ticket) (r : Option Ticket) (a : machine.Answer) → IsLedger g ts → IfSome r (Grants n g h) → (r ≡ None → IsSame g h) → IsStored r ts us a
-    → IsKept (option_map handle_in r) (handles_of g ts) (handles_of h us) a × IsLedger h us × IsGrown ts us (Answer a) × (h.realm ≡ g.realm)
+pub stored : (n : ℕ) (g h : Guard) (ts us : List Ticket) (r : Option Ticket) (a : machine.Answer) → AreAllTickets g ts → IfSome r (Grants n g h) → (r ≡ None → IsSame g h) → IsStored r ts us a
+    → IsKept (option_map handle_in r) (handles_of g ts) (handles_of h us) a × AreAllTickets h us × IsGrown ts us (Answer a) × (h.realm ≡ g.realm)
 stored n g h ts us None a is some none f = search (arith, same_handles, same_live, same_ledger)
 stored n g h ts us (Some t) a is some none f = (
   (ap (handles_of h) f.0 ∙ more_handles n g h ts t is some, f.1 ∙ ap (λ k. machine.Grant k t.offset) (sym (length-map us (handle_of h)))),
-  subst (IsLedger h) (sym f.0) (more_ledger n g h ts t is some),
+  subst (AreAllTickets h) (sym f.0) (more_ledger n g h ts t is some),
   inr (t, f.0, ap Answer (f.1 ∙ ap (λ k. machine.Grant k t.offset) (ap length f.0 ∙ omega (arith, length-append ts (t ∷ []), is.all, some.serial)))),
   some.realm.1,
 )
@@ -130,20 +130,20 @@ pub alike : (t u : Ticket) (g : Guard) → IsLive t g → IsLive u g → u.name 
 alike t u g lt lu e = search (arith, live_fits)
 
 -- a release
-pub freed : (g h : Guard) (ts : List Ticket) (t : Ticket) (k : ℕ) → IsLedger g ts → IsNumberOf k (Some t) g ts → IsLive t g → Frees t.name g.space h.space → KeepsOthers t g h → range_of t h ≡ None
+pub freed : (g h : Guard) (ts : List Ticket) (t : Ticket) (k : ℕ) → AreAllTickets g ts → IsNumberOf k (Some t) g ts → IsLive t g → Frees t.name g.space h.space → KeepsOthers t g h → range_of t h ≡ None
     → h ≡ record g { space = h.space }
-    → Serves (call.Command (command.Free k)) g ts h ts (Answer machine.Freed)
+    → TakesTicket (call.Command (command.Free k)) g ts h ts (Answer machine.Freed)
 freed g h ts t k is is_number live frees others gone same = search (arith, if_some, same_ledger, live_named_by, kept_ticket, slice_set, freed_handles, alike)
 
 -- a reset
-pub emptied : (g h : Guard) (ts : List Ticket) → IsLedger g ts → Resets g.space h.space → ((t : Ticket) → range_of t h ≡ None) → h ≡ record g { space = h.space }
-    → Serves (call.Command command.Reset) g ts h ts (Answer machine.Reset)
+pub emptied : (g h : Guard) (ts : List Ticket) → AreAllTickets g ts → Resets g.space h.space → ((t : Ticket) → range_of t h ≡ None) → h ≡ record g { space = h.space }
+    → TakesTicket (call.Command command.Reset) g ts h ts (Answer machine.Reset)
 emptied g h ts is resets gone same = search (arith, length-map, kept_of, same_ledger, option_map, is_some)
 
 -- an extension
-pub extended : (more : ℕ) (g h : Guard) (ts : List Ticket) (done : Bool) (a : machine.Answer) → IsLedger g ts → Extends more g.space h.space done → KeepsAll g h → KeepsSerials g h
+pub extended : (more : ℕ) (g h : Guard) (ts : List Ticket) (done : Bool) (a : machine.Answer) → AreAllTickets g ts → Extends more g.space h.space done → KeepsAll g h → KeepsSerials g h
     → a ≡ (if done then machine.Extended else machine.Refused)
-    → Serves (call.Command (command.Extend more)) g ts h ts (Answer a)
+    → TakesTicket (call.Command (command.Extend more)) g ts h ts (Answer a)
 extended more g h ts done a is extends keeps same e = search (arith, same_handles, is_some, same_ledger)
 
 -- where sizes stay, tickets do
@@ -151,17 +151,17 @@ pub sizes_live : (g h : Guard) → KeepsSizes g h → KeepsLive g h
 sizes_live g h same t = search (arith, is_some, option_map)
 
 -- a call that gives no ticket, and leaves serials, sizes and handles
-pub slid_serves : (c : Call) (g h : Guard) (ts : List Ticket) (r : Reply) → IsLedger g ts → KeepsSizes g h → h ≡ record g { space = h.space }
-    → Takes c g.space (handles_of g ts) h.space (handles_of g ts) r → Serves c g ts h ts r
+pub slid_serves : (c : Call) (g h : Guard) (ts : List Ticket) (r : Reply) → AreAllTickets g ts → KeepsSizes g h → h ≡ record g { space = h.space }
+    → Takes c g.space (handles_of g ts) h.space (handles_of g ts) r → TakesTicket c g ts h ts r
 slid_serves c g h ts r is sizes serials t = record {
   takes = subst (λ l. Takes c g.space (handles_of g ts) h.space l r) (sym (same_handles g h ts (sizes_live g h sizes))) t;
-  ledger = same_ledger g h ts is (ap (λ (g : Guard). g.realm) serials) (ap (λ (g : Guard). g.given) serials);
+  all_tickets = same_ledger g h ts is (ap (λ (g : Guard). g.realm) serials) (ap (λ (g : Guard). g.given) serials);
   grown = inl refl;
   realm = ap (λ (g : Guard). g.realm) serials;
 }
 
 -- after it the number of a name is its serial, and the name is live
-module _ (g h : Guard) (ts : List Ticket) (is : IsLedger g ts) (sizes : KeepsSizes g h) (serials : h ≡ record g { space = h.space }) (k x : ℕ) (e : kept_name (handles_of g ts) k ≡ Some x) where
+module _ (g h : Guard) (ts : List Ticket) (is : AreAllTickets g ts) (sizes : KeepsSizes g h) (serials : h ≡ record g { space = h.space }) (k x : ℕ) (e : kept_name (handles_of g ts) k ≡ Some x) where
   pub slid_serial : serial_of x h ≡ k
   slid_serial = ap (serial_of x) serials ∙ kept_serial g ts k x is e
 
@@ -169,16 +169,16 @@ module _ (g h : Guard) (ts : List Ticket) (is : IsLedger g ts) (sizes : KeepsSiz
   slid_live = kept_live h ts k x (ap (λ l. kept_name l k) (same_handles g h ts (sizes_live g h sizes)) ∙ e)
 
 -- a question
-pub asked_serves : (c : Call) (g : Guard) (ts : List Ticket) (r : Reply) → IsLedger g ts → Takes c g.space (handles_of g ts) g.space (handles_of g ts) r → Serves c g ts g ts r
+pub asked_serves : (c : Call) (g : Guard) (ts : List Ticket) (r : Reply) → AreAllTickets g ts → Takes c g.space (handles_of g ts) g.space (handles_of g ts) r → TakesTicket c g ts g ts r
 asked_serves c g ts r is t = slid_serves c g g ts r is (λ t. refl) refl t
 
 -- one that the allocator answers, with no ticket
-pub question_serves : (q c : Call) (g : Guard) (ts : List Ticket) (k : ℕ) (v : View) (r : Reply) → IsLedger g ts → c ≡ q → renumber (λ j. k) q ≡ q → v ≡ g.space
-    → ((hs : List (Option Handle)) → Takes q v hs v hs r) → Serves (renumber (λ j. k) c) g ts g ts r
-question_serves q c g ts k v r is e same f t = subst (λ c. Serves c g ts g ts r) (sym (ap (renumber (λ j. k)) e ∙ same))
+pub question_serves : (q c : Call) (g : Guard) (ts : List Ticket) (k : ℕ) (v : View) (r : Reply) → AreAllTickets g ts → c ≡ q → renumber (λ j. k) q ≡ q → v ≡ g.space
+    → ((hs : List (Option Handle)) → Takes q v hs v hs r) → TakesTicket (renumber (λ j. k) c) g ts g ts r
+question_serves q c g ts k v r is e same f t = subst (λ c. TakesTicket c g ts g ts r) (sym (ap (renumber (λ j. k)) e ∙ same))
     (asked_serves q g ts r is (subst (λ v. Takes q v (handles_of g ts) v (handles_of g ts) r) f (t (handles_of g ts))))
 
 -- a full report
-pub full_serves : (g : Guard) (ts : List Ticket) (c : Command) (k : ℕ) (v : View) (a : machine.Answer) → IsLedger g ts → c ≡ command.Full → v ≡ g.space
-    → a ≡ machine.Full (rows_below 256 (free_sizes v.blocks)) → Serves (call.Command (script.renumber (λ j. k) c)) g ts g ts (Answer a)
+pub full_serves : (g : Guard) (ts : List Ticket) (c : Command) (k : ℕ) (v : View) (a : machine.Answer) → AreAllTickets g ts → c ≡ command.Full → v ≡ g.space
+    → a ≡ machine.Full (rows_below 256 (free_sizes v.blocks)) → TakesTicket (call.Command (script.renumber (λ j. k) c)) g ts g ts (Answer a)
 full_serves g ts c k v a is e f r = search (arith)

@@ -47,7 +47,7 @@ pub data Reply : Type 0 where
   Refusal : Option allocator.Refusal → Reply
   RoomMade : Option room.RoomCost → List Move → Reply
   RoomCost : Option room.RoomCost → Reply
-  Beside : Option LiveRange → Reply
+  Found : Option LiveRange → Reply
 
 -- the state that a call leaves, and the reply
 pub record Outcome : Type 0 where
@@ -196,7 +196,7 @@ begin_of other = Answer machine.Refused
 -- the live range beside the block at a place
 abbrev pub beside : (Place → Option LiveRange) → Option Place → Reply
 beside f None = Answer machine.Gone
-beside f (Some p) = Beside (f p)
+beside f (Some p) = Found (f p)
 
 -- why no block is chosen for n units, in a space of this size with this many units free
 abbrev pub shortage : ℕ → ℕ → ℕ → allocator.Refusal
@@ -227,8 +227,8 @@ step (call.Offset k) s = replies_only s (offset_at (place_of k s.blocks))
 step (call.Refusal n) s = replies_only s (Refusal (reason 1 n s))
 step (call.RefusalAligned n align) s =
     replies_only s (Refusal (if nat_le align 1 then reason 1 n s else reason 2 (n + align - 1) s))
-step (call.Tight n) s = answered (allocate_tight n 1 s)
-step (call.TightAligned n align) s = answered (allocate_tight n align s)
+step (call.AllocateTight n) s = answered (allocate_tight n 1 s)
+step (call.AllocateTightAligned n align) s = answered (allocate_tight n align s)
 step (call.AllocateAt offset n) s = answered (allocate_at offset n s)
 step (call.RefusalTight n) s = replies_only s (Refusal (reason_tight n 1 s))
 step (call.RefusalTightAligned n align) s = replies_only s (Refusal (reason_tight n align s))
@@ -242,10 +242,10 @@ step (call.RoomCostBy n align m) s =
 step (call.Relocate k) s = answered (relocate s (place_of k s.blocks))
 step (call.RelocateAligned k align) s = answered (relocate_aligned align s (place_of k s.blocks))
 step (call.Retract n) s = retract n s
-step call.First s = replies_only s (Beside (first_live 0 s.blocks))
-step call.Last s = replies_only s (Beside (last_live 0 s.blocks))
-step (call.Before k) s = replies_only s (beside live_before (place_of k s.blocks))
-step (call.After k) s = replies_only s (beside live_after (place_of k s.blocks))
+step call.FirstLive s = replies_only s (Found (first_live 0 s.blocks))
+step call.LastLive s = replies_only s (Found (last_live 0 s.blocks))
+step (call.LiveBefore k) s = replies_only s (beside live_before (place_of k s.blocks))
+step (call.LiveAfter k) s = replies_only s (beside live_after (place_of k s.blocks))
 
 -- the replies to calls in order
 abbrev pub replies : List Call → State → List Reply
@@ -266,7 +266,7 @@ is_command other = false
 abbrev pub is_valid : Call → Bool
 is_valid (call.Command c) = has_valid_alignment c
 is_valid (call.RefusalAligned n align) = nat_le 1 align
-is_valid (call.TightAligned n align) = nat_le 1 align
+is_valid (call.AllocateTightAligned n align) = nat_le 1 align
 is_valid (call.RefusalTightAligned n align) = nat_le 1 align
 is_valid (call.WouldBegin n align) = nat_le 1 align
 is_valid (call.RelocateAligned k align) = nat_le 1 align
@@ -292,4 +292,4 @@ reply_view (program_reply.Offset n) = Offset n
 reply_view (program_reply.Refusal r) = Refusal r
 reply_view (program_reply.RoomMade c ms) = RoomMade c (map move_view ms.items)
 reply_view (program_reply.RoomCost c) = RoomCost c
-reply_view (program_reply.Beside r) = Beside r
+reply_view (program_reply.Found r) = Found r

@@ -8,7 +8,7 @@ use Rattle.offset_script.specs.Machine.{State}
 use Rattle.offset_calls.specs.declared.calls.Call.{Call}
 use Rattle.offset_calls.specs.declared.calls.Call.TheVariants as call
 use Rattle.offset_calls.specs.declared.calls.LiveRange.{LiveRange}
-use Rattle.offset_calls.specs.Calls.{Move, Reply, Answer, Compacted, CompactedWithin, RoomMade, Beside, Outcome, replies, step}
+use Rattle.offset_calls.specs.Calls.{Move, Reply, Answer, Compacted, CompactedWithin, RoomMade, Found, Outcome, replies, step}
 use Rattle.offset_calls.specs.Steps.{Takes}
 use Rattle.offset_script.specs.declared.scripts.Command.TheVariants as command
 
@@ -20,8 +20,8 @@ renumber r (call.Grow k n) = call.Grow (r k) n
 renumber r (call.Offset k) = call.Offset (r k)
 renumber r (call.Relocate k) = call.Relocate (r k)
 renumber r (call.RelocateAligned k align) = call.RelocateAligned (r k) align
-renumber r (call.Before k) = call.Before (r k)
-renumber r (call.After k) = call.After (r k)
+renumber r (call.LiveBefore k) = call.LiveBefore (r k)
+renumber r (call.LiveAfter k) = call.LiveAfter (r k)
 renumber r other = other
 
 -- a grant number as it is with j further grants after the first g
@@ -42,7 +42,7 @@ raise g j (Answer a) = Answer (raise_number j a)
 raise g j (Compacted ms) = Compacted (map (raise_move g j) ms)
 raise g j (CompactedWithin p ms) = CompactedWithin p (map (raise_move g j) ms)
 raise g j (RoomMade c ms) = RoomMade c (map (raise_move g j) ms)
-raise g j (Beside r) = Beside (option_map (raise_range g j) r)
+raise g j (Found r) = Found (option_map (raise_range g j) r)
 raise g j other = other
 
 -- the replies from s on, numbered as those from t on, where t has made more grants
@@ -61,10 +61,10 @@ IsQuestion (call.RefusalTightAligned n align) = Unit {0}
 IsQuestion (call.WouldBegin n align) = Unit {0}
 IsQuestion (call.RoomCost n) = Unit {0}
 IsQuestion (call.RoomCostBy n align m) = Unit {0}
-IsQuestion call.First = Unit {0}
-IsQuestion call.Last = Unit {0}
-IsQuestion (call.Before k) = Unit {0}
-IsQuestion (call.After k) = Unit {0}
+IsQuestion call.FirstLive = Unit {0}
+IsQuestion call.LastLive = Unit {0}
+IsQuestion (call.LiveBefore k) = Unit {0}
+IsQuestion (call.LiveAfter k) = Unit {0}
 IsQuestion other = ⊥
 
 -- a reply without the offset of a new grant

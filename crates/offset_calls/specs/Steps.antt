@@ -14,7 +14,7 @@ use Rattle.offset_allocator.specs.Classes.{value, up}
 use Rattle.offset_allocator.specs.Moving.Room.{IsLeastCost}
 use Rattle.offset_allocator.specs.Moving.RoomBySteps.{IsLeastCostBy, names_short}
 use Rattle.offset_allocator.specs.declared.moves.budget.Progress.{Progress}
-use Rattle.offset_allocator.specs.Reporting.Beside as named_beside
+use Rattle.offset_allocator.specs.Reporting.Walking as named_beside
 use Rattle.offset_allocator.specs.Moving.Relocating.{Relocates, RelocatesAligned, WouldBegin}
 use Rattle.offset_allocator.specs.Moving.Retracting.{Retracts}
 use Rattle.offset_allocator.specs.AtPlace.{AllocatesAt}
@@ -24,7 +24,7 @@ use Rattle.offset_script.specs.Machine as machine
 use Rattle.offset_script.specs.Steps as script
 use Rattle.offset_calls.specs.declared.calls.Call.{Call}
 use Rattle.offset_calls.specs.declared.calls.Call.TheVariants as call
-use Rattle.offset_calls.specs.Calls.{Move, Reply, Answer, Resized, Compacted, CompactedWithin, Offset, RoomMade, Beside}
+use Rattle.offset_calls.specs.Calls.{Move, Reply, Answer, Resized, Compacted, CompactedWithin, Offset, RoomMade, Found}
 use Rattle.offset_calls.specs.Calls as reply
 use Rattle.offset_calls.specs.Slides.{IsMade, IsMadeBy, IsMovedWithin}
 use Rattle.offset_calls.specs.declared.calls.LiveRange.{LiveRange}
@@ -93,7 +93,7 @@ IsNumbered handles g r = ⊥
 
 -- the reply to a question for this live range, or for none
 abbrev pub Finds : List (Option Handle) → Option Handle → Reply → Type 0
-Finds handles g r = (found : Option LiveRange) × IsNumbered handles g found × (r ≡ Beside found)
+Finds handles g r = (found : Option LiveRange) × IsNumbered handles g found × (r ≡ Found found)
 
 -- the step of a call from the view v to the view w, with this reply: the handles of the grants so far are those in
 -- `handles` before it, and in `later` after it, that of grant k at k - 1 while the grant is live
@@ -120,8 +120,8 @@ Takes (call.Refusal n) v handles w later r = Stays v handles w later
     × ((why : Option Refusal) × IsReason 1 n v why × (r ≡ reply.Refusal why))
 Takes (call.RefusalAligned n align) v handles w later r = Stays v handles w later
     × ((why : Option Refusal) × IsReason (blocks_needed align) (units_needed n align) v why × (r ≡ reply.Refusal why))
-Takes (call.Tight n) v handles w later r = TakesTight n 1 v handles w later r
-Takes (call.TightAligned n align) v handles w later r = TakesTight n align v handles w later r
+Takes (call.AllocateTight n) v handles w later r = TakesTight n 1 v handles w later r
+Takes (call.AllocateTightAligned n align) v handles w later r = TakesTight n align v handles w later r
 Takes (call.AllocateAt offset n) v handles w later r = TakesAt offset n v handles w later r
 Takes (call.RefusalTight n) v handles w later r = Stays v handles w later
     × ((why : Option Refusal) × IsReasonTight n 1 v why × (r ≡ reply.Refusal why))
@@ -148,12 +148,12 @@ Takes (call.RelocateAligned k align) v handles w later r = (1 ≤ align) × IfNa
     (Stays v handles w later × (r ≡ Answer machine.Gone))
 Takes (call.Retract n) v handles w later r = (done : Bool) × Retracts n v w done × (later ≡ handles)
     × (r ≡ (if done then Resized else Answer machine.Refused))
-Takes call.First v handles w later r = Stays v handles w later × Finds handles (named_beside.first_live v) r
-Takes call.Last v handles w later r = Stays v handles w later × Finds handles (named_beside.last_live v) r
-Takes (call.Before k) v handles w later r = Stays v handles w later
+Takes call.FirstLive v handles w later r = Stays v handles w later × Finds handles (named_beside.first_live v) r
+Takes call.LastLive v handles w later r = Stays v handles w later × Finds handles (named_beside.last_live v) r
+Takes (call.LiveBefore k) v handles w later r = Stays v handles w later
     × IfNamed (kept_name handles k) (λ x. Finds handles (named_beside.live_before x v) r)
     (r ≡ Answer machine.Gone)
-Takes (call.After k) v handles w later r = Stays v handles w later
+Takes (call.LiveAfter k) v handles w later r = Stays v handles w later
     × IfNamed (kept_name handles k) (λ x. Finds handles (named_beside.live_after x v) r)
     (r ≡ Answer machine.Gone)
 

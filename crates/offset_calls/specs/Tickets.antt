@@ -51,8 +51,8 @@ number_in (call.Grow k n) = k
 number_in (call.Offset k) = k
 number_in (call.Relocate k) = k
 number_in (call.RelocateAligned k align) = k
-number_in (call.Before k) = k
-number_in (call.After k) = k
+number_in (call.LiveBefore k) = k
+number_in (call.LiveAfter k) = k
 number_in other = 0
 
 -- the ticket that a call passes, if there is one
@@ -79,7 +79,7 @@ AreInOrder realm n [] = Unit {0}
 AreInOrder realm n (t ∷ ts) = (t.serial ≡ n + 1) × (t.realm ≡ realm) × AreInOrder realm (n + 1) ts
 
 -- these are the tickets of all grants so far
-pub record IsLedger (g : Guard) (ts : List Ticket) : Type 0 where
+pub record AreAllTickets (g : Guard) (ts : List Ticket) : Type 0 where
   pub order : AreInOrder g.realm 0 ts
   pub all : length ts ≡ g.given
 
@@ -97,9 +97,9 @@ IsGrown ts us r = (us ≡ ts) ⊎ ((t : Ticket) × (us ≡ ts ++ t ∷ []) × (r
 
 -- the step of a call from one guarded allocator to the next, with this reply: before it the tickets of the grants so
 -- far are those in `ts`, and after it those in `us`; the realm stays
-pub record Serves (c : Call) (g : Guard) (ts : List Ticket) (h : Guard) (us : List Ticket) (r : Reply) : Type 0 where
+pub record TakesTicket (c : Call) (g : Guard) (ts : List Ticket) (h : Guard) (us : List Ticket) (r : Reply) : Type 0 where
   pub takes : Takes c g.space (handles_of g ts) h.space (handles_of h us) r
-  pub ledger : IsLedger h us
+  pub all_tickets : AreAllTickets h us
   pub grown : IsGrown ts us r
   pub realm : h.realm ≡ g.realm
 
@@ -107,7 +107,7 @@ pub record Serves (c : Call) (g : Guard) (ts : List Ticket) (h : Guard) (us : Li
 -- in `ts`, and leave h and the tickets in `us`
 abbrev pub AreServed : Guard → List Ticket → List TicketCall → List Reply → Guard → List Ticket → Type 0
 AreServed g ts [] [] h us = (h ≡ g) × (us ≡ ts)
-AreServed g ts (c ∷ cs) (r ∷ rs) h us = (i : Guard) × (now : List Ticket) × Serves (meant ts c) g ts i now r
+AreServed g ts (c ∷ cs) (r ∷ rs) h us = (i : Guard) × (now : List Ticket) × TakesTicket (meant ts c) g ts i now r
     × IsWellFormed i.space × AreServed i now cs rs h us
 AreServed g ts cs rs h us = ⊥
 

@@ -78,10 +78,10 @@ fn find<NI: NodeIndex>(
 {
     numbers.read(handles, names)?;
     match found {
-        None => Ok(Reply::Beside(None)),
+        None => Ok(Reply::Found(None)),
         Some(handle) => {
             let (offset, name) = handle.to_parts();
-            Ok(Reply::Beside(Some(LiveRange {
+            Ok(Reply::Found(Some(LiveRange {
                 number: numbers.of(name),
                 offset,
             })))
@@ -97,7 +97,7 @@ pub(crate) fn first_live<T: Tables>(
 ) -> Result<Reply, AllocError>
     requires kept { AreKept player.now.space player.now.handles.items }
     requires numbers { AreNumbers player.now.handles.items numbers.old.grants numbers.old.by_name.items }
-    ensures takes { IfOk result (λ r. Takes Call.First player.now.space player.now.handles.items
+    ensures takes { IfOk result (λ r. Takes Call.FirstLive player.now.space player.now.handles.items
         player.now.space player.now.handles.items (reply_view r)) }
     ensures numbers { AreNumbers player.now.handles.items numbers.new.grants numbers.new.by_name.items }
 {
@@ -113,7 +113,7 @@ pub(crate) fn last_live<T: Tables>(
 ) -> Result<Reply, AllocError>
     requires kept { AreKept player.now.space player.now.handles.items }
     requires numbers { AreNumbers player.now.handles.items numbers.old.grants numbers.old.by_name.items }
-    ensures takes { IfOk result (λ r. Takes Call.Last player.now.space player.now.handles.items
+    ensures takes { IfOk result (λ r. Takes Call.LastLive player.now.space player.now.handles.items
         player.now.space player.now.handles.items (reply_view r)) }
     ensures numbers { AreNumbers player.now.handles.items numbers.new.grants numbers.new.by_name.items }
 {
@@ -130,7 +130,7 @@ pub(crate) fn live_before<T: Tables>(
 ) -> Result<Reply, AllocError>
     requires kept { AreKept player.now.space player.now.handles.items }
     requires numbers { AreNumbers player.now.handles.items numbers.old.grants numbers.old.by_name.items }
-    ensures takes { IfOk result (λ r. Takes (Call.Before number) player.now.space player.now.handles.items
+    ensures takes { IfOk result (λ r. Takes (Call.LiveBefore number) player.now.space player.now.handles.items
         player.now.space player.now.handles.items (reply_view r)) }
     ensures numbers { AreNumbers player.now.handles.items numbers.new.grants numbers.new.by_name.items }
 {
@@ -150,7 +150,7 @@ pub(crate) fn live_after<T: Tables>(
 ) -> Result<Reply, AllocError>
     requires kept { AreKept player.now.space player.now.handles.items }
     requires numbers { AreNumbers player.now.handles.items numbers.old.grants numbers.old.by_name.items }
-    ensures takes { IfOk result (λ r. Takes (Call.After number) player.now.space player.now.handles.items
+    ensures takes { IfOk result (λ r. Takes (Call.LiveAfter number) player.now.space player.now.handles.items
         player.now.space player.now.handles.items (reply_view r)) }
     ensures numbers { AreNumbers player.now.handles.items numbers.new.grants numbers.new.by_name.items }
 {

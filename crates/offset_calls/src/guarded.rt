@@ -8,11 +8,11 @@ ghost use Rattle.offset_calls.specs.Calls.{after, is_command, is_valid, replies,
 ghost use Rattle.offset_calls.specs.Histories.{renumber};
 ghost use Rattle.offset_calls.specs.Playing.{IsAppended};
 ghost use Rattle.offset_calls.specs.Steps.{AreKept};
-ghost use Rattle.offset_calls.specs.Tickets.{AreInOrder, IsGrantOf, IsLedger, IsNumberOf, Serves, handles_of, meant, number_in};
+ghost use Rattle.offset_calls.specs.Tickets.{AreInOrder, IsGrantOf, AreAllTickets, IsNumberOf, TakesTicket, handles_of, meant, number_in};
 ghost use Rattle.offset_calls.specs.Tickets.{passed, ticket_of};
 
 use crate::calls::{Call, Reply};
-use crate::desk::{Desk, answer, other};
+use crate::guarded_playing::{TicketPlayer, answer, other};
 use offset_allocator::laws::is_well_formed;
 use offset_allocator::{NodeIndex, Tables};
 use offset_guarded::{GuardedOf, Ticket};
@@ -50,8 +50,8 @@ fn number_in(call: &Call) -> u32
         Call::Offset(number) => *number,
         Call::Relocate(number) => *number,
         Call::RelocateAligned(number, _) => *number,
-        Call::Before(number) => *number,
-        Call::After(number) => *number,
+        Call::LiveBefore(number) => *number,
+        Call::LiveAfter(number) => *number,
         _ => 0,
     }
 }
@@ -83,22 +83,22 @@ fn passed(tickets: &[Ticket], call: &TicketCall) -> Option<Ticket>
 #[inline(never)]
 fn append_other<T: Tables>(
     alloc: Global,
-    desk: &mut Desk<T>,
+    player: &mut TicketPlayer<T>,
     call: &TicketCall,
     replies: &mut Vec<Reply>,
 ) -> Result<(), AllocError>
-    requires ledger { IsLedger desk.old.space desk.old.tickets.items }
-    requires left { HasSerialLeft desk.old.space }
-    requires kept { AreKept desk.old.space.space (handles_of desk.old.space desk.old.tickets.items) }
+    requires all_tickets { AreAllTickets player.old.space player.old.tickets.items }
+    requires left { HasSerialLeft player.old.space }
+    requires kept { AreKept player.old.space.space (handles_of player.old.space player.old.tickets.items) }
     requires valid { IsTrue (is_valid call.now.call) }
     requires rest { is_command call.now.call ≡ false }
-    ensures { IfOk result (λ _. IsAppended (λ r. (k : ℕ) → IsNumberOf k (passed desk.old.tickets.items call.now)
-        desk.old.space desk.old.tickets.items → Serves (renumber (λ j. k) call.now.call)
-        desk.old.space desk.old.tickets.items desk.new.space desk.new.tickets.items r)
+    ensures { IfOk result (λ _. IsAppended (λ r. (k : ℕ) → IsNumberOf k (passed player.old.tickets.items call.now)
+        player.old.space player.old.tickets.items → TakesTicket (renumber (λ j. k) call.now.call)
+        player.old.space player.old.tickets.items player.new.space player.new.tickets.items r)
         replies.old.items replies.new.items) }
 {
-    let ticket = passed(&desk.tickets, call);
-    let reply = other(alloc, desk, call.call, ticket)?;
+    let ticket = passed(&player.tickets, call);
+    let reply = other(alloc, player, call.call, ticket)?;
     replies.push(reply)?;
     Ok(())
 }
@@ -107,27 +107,27 @@ fn append_other<T: Tables>(
 #[inline(always)]
 fn append<T: Tables>(
     alloc: Global,
-    desk: &mut Desk<T>,
+    player: &mut TicketPlayer<T>,
     call: &TicketCall,
     replies: &mut Vec<Reply>,
 ) -> Result<(), AllocError>
-    requires ledger { IsLedger desk.old.space desk.old.tickets.items }
-    requires left { HasSerialLeft desk.old.space }
-    requires kept { AreKept desk.old.space.space (handles_of desk.old.space desk.old.tickets.items) }
+    requires all_tickets { AreAllTickets player.old.space player.old.tickets.items }
+    requires left { HasSerialLeft player.old.space }
+    requires kept { AreKept player.old.space.space (handles_of player.old.space player.old.tickets.items) }
     requires valid { IsTrue (is_valid call.now.call) }
-    ensures { IfOk result (λ _. IsAppended (λ r. (k : ℕ) → IsNumberOf k (passed desk.old.tickets.items call.now)
-        desk.old.space desk.old.tickets.items → Serves (renumber (λ j. k) call.now.call)
-        desk.old.space desk.old.tickets.items desk.new.space desk.new.tickets.items r)
+    ensures { IfOk result (λ _. IsAppended (λ r. (k : ℕ) → IsNumberOf k (passed player.old.tickets.items call.now)
+        player.old.space player.old.tickets.items → TakesTicket (renumber (λ j. k) call.now.call)
+        player.old.space player.old.tickets.items player.new.space player.new.tickets.items r)
         replies.old.items replies.new.items) }
 {
     match call.call {
         Call::Command(command) => {
-            let ticket = passed(&desk.tickets, call);
-            let answer = answer(alloc, desk, command, ticket)?;
+            let ticket = passed(&player.tickets, call);
+            let answer = answer(alloc, player, command, ticket)?;
             replies.push(Reply::Answer(answer))?;
             Ok(())
         }
-        _ => append_other(alloc, desk, call, replies),
+        _ => append_other(alloc, player, call, replies),
     }
 }
 
@@ -143,7 +143,7 @@ fn append<T: Tables>(
 /// It fails only where an allocation fails.
 ///
 /// ```
-/// let call = TicketCall { call: Call::Tight(300), ticket: None };
+/// let call = TicketCall { call: Call::AllocateTight(300), ticket: None };
 /// let played = play_guarded::<offset_allocator::ByNode<u32>>(alloc, 1000, 16, 7, &[call])?;
 /// assert_eq!((played.tickets[0].realm, played.tickets[0].serial), (7, 1));
 /// ```
@@ -172,19 +172,19 @@ pub fn play_guarded<T: Tables>(
     ensures offsets { IfOk result (λ p.
         All (IsGrantOf (map reply_view p.replies.items)) p.tickets.items) }
 {
-    let mut desk: Desk<T> = Desk {
+    let mut player: TicketPlayer<T> = TicketPlayer {
         space: GuardedOf::with_max_allocs(alloc, size, max_allocs, realm)?,
         tickets: Vec::new(alloc),
     };
     // A step of the proof, which does nothing, here and below.
-    is_well_formed(desk.space.allocator());
+    is_well_formed(player.space.allocator());
     let mut replies = Vec::with_capacity(alloc, calls.len())?;
     for call in calls {
-        append(alloc, &mut desk, call, &mut replies)?;
-        is_well_formed(desk.space.allocator());
+        append(alloc, &mut player, call, &mut replies)?;
+        is_well_formed(player.space.allocator());
     }
     Ok(Played {
         replies,
-        tickets: desk.tickets,
+        tickets: player.tickets,
     })
 }

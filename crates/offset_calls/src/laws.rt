@@ -17,7 +17,7 @@ ghost use Rattle.offset_calls.specs.declared.calls.Call.TheVariants as call;
 ghost use Rattle.offset_calls.specs.Calls as plain;
 ghost use Rattle.offset_calls.specs.Calls.{after, replies, step};
 ghost use Rattle.offset_calls.specs.Ending.{with_end};
-ghost use Rattle.offset_calls.specs.Tickets.{AreServed, IsLedger};
+ghost use Rattle.offset_calls.specs.Tickets.{AreServed, AreAllTickets};
 ghost use Rattle.offset_calls.specs.declared.guarded.TicketCall.{TicketCall};
 ghost use Rattle.offset_calls.specs.Histories.{IsQuestion, Runs, goes_by_begin, replies_renumbered, without_offset};
 ghost use Rattle.offset_calls.specs.Histories.{retract_again};
@@ -118,7 +118,7 @@ pub fn a_copy_continues_alike()
 /// `write_state` returns the same bytes, by the law `a_state_is_read_back` of `offset_guarded`.
 pub fn a_guarded_copy_continues_alike()
     ensures { (g g' h h' : Guard) (ts us us' : List Ticket) (cs : List TicketCall)
-        (rs rs' : List plain.Reply) → IsWellFormed g.space → SameGuard g g' → IsLedger g ts
+        (rs rs' : List plain.Reply) → IsWellFormed g.space → SameGuard g g' → AreAllTickets g ts
         → AreServed g ts cs rs h us → AreServed g' ts cs rs' h' us'
         → (rs ≡ rs') × SameState h.space h'.space × (us ≡ us') }
 {}

@@ -10,10 +10,10 @@
 #![tactic(auto)]
 
 mod calls;
-mod desk;
 mod ending;
-mod ending_desk;
 mod guarded;
+mod guarded_ending;
+mod guarded_playing;
 pub mod laws;
 mod numbers;
 mod player;

@@ -79,7 +79,7 @@ impl<T: Tables> CallPlayerOf<T> {
     ///
     /// ```
     /// let mut player = CallPlayer::<u32>::start(alloc, 1000, 16)?;
-    /// assert!(matches!(player.call(alloc, Call::Tight(300))?, Reply::Answer(_)));
+    /// assert!(matches!(player.call(alloc, Call::AllocateTight(300))?, Reply::Answer(_)));
     /// assert!(matches!(player.call(alloc, Call::Shrink(1, 200))?, Reply::Resized));
     /// assert_eq!(player.space().free_units(), 800);
     /// ```
@@ -114,7 +114,7 @@ impl<T: Tables> CallPlayerOf<T> {
     ///
     /// ```
     /// let mut player = CallPlayer::<u32>::start(alloc, 1000, 16)?;
-    /// player.call(alloc, Call::Tight(300))?;
+    /// player.call(alloc, Call::AllocateTight(300))?;
     /// assert!(player.handle(1).is_some());
     /// ```
     pub fn handle(&self, number: u32) -> Option<Allocation<T::Index>>

@@ -71,7 +71,7 @@ fn offset<T: Tables>(player: &PlayerOf<T>, number: u32) -> Reply
 #[inline(never)]
 fn tight<T: Tables>(player: &mut PlayerOf<T>, size: u32) -> Result<Reply, AllocError>
     requires held { AreHeld player.old.space player.old.handles.items }
-    ensures takes { IfOk result (λ r. Takes (Call.Tight size) player.old.space player.old.handles.items
+    ensures takes { IfOk result (λ r. Takes (Call.AllocateTight size) player.old.space player.old.handles.items
         player.new.space player.new.handles.items (reply_view r)) }
     ensures lost { OnErr result (Stays player.old.space player.old.handles.items
         player.new.space player.new.handles.items) }
@@ -90,7 +90,7 @@ fn tight_aligned<T: Tables>(
 ) -> Result<Reply, AllocError>
     requires held { AreHeld player.old.space player.old.handles.items }
     requires alignment { 1 ≤ align }
-    ensures takes { IfOk result (λ r. Takes (Call.TightAligned size align)
+    ensures takes { IfOk result (λ r. Takes (Call.AllocateTightAligned size align)
         player.old.space player.old.handles.items player.new.space player.new.handles.items (reply_view r)) }
     ensures lost { OnErr result (Stays player.old.space player.old.handles.items
         player.new.space player.new.handles.items) }
@@ -182,8 +182,8 @@ fn other<T: Tables>(
         Call::RefusalAligned(size, align) => Ok(Reply::Refusal(
             player.space.refusal_aligned(size, align),
         )),
-        Call::Tight(size) => tight(player, size),
-        Call::TightAligned(size, align) => tight_aligned(player, size, align),
+        Call::AllocateTight(size) => tight(player, size),
+        Call::AllocateTightAligned(size, align) => tight_aligned(player, size, align),
         Call::AllocateAt(offset, size) => allocate_at(player, offset, size),
         Call::RefusalTight(size) => Ok(Reply::Refusal(player.space.refusal_tight(size))),
         Call::RefusalTightAligned(size, align) => Ok(Reply::Refusal(
@@ -199,10 +199,10 @@ fn other<T: Tables>(
         Call::Relocate(number) => ending::relocate(player, number),
         Call::RelocateAligned(number, align) => ending::relocate_aligned(player, number, align),
         Call::Retract(less) => Ok(ending::retract(player, less)),
-        Call::First => ending::first_live(player, numbers),
-        Call::Last => ending::last_live(player, numbers),
-        Call::Before(number) => ending::live_before(player, numbers, number),
-        Call::After(number) => ending::live_after(player, numbers, number),
+        Call::FirstLive => ending::first_live(player, numbers),
+        Call::LastLive => ending::last_live(player, numbers),
+        Call::LiveBefore(number) => ending::live_before(player, numbers, number),
+        Call::LiveAfter(number) => ending::live_after(player, numbers, number),
     }
 }
 
@@ -293,9 +293,9 @@ fn append<T: Tables>(
 /// It fails only where an allocation fails.
 ///
 /// ```
-/// let calls = [Call::Tight(300), Call::MakeRoom(600), Call::Last];
+/// let calls = [Call::AllocateTight(300), Call::MakeRoom(600), Call::LastLive];
 /// let replies = play_calls_of::<offset_allocator::ByField<u16>>(alloc, 1000, 16, &calls)?;
-/// assert!(matches!(replies[2], Reply::Beside(Some(LiveRange { number: 1, offset: 0 }))));
+/// assert!(matches!(replies[2], Reply::Found(Some(LiveRange { number: 1, offset: 0 }))));
 /// ```
 pub fn play_calls_of<T: Tables>(
     alloc: Global,
@@ -328,7 +328,7 @@ pub fn play_calls_of<T: Tables>(
 /// `play_calls_of` by node, as `Allocator` is. The limit has to be 2 to `NI::MAX - 2`.
 ///
 /// ```
-/// let replies = play_calls::<u32>(alloc, 1000, 16, &[Call::Tight(300), Call::Shrink(1, 200)])?;
+/// let replies = play_calls::<u32>(alloc, 1000, 16, &[Call::AllocateTight(300), Call::Shrink(1, 200)])?;
 /// assert!(matches!(replies[1], Reply::Resized));
 /// ```
 pub fn play_calls<NI: NodeIndex>(

@@ -18,10 +18,10 @@ ghost use Rattle.offset_calls.specs.Calls.{move_view, reply_view};
 ghost use Rattle.offset_calls.specs.Calls as plain;
 ghost use Rattle.offset_calls.specs.Slides.{IsMade, IsMadeBy, IsMovedWithin, named_move, numbered_move};
 ghost use Rattle.offset_calls.specs.Steps.{AreKept, AreNumbers, Takes, comes_so_far};
-ghost use Rattle.offset_calls.specs.Tickets.{IsLedger, Serves, handles_of};
+ghost use Rattle.offset_calls.specs.Tickets.{AreAllTickets, TakesTicket, handles_of};
 
 use crate::calls::{Moved, Reply};
-use crate::desk::Desk;
+use crate::guarded_playing::TicketPlayer;
 use crate::numbers::Numbers;
 use offset_allocator::{Allocation, AllocatorOf, Move, NodeIndex, Progress, RoomCost, Tables};
 use offset_guarded::GuardedOf;
@@ -466,105 +466,105 @@ fn with_serials<T: Tables>(
 #[inline(never)]
 pub(crate) fn compact_guarded<T: Tables>(
     alloc: Global,
-    desk: &mut Desk<T>,
+    player: &mut TicketPlayer<T>,
 ) -> Result<Reply, AllocError>
-    requires ledger { IsLedger desk.old.space desk.old.tickets.items }
-    requires kept { AreKept desk.old.space.space (handles_of desk.old.space desk.old.tickets.items) }
-    ensures { IfOk result (λ r. Serves Call.Compact desk.old.space desk.old.tickets.items
-        desk.new.space desk.new.tickets.items (reply_view r)) }
+    requires all_tickets { AreAllTickets player.old.space player.old.tickets.items }
+    requires kept { AreKept player.old.space.space (handles_of player.old.space player.old.tickets.items) }
+    ensures { IfOk result (λ r. TakesTicket Call.Compact player.old.space player.old.tickets.items
+        player.new.space player.new.tickets.items (reply_view r)) }
 {
     let mut seen = Slides::new(alloc);
-    compacted_guarded(&mut desk.space, &mut seen);
+    compacted_guarded(&mut player.space, &mut seen);
     if seen.is_refused {
         return Err(AllocError);
     }
-    Ok(Reply::Compacted(with_serials(alloc, &desk.space, &seen.found)?))
+    Ok(Reply::Compacted(with_serials(alloc, &player.space, &seen.found)?))
 }
 
 // The reply to `CompactBy` of a guarded space.
 #[inline(never)]
 pub(crate) fn compact_by_guarded<T: Tables>(
     alloc: Global,
-    desk: &mut Desk<T>,
+    player: &mut TicketPlayer<T>,
     step: u32,
 ) -> Result<Reply, AllocError>
-    requires ledger { IsLedger desk.old.space desk.old.tickets.items }
-    requires kept { AreKept desk.old.space.space (handles_of desk.old.space desk.old.tickets.items) }
+    requires all_tickets { AreAllTickets player.old.space player.old.tickets.items }
+    requires kept { AreKept player.old.space.space (handles_of player.old.space player.old.tickets.items) }
     requires some { 1 ≤ step }
-    ensures { IfOk result (λ r. Serves (Call.CompactBy step) desk.old.space desk.old.tickets.items
-        desk.new.space desk.new.tickets.items (reply_view r)) }
+    ensures { IfOk result (λ r. TakesTicket (Call.CompactBy step) player.old.space player.old.tickets.items
+        player.new.space player.new.tickets.items (reply_view r)) }
 {
     let mut seen = Slides::new(alloc);
-    let done = compacted_by_guarded(&mut desk.space, step, &mut seen);
+    let done = compacted_by_guarded(&mut player.space, step, &mut seen);
     if seen.is_refused {
         return Err(AllocError);
     }
-    Ok(by_steps(done, with_serials(alloc, &desk.space, &seen.found)?))
+    Ok(by_steps(done, with_serials(alloc, &player.space, &seen.found)?))
 }
 
 // The reply to `MakeRoom` of a guarded space.
 #[inline(never)]
 pub(crate) fn make_room_guarded<T: Tables>(
     alloc: Global,
-    desk: &mut Desk<T>,
+    player: &mut TicketPlayer<T>,
     size: u32,
 ) -> Result<Reply, AllocError>
-    requires ledger { IsLedger desk.old.space desk.old.tickets.items }
-    requires kept { AreKept desk.old.space.space (handles_of desk.old.space desk.old.tickets.items) }
-    ensures { IfOk result (λ r. Serves (Call.MakeRoom size) desk.old.space desk.old.tickets.items
-        desk.new.space desk.new.tickets.items (reply_view r)) }
+    requires all_tickets { AreAllTickets player.old.space player.old.tickets.items }
+    requires kept { AreKept player.old.space.space (handles_of player.old.space player.old.tickets.items) }
+    ensures { IfOk result (λ r. TakesTicket (Call.MakeRoom size) player.old.space player.old.tickets.items
+        player.new.space player.new.tickets.items (reply_view r)) }
 {
     let mut seen = Slides::new(alloc);
-    let cost = collect_guarded(&mut desk.space, size, &mut seen);
+    let cost = collect_guarded(&mut player.space, size, &mut seen);
     if seen.is_refused {
         return Err(AllocError);
     }
-    Ok(Reply::RoomMade(cost, with_serials(alloc, &desk.space, &seen.found)?))
+    Ok(Reply::RoomMade(cost, with_serials(alloc, &player.space, &seen.found)?))
 }
 
 // The reply to `MakeRoomBy` of a guarded space.
 #[inline(never)]
 pub(crate) fn make_room_by_guarded<T: Tables>(
     alloc: Global,
-    desk: &mut Desk<T>,
+    player: &mut TicketPlayer<T>,
     size: u32,
     align: u32,
     step: u32,
 ) -> Result<Reply, AllocError>
-    requires ledger { IsLedger desk.old.space desk.old.tickets.items }
-    requires kept { AreKept desk.old.space.space (handles_of desk.old.space desk.old.tickets.items) }
+    requires all_tickets { AreAllTickets player.old.space player.old.tickets.items }
+    requires kept { AreKept player.old.space.space (handles_of player.old.space player.old.tickets.items) }
     requires alignment { 1 ≤ align }
     requires some { 1 ≤ step }
-    ensures { IfOk result (λ r. Serves (Call.MakeRoomBy size align step) desk.old.space desk.old.tickets.items
-        desk.new.space desk.new.tickets.items (reply_view r)) }
+    ensures { IfOk result (λ r. TakesTicket (Call.MakeRoomBy size align step) player.old.space player.old.tickets.items
+        player.new.space player.new.tickets.items (reply_view r)) }
 {
     let mut seen = Slides::new(alloc);
-    let cost = collect_by_guarded(&mut desk.space, size, align, step, &mut seen);
+    let cost = collect_by_guarded(&mut player.space, size, align, step, &mut seen);
     if seen.is_refused {
         return Err(AllocError);
     }
-    Ok(Reply::RoomMade(cost, with_serials(alloc, &desk.space, &seen.found)?))
+    Ok(Reply::RoomMade(cost, with_serials(alloc, &player.space, &seen.found)?))
 }
 
 // The reply to `CompactWithin` of a guarded space.
 #[inline(never)]
 pub(crate) fn compact_within_guarded<T: Tables>(
     alloc: Global,
-    desk: &mut Desk<T>,
+    player: &mut TicketPlayer<T>,
     step: u32,
     from: u32,
     most_units: u32,
     most_ranges: u32,
 ) -> Result<Reply, AllocError>
-    requires ledger { IsLedger desk.old.space desk.old.tickets.items }
-    requires kept { AreKept desk.old.space.space (handles_of desk.old.space desk.old.tickets.items) }
+    requires all_tickets { AreAllTickets player.old.space player.old.tickets.items }
+    requires kept { AreKept player.old.space.space (handles_of player.old.space player.old.tickets.items) }
     requires some { 1 ≤ step }
-    ensures { IfOk result (λ r. Serves (Call.CompactWithin step from most_units most_ranges)
-        desk.old.space desk.old.tickets.items desk.new.space desk.new.tickets.items (reply_view r)) }
+    ensures { IfOk result (λ r. TakesTicket (Call.CompactWithin step from most_units most_ranges)
+        player.old.space player.old.tickets.items player.new.space player.new.tickets.items (reply_view r)) }
 {
     let mut seen = Slides::new(alloc);
     let progress = moved_within_guarded(
-        &mut desk.space,
+        &mut player.space,
         step,
         from,
         most_units,
@@ -574,5 +574,5 @@ pub(crate) fn compact_within_guarded<T: Tables>(
     if seen.is_refused {
         return Err(AllocError);
     }
-    Ok(so_far(progress, with_serials(alloc, &desk.space, &seen.found)?))
+    Ok(so_far(progress, with_serials(alloc, &player.space, &seen.found)?))
 }

@@ -1,7 +1,7 @@
 //! Walks from one live range to the next in space, and what is live at an offset. It changes nothing.
 ghost use Rattle.std.specs.Prelude.{◌≡◌, None, option_map};
 ghost use Rattle.offset_allocator.specs.AtPlace.{in_the_way};
-ghost use Rattle.offset_allocator.specs.Reporting.Beside.{first_live, last_live, live_after, live_before};
+ghost use Rattle.offset_allocator.specs.Reporting.Walking.{first_live, last_live, live_after, live_before};
 ghost use Rattle.offset_allocator.specs.View.{Handle};
 ghost use Rattle.offset_guarded.specs.Guard.{IsLive, ticket_at};
 
@@ -57,7 +57,7 @@ impl<T: Tables> GuardedOf<T> {
         }
     }
 
-    /// The ticket of the live range that has the unit at `offset`, as `Allocator::handle_at` finds it, or `None`
+    /// The ticket of the live range that has the unit at `offset`, as `Allocator::live_at` finds it, or `None`
     /// where that unit is free or not in the space. So a range can be freed by a place in it.
     ///
     /// ```

@@ -18,7 +18,7 @@ use Rattle.offset_guarded.specs.Guard as guarded
 use Rattle.offset_guarded.specs.declared.ticket.Ticket.{Ticket}
 use Rattle.offset_heaps.specs.declared.limits.Limits.{Limits}
 use Rattle.offset_heaps.specs.declared.place.Place.{Place}
-use Rattle.offset_heaps.specs.Changing.{HasNodesFor, blocks_more, Wanted, Less, More, Alters, AltersIn, HasUnits, MakesRoomAt, MakesRoomIn, Resizes, ResizesSpace}
+use Rattle.offset_heaps.specs.Changing.{HasNodesFor, blocks_more, NewSize, Shrunk, Grown, Alters, AltersIn, HasUnits, MakesRoomAt, MakesRoomIn, Resizes, ResizesSpace}
 use Rattle.offset_heaps.specs.Calls.{Notes}
 use Rattle.offset_heaps.specs.Heaps.{HasNodesLeft, Heaps, KeepsOthers, Puts, heap_at, range_in, range_of, slot}
 use Rattle.offset_heaps.specs.{Slots.Changes, Twins.AreTwins, Twins.IsTwin, Twins.IsTwinIn}
@@ -80,10 +80,10 @@ module _ (k : ℕ) (P : Guard → Guard → Type 0) (hs ks : Heaps) (there : k <
       own (Some g) = (g, refl, own_twin g)
 
 -- where it is not done, the heap is as it was
-pub same_space : (how : Wanted) (x : ℕ) (v w : View) → ResizesSpace how x v w false → SameState v w
+pub same_space : (how : NewSize) (x : ℕ) (v w : View) → ResizesSpace how x v w false → SameState v w
 same_space how x v w s = s
 
-pub undone_twin : (how : Wanted) (t : Ticket) (g h : Guard) → Resizes how t false g h → IsTwin g h
+pub undone_twin : (how : NewSize) (t : Ticket) (g h : Guard) → Resizes how t false g h → IsTwin g h
 undone_twin how t g h r = record {
   space = same_space how t.name g.space h.space r.step;
   serials = λ x live. r.serials.cells x;
@@ -92,11 +92,11 @@ undone_twin how t g h r = record {
 }
 
 -- a range in place changes no size and no node limit of the space
-pub same_limits : (how : Wanted) (x : ℕ) (v w : View) (done : Bool) → ResizesSpace how x v w done → (w.size ≡ v.size) × (w.max_allocs ≡ v.max_allocs)
-same_limits (Less n) x v w true (inl s) = (ap (λ (z : View). z.size) s.1, ap (λ (z : View). z.max_allocs) s.1)
-same_limits (Less n) x v w true (inr s) = (ap (λ (z : View). z.size) s.2.view, ap (λ (z : View). z.max_allocs) s.2.view)
-same_limits (More n) x v w true (inl s) = (ap (λ (z : View). z.size) s.1, ap (λ (z : View). z.max_allocs) s.1)
-same_limits (More n) x v w true (inr s) = (ap (λ (z : View). z.size) s.2.view, ap (λ (z : View). z.max_allocs) s.2.view)
+pub same_limits : (how : NewSize) (x : ℕ) (v w : View) (done : Bool) → ResizesSpace how x v w done → (w.size ≡ v.size) × (w.max_allocs ≡ v.max_allocs)
+same_limits (Shrunk n) x v w true (inl s) = (ap (λ (z : View). z.size) s.1, ap (λ (z : View). z.max_allocs) s.1)
+same_limits (Shrunk n) x v w true (inr s) = (ap (λ (z : View). z.size) s.2.view, ap (λ (z : View). z.max_allocs) s.2.view)
+same_limits (Grown n) x v w true (inl s) = (ap (λ (z : View). z.size) s.1, ap (λ (z : View). z.max_allocs) s.1)
+same_limits (Grown n) x v w true (inr s) = (ap (λ (z : View). z.size) s.2.view, ap (λ (z : View). z.max_allocs) s.2.view)
 same_limits how x v w false s = (ap (λ (z : View). z.size) s, ap (λ (z : View). z.max_allocs) s)
 
 -- every other place has the range that it had
@@ -193,10 +193,10 @@ room_blocks R size f c f' g h m = made R (value (up size)) g.space f c h.space f
     ]
 
 -- a heap keeps enough nodes unused, where it has them for this
-pub resized_left : (limits : Limits) (k : ℕ) (how : Wanted) (g h : Guard) → HasNodesFor limits k how g → length h.space.blocks ≤ length g.space.blocks + blocks_more how
+pub resized_left : (limits : Limits) (k : ℕ) (how : NewSize) (g h : Guard) → HasNodesFor limits k how g → length h.space.blocks ≤ length g.space.blocks + blocks_more how
     → h.space.max_allocs ≡ g.space.max_allocs → k < limits.most → HasNodesLeft limits g → min limits.max_allocs (length h.space.blocks + 3) ≤ h.space.max_allocs
-resized_left limits k (More n) g h can few same usual has = omega (arith, few, same, has.2)
-resized_left limits k (Less n) g h can few same usual has = elim (cases_lt g.space.max_allocs limits.max_allocs) [
+resized_left limits k (Grown n) g h can few same usual has = omega (arith, few, same, has.2)
+resized_left limits k (Shrunk n) g h can few same usual has = elim (cases_lt g.space.max_allocs limits.max_allocs) [
   | inr full ↦ omega (arith, full, same)
   | inl below ↦ elim (cases_lt g.space.max_allocs (length g.space.blocks + 4)) [
     | inl near ↦ absurd (can (usual, below, near))
@@ -238,17 +238,17 @@ grown_few x n v w true known (inr s) = let l = (resized_few x n v w s.2).1 (some
     some (b ∷ next) whole = omega arith
 grown_few x n v w false known s = omega (arith, ap (λ (z : View). length z.blocks) s.1)
 
-shrunk_space : (x n : ℕ) (v w : View) (done : Bool) → space.Shrinks x n v w done → ResizesSpace (Less n) x v w done
+shrunk_space : (x n : ℕ) (v w : View) (done : Bool) → space.Shrinks x n v w done → ResizesSpace (Shrunk n) x v w done
 shrunk_space x n v w true s = s
 shrunk_space x n v w false s = s.1
 
-grown_space : (x n : ℕ) (v w : View) (done : Bool) → space.Grows x n v w done → ResizesSpace (More n) x v w done
+grown_space : (x n : ℕ) (v w : View) (done : Bool) → space.Grows x n v w done → ResizesSpace (Grown n) x v w done
 grown_space x n v w true s = s
 grown_space x n v w false s = s.1
 
 module _ (t : Ticket) (n : ℕ) (g h : Guard) (known : IsWellFormed g.space) (serials : guarded.KeepsSerials g h) (kept : guarded.KeepsLive g h) (others : guarded.KeepsOthers t g h)
     (few : h.space.accesses ≤ g.space.accesses + 128) where
-  pub shrunk : (r : Option Bool) → IfSome r (space.Shrinks t.name n g.space h.space) → (r ≡ Some true → guarded.HasUnits t n g h) → IfSome r (λ done. Resizes (Less n) t done g h)
+  pub shrunk : (r : Option Bool) → IfSome r (space.Shrinks t.name n g.space h.space) → (r ≡ Some true → guarded.HasUnits t n g h) → IfSome r (λ done. Resizes (Shrunk n) t done g h)
   shrunk None s range = tt
   shrunk (Some done) s range = record {
     step = shrunk_space t.name n g.space h.space done s;
@@ -260,7 +260,7 @@ module _ (t : Ticket) (n : ℕ) (g h : Guard) (known : IsWellFormed g.space) (se
     accesses = few;
   }
 
-  pub enlarged : (r : Option Bool) → IfSome r (space.Grows t.name n g.space h.space) → (r ≡ Some true → guarded.HasUnits t n g h) → IfSome r (λ done. Resizes (More n) t done g h)
+  pub enlarged : (r : Option Bool) → IfSome r (space.Grows t.name n g.space h.space) → (r ≡ Some true → guarded.HasUnits t n g h) → IfSome r (λ done. Resizes (Grown n) t done g h)
   enlarged None s range = tt
   enlarged (Some done) s range = record {
     step = grown_space t.name n g.space h.space done s;

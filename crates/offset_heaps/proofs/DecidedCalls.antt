@@ -12,7 +12,7 @@ use Rattle.offset_heaps.specs.declared.place.Granted.{Granted}
 use Rattle.offset_heaps.specs.declared.place.Place.{Place}
 use Rattle.offset_heaps.specs.declared.refusal.Refusal.{Refusal}
 use Rattle.offset_heaps.specs.declared.refusal.Refusal.TheVariants.{Memory}
-use Rattle.offset_heaps.specs.Changing.{CanResizeAt, CanResizeIn, ResizesAt, Wanted, Less, More, Alters, CompactsAll, CompactsIn, CompactsSlot, MakesRoomIn, Resizes, ResizesSpace}
+use Rattle.offset_heaps.specs.Changing.{CanResizeAt, CanResizeIn, ResizesAt, NewSize, Shrunk, Grown, Alters, CompactsAll, CompactsIn, CompactsSlot, MakesRoomIn, Resizes, ResizesSpace}
 use Rattle.offset_heaps.specs.Extending.{CanExtendIn, ExtendsIf}
 use Rattle.offset_heaps.specs.Heaps.{Heaps, Grants, IsFirstFit, IsRaisedAsNeeded, IsNext, IsWhy, NoneFits, Puts, heap_at, is_empty, empties, live_of, numbers, part, slot, AreTotals, free_of, largest_room}
 use Rattle.offset_heaps.specs.{Heaps.room_of, Heaps.total, Heaps.units_of_heap, Histories.ResetsAll, State.quiet, Twins.AreTwins, Twins.IsTwin, Twins.IsTwinIn}
@@ -20,7 +20,7 @@ use Rattle.offset_heaps.specs.declared.totals.Totals.{Totals}
 use Rattle.offset_heaps.specs.Relocating.{HasLive, IsEmptiest, NoneLive, TakesRange, granted, live_units_at, units_in, size_of}
 use Rattle.offset_heaps.specs.State as state
 use Rattle.offset_heaps.proofs.{States.slot_quiet, Empties.empty_there, Grants.memory_alone, Grants.none_found, Grants.one_reason, Numbers.slot_there}
-use Rattle.offset_heaps.specs.Calls.{Allocates, TakesAll, Call, Allocate, Allocate_tight, Free, Relocate, Drop_empty, Drop_heap, Give_up, Reset, Resize, Extend_heap, Compact_heap, Compact_all, Make_room, Drops, DropsEmpty, Frees, GivesUp, IsStarved, Lengthens, Relocates, Reply, Requested, Second, Dropped, Was_done, Resized, Extended, Room_made, Takes, TakesRoom, TakesSize, CompactsOne, Notes}
+use Rattle.offset_heaps.specs.Calls.{Allocates, TakesAll, Call, Allocate, Allocate_tight, Free, Relocate, Drop_empty, Drop_heap, Give_up, Reset, Resize, Extend_heap, Compact_heap, Compact_all, Make_room, Drops, DropsEmpty, Frees, GivesUp, IsStarved, ExtendsOne, Relocates, Reply, Requested, Second, Dropped, Was_done, Resized, Extended, Room_made, Takes, MakesRoomOne, TakesSize, CompactsOne, Notes}
 use Rattle.offset_heaps.proofs.Decided.{first_twins, grants_decided, known, known_at, must_in_twins, next_twins, none_fit_twins, one_first, one_fit, one_next, puts_twins, raised_twins, same_twins, why_twins}
 use Rattle.offset_heaps.proofs.DecidedTight.{tights_decided}
 use Rattle.offset_heaps.proofs.Raising.{raised_formed}
@@ -99,31 +99,31 @@ alters_twins k P Q hs hs' ks ks' t a b twin =
 before_twins : (k : ℕ) (P Q : Guard → Guard → Type 0) (hs hs' ks ks' : Heaps) → AreTwins hs hs' → (a : Alters k P hs ks) → (b : Alters k Q hs' ks') → IsTwin a.before b.before
 before_twins k P Q hs hs' ks ks' t a b = some_twin a.before b.before (heap_at k hs) (heap_at k hs') a.heap b.heap (t.heaps k)
 
-space_decided : (how : Wanted) (x : ℕ) (v v' w w' : View) → IsWellFormed v → SameState v v' → (r : Bool) → ResizesSpace how x v w r → ResizesSpace how x v' w' r → SameState w w'
-space_decided (Less n) x v v' w w' known same true s s' = (shrinks_decided x n v v' w w' known same true true s s').1
-space_decided (More n) x v v' w w' known same true s s' = (grows_decided x n v v' w w' known same true true s s').1
+space_decided : (how : NewSize) (x : ℕ) (v v' w w' : View) → IsWellFormed v → SameState v v' → (r : Bool) → ResizesSpace how x v w r → ResizesSpace how x v' w' r → SameState w w'
+space_decided (Shrunk n) x v v' w w' known same true s s' = (shrinks_decided x n v v' w w' known same true true s s').1
+space_decided (Grown n) x v v' w w' known same true s s' = (grows_decided x n v v' w w' known same true true s s').1
 space_decided how x v v' w w' known same false s s' =
     s' ∙ ap (λ (z : View). record z { accesses = w'.accesses }) same ∙ ap (λ (z : View). record z { accesses = w'.accesses }) (sym s)
 
-can_twin : (limits : Limits) (k : ℕ) (how : Wanted) (x : ℕ) (g h : Guard) → IsTwin g h → CanResizeIn limits k how x (Some g) → CanResizeIn limits k how x (Some h)
-can_twin limits k (Less n) x g h t can = subst (λ (z : Guard). CanResizeIn limits k (Less n) x (Some z)) (sym (as_twin g h t)) can
-can_twin limits k (More n) x g h t can = subst (λ (z : Guard). CanResizeIn limits k (More n) x (Some z)) (sym (as_twin g h t)) can
+can_twin : (limits : Limits) (k : ℕ) (how : NewSize) (x : ℕ) (g h : Guard) → IsTwin g h → CanResizeIn limits k how x (Some g) → CanResizeIn limits k how x (Some h)
+can_twin limits k (Shrunk n) x g h t can = subst (λ (z : Guard). CanResizeIn limits k (Shrunk n) x (Some z)) (sym (as_twin g h t)) can
+can_twin limits k (Grown n) x g h t can = subst (λ (z : Guard). CanResizeIn limits k (Grown n) x (Some z)) (sym (as_twin g h t)) can
 
-can_at : (how : Wanted) (p : Place) (hs ks : Heaps) → AreTwins hs ks → CanResizeAt how p hs → CanResizeAt how p ks
+can_at : (how : NewSize) (p : Place) (hs ks : Heaps) → AreTwins hs ks → CanResizeAt how p hs → CanResizeAt how p ks
 can_at how p hs ks t can = subst (λ (l : Limits). CanResizeIn l p.heap how p.ticket.name (heap_at p.heap ks)) (sym t.limits) (go (heap_at p.heap hs) (heap_at p.heap ks) (t.heaps p.heap) can)
   where
     go : (o q : Option Guard) → IsTwinIn o q → CanResizeIn hs.limits p.heap how p.ticket.name o → CanResizeIn hs.limits p.heap how p.ticket.name q
     go None q u can = absurd can
     go (Some g) q u can = subst (CanResizeIn hs.limits p.heap how p.ticket.name) (sym u.1) (can_twin hs.limits p.heap how p.ticket.name g u.0 u.2 can)
 
-size_same : (how : Wanted) (p : Place) (d : Bool) (hs hs' ks ks' : Heaps) → state.IsWellFormed hs → AreTwins hs hs' → ResizesAt how p hs ks d → ResizesAt how p hs' ks' d → AreTwins ks ks'
+size_same : (how : NewSize) (p : Place) (d : Bool) (hs hs' ks ks' : Heaps) → state.IsWellFormed hs → AreTwins hs hs' → ResizesAt how p hs ks d → ResizesAt how p hs' ks' d → AreTwins ks ks'
 size_same how p d hs hs' ks ks' is t a b =
     let P = Resizes how p.ticket d in
     let before = before_twins p.heap P P hs hs' ks ks' t a b in
     let one = space_decided how p.ticket.name a.before.space b.before.space a.after.space b.after.space (known_at hs (known hs is) p.heap a.before a.heap) before.space d a.by.step b.by.step in
     alters_twins p.heap P P hs hs' ks ks' t a b (kept_twins a.before b.before a.after b.after before a.by.serials b.by.serials a.by.kept one)
 
-pub size_decided : (how : Wanted) (p : Place) (hs hs' ks ks' : Heaps) → state.IsWellFormed hs → AreTwins hs hs' → (r r' : Option Bool) → TakesSize how p hs ks r → TakesSize how p hs' ks' r' → (r ≡ r') × AreTwins ks ks'
+pub size_decided : (how : NewSize) (p : Place) (hs hs' ks ks' : Heaps) → state.IsWellFormed hs → AreTwins hs hs' → (r r' : Option Bool) → TakesSize how p hs ks r → TakesSize how p hs' ks' r' → (r ≡ r') × AreTwins ks ks'
 size_decided how p hs hs' ks ks' is t None None x y = (refl, same_twins hs hs' ks ks' t (x.gone refl) (y.gone refl))
 size_decided how p hs hs' ks ks' is t None (Some d) x y = absurd (let e : false ≡ true = x.live.1 (subst (λ o. is_some o ≡ true) (range_twins hs hs' t p) (y.live.0 refl)) in cc)
 size_decided how p hs hs' ks ks' is t (Some d) None x y = absurd (let e : false ≡ true = y.live.1 (subst (λ o. is_some o ≡ true) (sym (range_twins hs hs' t p)) (x.live.0 refl)) in cc)
@@ -140,7 +140,7 @@ can_there : (more : ℕ) (o : Option Guard) → CanExtendIn more o → IsSome o
 can_there more None can = absurd can
 can_there more (Some g) can = refl
 
-pub lengthens_decided : (k more : ℕ) (hs hs' ks ks' : Heaps) → state.IsWellFormed hs → AreTwins hs hs' → (r r' : Result Bool AllocError) → Lengthens k more hs ks r → Lengthens k more hs' ks' r'
+pub lengthens_decided : (k more : ℕ) (hs hs' ks ks' : Heaps) → state.IsWellFormed hs → AreTwins hs hs' → (r r' : Result Bool AllocError) → ExtendsOne k more hs ks r → ExtendsOne k more hs' ks' r'
     → ((e : AllocError) → r ≡ Err e → ⊥) → ((e : AllocError) → r' ≡ Err e → ⊥) → (r ≡ r') × AreTwins ks ks'
 lengthens_decided k more hs hs' ks ks' is t (Err e) r' x y m n = absurd (m e refl)
 lengthens_decided k more hs hs' ks ks' is t (Ok d) (Err e) x y m n = absurd (n e refl)
@@ -190,7 +190,7 @@ compacts_all_decided hs hs' ks ks' t x y = record {
   heaps = λ k. compacted_twins (heap_at k hs) (heap_at k hs') (heap_at k ks) (heap_at k ks') (t.heaps k) (x.heaps k) (y.heaps k);
 }
 
-pub room_decided : (k size : ℕ) (hs hs' ks ks' : Heaps) → state.IsWellFormed hs → AreTwins hs hs' → (r r' : Option RoomCost) → TakesRoom k size hs ks r → TakesRoom k size hs' ks' r' → (r ≡ r') × AreTwins ks ks'
+pub room_decided : (k size : ℕ) (hs hs' ks ks' : Heaps) → state.IsWellFormed hs → AreTwins hs hs' → (r r' : Option RoomCost) → MakesRoomOne k size hs ks r → MakesRoomOne k size hs' ks' r' → (r ≡ r') × AreTwins ks ks'
 room_decided k size hs hs' ks ks' is t r r' x y = go (heap_at k hs) refl
   where
     go : (o : Option Guard) → heap_at k hs ≡ o → (r ≡ r') × AreTwins ks ks'

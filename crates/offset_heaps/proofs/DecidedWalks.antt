@@ -3,7 +3,7 @@ use Rattle.std.proofs.Common.{◌≡◌, ℕ, ◌≤◌, ◌++◌, Bool, true, f
 use Rattle.std.proofs.Common.{◌∙◌, inl, inr, arith}
 use Rattle.std.proofs.lemmas.List.{reverse-append}
 use Rattle.std.specs.List.{AllByRecursion}
-use Rattle.offset_allocator.specs.Reporting.Beside.{HasOffset, IsWalk, last_live, live_before, live_handles}
+use Rattle.offset_allocator.specs.Reporting.Walking.{HasOffset, IsWalk, last_live, live_before, live_handles}
 use Rattle.offset_allocator.specs.{Ranges.Range, View.Handle, View.IsWellFormed, View.View, View.one, View.tally}
 use Rattle.offset_allocator.specs.Ranges as named
 use Rattle.offset_allocator.proofs.{Reporting.AlongLive.all_met, Reporting.AlongLive.backward, Tallies.hit_cases, Tallies.tally_append}

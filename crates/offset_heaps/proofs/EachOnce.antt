@@ -5,7 +5,7 @@ use Rattle.std.specs.Option.{option_or}
 use Rattle.std.proofs.lemmas.Bool.{cases_eq, cases_lt}
 use Rattle.std.proofs.Math.Seq.{drop-cons}
 use Rattle.std.proofs.lemmas.List.{drop_all}
-use Rattle.offset_allocator.specs.Reporting.Beside.{IsWalk, first_live, live_after, live_handles}
+use Rattle.offset_allocator.specs.Reporting.Walking.{IsWalk, first_live, live_after, live_handles}
 use Rattle.offset_allocator.specs.{Ranges.Range, View.Handle, View.IsWellFormed, View.View, View.one, View.tally}
 use Rattle.offset_allocator.specs.Ranges as named
 use Rattle.offset_allocator.proofs.{Reporting.AlongLive.all_met as handles_met, Reporting.AlongLive.forward, Tallies.tally_append}

@@ -11,7 +11,7 @@ use Rattle.offset_heaps.specs.declared.place.Granted.{Granted}
 use Rattle.offset_heaps.specs.declared.refusal.Refusal.{Refusal}
 use Rattle.offset_heaps.specs.declared.refusal.Refusal.TheVariants.{Empty, TooLarge, Full, Memory}
 use Rattle.offset_heaps.specs.Heaps.{Heaps, Adds, Grants, IsBefore, IsFirstFit, IsForRoom, IsNext, IsWhy, MayEverFit, NoneFits, IsNew, IsSame, IsSpareLarger, IsSpareUsual, IsUsual, KeepsOthers, IsRaisedAsNeeded, MustRaiseIn, heap_at, usual_size}
-use Rattle.offset_heaps.specs.{Heaps.larger_limit, Heaps.last_realm, Heaps.range_in, Heaps.range_of, Heaps.slot, Slots.Changes, Slots.KeepsOthersIn, Slots.RaisesIn, Slots.Serves, Slots.ServesTight}
+use Rattle.offset_heaps.specs.{Heaps.larger_limit, Heaps.last_realm, Heaps.range_in, Heaps.range_of, Heaps.slot, Slots.Changes, Slots.KeepsOthersIn, Slots.RaisesIn, Slots.GrantsIn, Slots.GrantsTightIn}
 use Rattle.offset_heaps.proofs.{Raising.must_in, Raising.raised_range, Raising.set_twice}
 use Rattle.offset_heaps.proofs.{Numbers.slot_same, Places.none_if, Places.put_keeps, Places.same_realm, Places.shown, Rooms.fresh_none, Rooms.some_same}
 
@@ -20,7 +20,7 @@ abbrev pub grant_at : ℕ → ℕ → Ticket → Granted
 grant_at number realm ticket = record { place = record { heap = number; realm = realm; ticket = ticket }; is_new = false }
 
 pub granted_at : (slots now : List (Option Guard)) (limits : Limits) (made realm before after number size align : ℕ) (ticket : Ticket) → number < length slots
-    → (MustRaiseIn limits number (slot number slots) → ⊥) → Changes number (λ o p. Serves size align o p ticket) slots now
+    → (MustRaiseIn limits number (slot number slots) → ⊥) → Changes number (λ o p. GrantsIn size align o p ticket) slots now
     → Grants size align (shown slots limits made realm before) (shown now limits made realm after) (grant_at number realm ticket)
 granted_at slots now limits made realm before after number size align ticket there stays change =
     let by = change.by in
@@ -41,7 +41,7 @@ module _ (hs ks : Heaps) (number size align : ℕ) (o : Option Guard) (ticket : 
   grant = record { place = record { heap = number; realm = hs.realm; ticket = ticket }; is_new = true }
 
   pub granted_usual : (g : Guard) → IsSpareUsual size number hs → IsUsual size hs → IsNew (usual_size hs.limits number) hs.limits.first_allocs (hs.made + 1) g
-      → Serves size 1 (Some g) o ticket → Grants size align hs ks grant
+      → GrantsIn size 1 (Some g) o ticket → Grants size align hs ks grant
   granted_usual g spare usual new by =
       record {
         before = by.before;
@@ -55,7 +55,7 @@ module _ (hs ks : Heaps) (number size align : ℕ) (o : Option Guard) (ticket : 
       }
 
   pub granted_larger : (g : Guard) → IsSpareLarger number hs → (IsUsual size hs → ⊥) → IsNew size larger_limit (hs.made + 1) g
-      → ServesTight size (Some g) o ticket → Grants size align hs ks grant
+      → GrantsTightIn size (Some g) o ticket → Grants size align hs ks grant
   granted_larger g spare unusual new by =
       record {
         before = by.before;

@@ -12,7 +12,7 @@ use Rattle.offset_heaps.specs.declared.refusal.Refusal.{Refusal}
 use Rattle.offset_heaps.specs.declared.refusal.Refusal.TheVariants.{Empty, TooLarge, Full, Memory}
 use Rattle.offset_heaps.specs.Asking.{IsWhyNone}
 use Rattle.offset_heaps.specs.Heaps.{Heaps, Grants, IsForRoom, IsRaisedAsNeeded, IsNext, IsSame, IsWhy, KeepsOthers, MustRaiseIn, NoneFits, heap_at, range_in, range_of, room, slot}
-use Rattle.offset_heaps.specs.{Slots.CanHoldIn, Slots.Changes, Slots.Fills, Slots.RaisesIn}
+use Rattle.offset_heaps.specs.{Slots.CanHoldIn, Slots.Changes, Slots.GrantsTightAlignedIn, Slots.RaisesIn}
 use Rattle.offset_heaps.specs.Tight.{GrantsTight, IsFirstHolding, IsRefusedForTight, IsServedTight, IsWhyTight, NoneHolds}
 use Rattle.offset_heaps.proofs.{Grants.granted_since, Grants.next_fits, Grants.not_live_before, Grants.others_kept, Grants.raised_once, Grants.range_granted, Raising.must_in, Raising.raised_range, Raising.set_twice}
 use Rattle.offset_heaps.proofs.{Numbers.slot_same, Numbers.slot_there, Places.none_if, Places.put_keeps, Places.same_realm, Places.shown, Rooms.can}
@@ -41,7 +41,7 @@ holds_after limits number size align slots now there change c = subst (CanHoldIn
 
 -- ---- what a grant leaves
 pub filled_at : (slots now : List (Option Guard)) (limits : Limits) (made realm before after number size align : ℕ) (ticket : Ticket) → number < length slots
-    → (MustRaiseIn limits number (slot number slots) → ⊥) → Changes number (λ o p. Fills size align o p ticket) slots now
+    → (MustRaiseIn limits number (slot number slots) → ⊥) → Changes number (λ o p. GrantsTightAlignedIn size align o p ticket) slots now
     → GrantsTight size align (shown slots limits made realm before) (shown now limits made realm after) (record { heap = number; realm = realm; ticket = ticket })
 filled_at slots now limits made realm before after number size align ticket there stays change =
     let by = change.by in

@@ -1,6 +1,6 @@
 -- The live ranges of a heap, by their places.
 use Rattle.std.proofs.Common.{◌≡◌, ℕ, Option, Some, None, option_map, refl, sym, ap, ◌∙◌}
-use Rattle.offset_allocator.specs.{Reporting.Beside.first_live, Reporting.Beside.last_live, Reporting.Beside.live_after, Reporting.Beside.live_before, View.Handle}
+use Rattle.offset_allocator.specs.{Reporting.Walking.first_live, Reporting.Walking.last_live, Reporting.Walking.live_after, Reporting.Walking.live_before, View.Handle}
 use Rattle.offset_guarded.specs.Guard.{Guard, ticket_at}
 use Rattle.offset_guarded.specs.declared.ticket.Ticket.{Ticket}
 use Rattle.offset_heaps.specs.declared.place.Place.{Place}

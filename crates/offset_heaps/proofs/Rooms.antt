@@ -1,7 +1,7 @@
 -- What a heap has room for.
 use Rattle.std.proofs.Common.{◌≡◌, ℕ, ◌+◌, ◌<◌, ◌≤◌, Bool, true, false, ◌&&◌, [], ◌∷◌, Option, Some, None, length, if◌then◌else◌, refl, sym, ap, subst, ◌∙◌, inl, inr, arith, eq-eqb, ne_eqb, ◌↔◌}
 use Rattle.std.proofs.lemmas.Bool.{cases_eq, cases_lt, lt-ltb, le-ltb}
-use Rattle.offset_allocator.specs.{Reporting.FreeSizes.largest, Reporting.Reports.IsReport, Requests.CanGrant, Requests.HasRoomFor, Relations.IsFresh, View.View, View.IsWellFormed, View.free_block}
+use Rattle.offset_allocator.specs.{Reporting.FreeSizes.largest, Reporting.Reports.IsReport, Requests.CanGrant, Requests.AdmitsBlocks, Relations.IsFresh, View.View, View.IsWellFormed, View.free_block}
 use Rattle.offset_allocator.specs.{View.free_sizes, Classes.down, Classes.up, Classes.value, Ranges.Range}
 use Rattle.offset_allocator.specs.declared.reports.StorageReport.{StorageReport}
 use Rattle.offset_allocator.proofs.{Classes.down_small, Classes.up_reached, Classes.value_down, Classes.value_grows, Taken.HasFit, Taken.fitting}
@@ -12,10 +12,10 @@ use Rattle.offset_guarded.specs.Guard as guarded
 use Rattle.offset_guarded.specs.declared.ticket.Ticket.{Ticket}
 use Rattle.offset_heaps.specs.{Heaps.IsNew, Heaps.room, Slots.CanHoldIn}
 
-pub room_there : (blocks : ℕ) (g : Guard) → HasSerialLeft g → HasRoomFor blocks g.space → room blocks g ≡ largest (free_sizes g.space.blocks)
+pub room_there : (blocks : ℕ) (g : Guard) → HasSerialLeft g → AdmitsBlocks blocks g.space → room blocks g ≡ largest (free_sizes g.space.blocks)
 room_there blocks g left some = grind (arith, lt-ltb)
 
-pub room_left : (blocks units : ℕ) (g : Guard) → 1 ≤ units → units ≤ room blocks g → HasSerialLeft g × HasRoomFor blocks g.space × (units ≤ largest (free_sizes g.space.blocks))
+pub room_left : (blocks units : ℕ) (g : Guard) → 1 ≤ units → units ≤ room blocks g → HasSerialLeft g × AdmitsBlocks blocks g.space × (units ≤ largest (free_sizes g.space.blocks))
 room_left blocks units g some fits = grind (arith, lt-ltb, le-ltb, cases_lt)
 
 -- what a report says

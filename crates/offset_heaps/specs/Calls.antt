@@ -4,7 +4,7 @@ use Rattle.std.specs.declared.alloc.AllocError.{AllocError}
 use Rattle.offset_allocator.specs.Moving.Compacting.{Move}
 use Rattle.offset_allocator.specs.Requests.{blocks_needed, units_needed}
 use Rattle.offset_allocator.specs.declared.moves.room.RoomCost.{RoomCost}
-use Rattle.offset_heaps.specs.Changing.{CanResizeAt, CompactsAll, CompactsHeap, MakesRoomAt, ResizesAt, Wanted}
+use Rattle.offset_heaps.specs.Changing.{CanResizeAt, CompactsAll, CompactsHeap, MakesRoomAt, ResizesAt, NewSize}
 use Rattle.offset_heaps.specs.Extending.{CanExtendIn, ExtendsHeap}
 use Rattle.offset_heaps.specs.declared.place.Granted.{Granted}
 use Rattle.offset_heaps.specs.declared.place.Place.{Place}
@@ -83,14 +83,14 @@ pub record GivesUp (k : ℕ) (hs ks : Heaps) (r : Bool) : Type 0 where
   pub heaps : r ≡ true → Puts k None hs ks
 
 -- `shrink` and `grow_in_place`
-pub record TakesSize (how : Wanted) (p : Place) (hs ks : Heaps) (r : Option Bool) : Type 0 where
+pub record TakesSize (how : NewSize) (p : Place) (hs ks : Heaps) (r : Option Bool) : Type 0 where
   pub live : IsSome r ↔ IsLive p hs
   pub done : IfSome r (λ d. IsTrue d ↔ CanResizeAt how p hs)
   pub gone : r ≡ None → IsSame hs ks
   pub step : IfSome r (ResizesAt how p hs ks)
 
 -- `extend_heap`
-pub record Lengthens (k more : ℕ) (hs ks : Heaps) (r : Result Bool AllocError) : Type 0 where
+pub record ExtendsOne (k more : ℕ) (hs ks : Heaps) (r : Result Bool AllocError) : Type 0 where
   pub done : IfOk r (λ d. IsTrue d ↔ CanExtendIn more (heap_at k hs))
   pub none : heap_at k hs ≡ None → IsSame hs ks
   pub refused : r ≡ Ok false → AreTwins hs ks
@@ -108,7 +108,7 @@ abbrev pub Notes : List Move → Move → List Move → Type 0
 Notes xs x ys = ys ≡ xs ++ x ∷ []
 
 -- `make_room`, by the moves of some ranges
-pub record TakesRoom (k size : ℕ) (hs ks : Heaps) (r : Option RoomCost) : Type 0 where
+pub record MakesRoomOne (k size : ℕ) (hs ks : Heaps) (r : Option RoomCost) : Type 0 where
   pub none : heap_at k hs ≡ None → IsSame hs ks × (r ≡ None)
   pub step : IsSome (heap_at k hs) → (xs : List Move) × MakesRoomAt Notes k size hs [] r ks xs
 
@@ -123,7 +123,7 @@ pub data Call : Type 0 where
   Drop_heap : ℕ → Call
   Give_up : ℕ → Call
   Reset : Call
-  Resize : Wanted → Place → Call
+  Resize : NewSize → Place → Call
   -- so many units more for the heap of a number
   Extend_heap : ℕ → ℕ → Call
   Compact_heap : ℕ → Call
@@ -153,10 +153,10 @@ Takes (Drop_heap k) hs ks reply = (r : Bool) × (reply ≡ Was_done r) × Drops 
 Takes (Give_up k) hs ks reply = (r : Bool) × (reply ≡ Was_done r) × GivesUp k hs ks r
 Takes Reset hs ks reply = (reply ≡ Nothing) × ResetsAll hs ks
 Takes (Resize how p) hs ks reply = (r : Option Bool) × (reply ≡ Resized r) × TakesSize how p hs ks r
-Takes (Extend_heap k more) hs ks reply = (r : Result Bool AllocError) × (reply ≡ Extended r) × Lengthens k more hs ks r
+Takes (Extend_heap k more) hs ks reply = (r : Result Bool AllocError) × (reply ≡ Extended r) × ExtendsOne k more hs ks r
 Takes (Compact_heap k) hs ks reply = (r : Bool) × (reply ≡ Was_done r) × CompactsOne k hs ks r
 Takes Compact_all hs ks reply = (reply ≡ Nothing) × CompactsAll hs ks
-Takes (Make_room k size) hs ks reply = (r : Option RoomCost) × (reply ≡ Room_made r) × TakesRoom k size hs ks r
+Takes (Make_room k size) hs ks reply = (r : Option RoomCost) × (reply ≡ Room_made r) × MakesRoomOne k size hs ks r
 
 -- a request, or more units for a heap, were refused for want of memory
 abbrev pub IsStarved : Reply → Type 0

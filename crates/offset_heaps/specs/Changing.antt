@@ -44,52 +44,52 @@ abbrev pub HasUnits : Place → ℕ → Heaps → Heaps → Type 0
 HasUnits p n hs ks = (r : Range) → range_of p hs ≡ Some r → range_of p ks ≡ Some (record r { size = n })
 
 -- how many units a range is to have in place: at most as many as it has, or at least
-pub data Wanted : Type 0 where
-  Less : ℕ → Wanted
-  More : ℕ → Wanted
+pub data NewSize : Type 0 where
+  Shrunk : ℕ → NewSize
+  Grown : ℕ → NewSize
 
 -- what is wanted of a call
-abbrev pub wanted : Resize → Wanted
-wanted (Shrink n) = Less n
-wanted (Grow n) = More n
+abbrev pub new_size : Resize → NewSize
+new_size (Shrink n) = Shrunk n
+new_size (Grow n) = Grown n
 
-abbrev pub units_wanted : Wanted → ℕ
-units_wanted (Less n) = n
-units_wanted (More n) = n
+abbrev pub units_wanted : NewSize → ℕ
+units_wanted (Shrunk n) = n
+units_wanted (Grown n) = n
 
 -- a space can do it
-abbrev pub CanResize : Wanted → ℕ → View → Type 0
-CanResize (Less n) x v = space.CanShrink x n v
-CanResize (More n) x v = space.CanGrow x n v
+abbrev pub CanResize : NewSize → ℕ → View → Type 0
+CanResize (Shrunk n) x v = space.CanShrink x n v
+CanResize (Grown n) x v = space.CanGrow x n v
 
 -- the step of a space, where it is done, and else it stays as it is
-abbrev pub ResizesSpace : Wanted → ℕ → View → View → Bool → Type 0
+abbrev pub ResizesSpace : NewSize → ℕ → View → View → Bool → Type 0
 ResizesSpace how x v w false = SameState v w
-ResizesSpace (Less n) x v w true = space.Shrinks x n v w true
-ResizesSpace (More n) x v w true = space.Grows x n v w true
+ResizesSpace (Shrunk n) x v w true = space.Shrinks x n v w true
+ResizesSpace (Grown n) x v w true = space.Grows x n v w true
 
 -- whether it is to have at most as many
-abbrev pub is_less : Wanted → Bool
-is_less (Less n) = true
-is_less (More n) = false
+abbrev pub is_less : NewSize → Bool
+is_less (Shrunk n) = true
+is_less (Grown n) = false
 
 -- the nodes of a heap allow it: a range that becomes smaller may add a block
-abbrev pub HasNodesFor : Limits → ℕ → Wanted → Guard → Type 0
-HasNodesFor limits k (Less n) g = HasFewNodes 4 limits k g → ⊥
-HasNodesFor limits k (More n) g = Unit {0}
+abbrev pub HasNodesFor : Limits → ℕ → NewSize → Guard → Type 0
+HasNodesFor limits k (Shrunk n) g = HasFewNodes 4 limits k g → ⊥
+HasNodesFor limits k (Grown n) g = Unit {0}
 
 -- how many blocks it may add
-abbrev pub blocks_more : Wanted → ℕ
-blocks_more (Less n) = 1
-blocks_more (More n) = 0
+abbrev pub blocks_more : NewSize → ℕ
+blocks_more (Shrunk n) = 1
+blocks_more (Grown n) = 0
 
 -- the heap of a number, where there is one, can do it
-abbrev pub CanResizeIn : Limits → ℕ → Wanted → ℕ → Option Guard → Type 0
+abbrev pub CanResizeIn : Limits → ℕ → NewSize → ℕ → Option Guard → Type 0
 CanResizeIn limits k how x None = ⊥
 CanResizeIn limits k how x (Some g) = CanResize how x g.space × HasNodesFor limits k how g
 
 -- the range of a ticket becomes smaller or larger in place, or stays as it is, where that can't be done
-pub record Resizes (how : Wanted) (t : Ticket) (done : Bool) (g h : Guard) : Type 0 where
+pub record Resizes (how : NewSize) (t : Ticket) (done : Bool) (g h : Guard) : Type 0 where
   pub step : ResizesSpace how t.name g.space h.space done
   pub blocks : length h.space.blocks ≤ length g.space.blocks + blocks_more how
   -- no serial changes, and no other ticket is live
@@ -101,10 +101,10 @@ pub record Resizes (how : Wanted) (t : Ticket) (done : Bool) (g h : Guard) : Typ
   pub accesses : h.space.accesses ≤ g.space.accesses + 128
 
 -- the range of a place
-abbrev pub ResizesAt : Wanted → Place → Heaps → Heaps → Bool → Type 0
+abbrev pub ResizesAt : NewSize → Place → Heaps → Heaps → Bool → Type 0
 ResizesAt how p hs ks done = Alters p.heap (Resizes how p.ticket done) hs ks
 
-abbrev pub CanResizeAt : Wanted → Place → Heaps → Type 0
+abbrev pub CanResizeAt : NewSize → Place → Heaps → Type 0
 CanResizeAt how p hs = CanResizeIn hs.limits p.heap how p.ticket.name (heap_at p.heap hs)
 
 -- every place has as many units as it had, and no other is live

@@ -42,8 +42,8 @@ abbrev pub numbers : Heaps → ℕ
 numbers hs = hs.limits.most + hs.limits.most_larger
 
 -- few slots and cells of the index were read or written: 16 for each bit of the count of numbers, and 32
-abbrev pub TakesFewSteps : Heaps → Heaps → Type 0
-TakesFewSteps hs ks = (bits : ℕ) → numbers hs ≤ 2 ^ bits → ks.accesses ≤ hs.accesses + 16 * bits + 32
+abbrev pub TakesFewAccesses : Heaps → Heaps → Type 0
+TakesFewAccesses hs ks = (bits : ℕ) → numbers hs ≤ 2 ^ bits → ks.accesses ≤ hs.accesses + 16 * bits + 32
 
 -- the heap of a number
 abbrev pub slot : ℕ → List (Option Guard) → Option Guard

@@ -1,30 +1,31 @@
--- Numbers in a row, of which the first and the last that is large enough are found in few steps.
+-- Keys in a row, one for each number from 0 on: the first and the last number whose key is large enough are found in few
+-- steps.
 use Rattle.std.specs.Prelude.{◌≡◌, ℕ, ◌+◌, ◌-◌, ◌*◌, ◌^◌, ◌<◌, ◌≤◌, max, sum, List, length, Option, Some, None, slice_index_or}
 
--- the numbers, and how many levels of maxima are above them
+-- the keys, and how many levels of maxima are above them
 pub record Row : Type 0 where
   pub keys : List ℕ
   pub height : ℕ
 
--- the number at a place, or 0 behind the last
+-- the key of a number, or 0 behind the last
 abbrev pub cell : ℕ → List ℕ → ℕ
 cell k cells = slice_index_or cells k 0
 
--- every number of a row is smaller than n
+-- every key of a row is smaller than n
 abbrev pub AreBelow : ℕ → List ℕ → Type 0
 AreBelow n keys = (i : ℕ) → cell i keys < n
 
--- the first number that is at least n, if there is one
+-- the first number whose key is at least n, if there is one
 abbrev pub IsFirst : ℕ → List ℕ → Option ℕ → Type 0
 IsFirst n keys None = AreBelow n keys
 IsFirst n keys (Some i) = (i < length keys) × (n ≤ cell i keys) × ((j : ℕ) → j < i → cell j keys < n)
 
--- the last number that is at least n, if there is one
+-- the last number whose key is at least n, if there is one
 abbrev pub IsLast : ℕ → List ℕ → Option ℕ → Type 0
 IsLast n keys None = AreBelow n keys
 IsLast n keys (Some i) = (i < length keys) × (n ≤ cell i keys) × ((j : ℕ) → i < j → cell j keys < n)
 
--- each number is 1 or 0, and so many are 1
+-- each key is 1 or 0, and so many are 1
 pub record AreMarks (marked : ℕ) (keys : List ℕ) : Type 0 where
   pub count : marked ≡ sum keys
   pub small : (i : ℕ) → cell i keys ≤ 1

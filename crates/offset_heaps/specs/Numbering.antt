@@ -1,7 +1,7 @@
 -- Which numbers have heaps, and the live places of all heaps, one after another.
 use Rattle.std.specs.Prelude.{◌≡◌, ℕ, ◌+◌, ◌<◌, ◌≤◌, Bool, ◌&&◌, List, [], ◌∷◌, ◌++◌, Option, None, Some, IsSome, drop, is_some, map, nat_eq, option_map}
 use Rattle.std.specs.Option.{option_or}
-use Rattle.offset_allocator.specs.Reporting.Beside.{first_live, live_after, live_handles}
+use Rattle.offset_allocator.specs.Reporting.Walking.{first_live, live_after, live_handles}
 use Rattle.offset_allocator.specs.View.{one, tally}
 use Rattle.offset_guarded.specs.Guard.{Guard}
 use Rattle.offset_guarded.specs.declared.ticket.Ticket.{Ticket}

@@ -1,6 +1,6 @@
 -- Which heap takes a range of another one, which one is the emptiest, and the places of the live ranges of a heap.
 use Rattle.std.specs.Prelude.{◌≢◌, ℕ, ◌*◌, ◌<◌, ◌≤◌, List, Option, Some, None, false, option_map, unwrap_or}
-use Rattle.offset_allocator.specs.Reporting.Beside.{last_live, live_before}
+use Rattle.offset_allocator.specs.Reporting.Walking.{last_live, live_before}
 use Rattle.offset_allocator.specs.Ranges.{Range}
 use Rattle.offset_allocator.specs.Requests.{blocks_needed, units_needed}
 use Rattle.offset_allocator.specs.View.{Handle, used_of}

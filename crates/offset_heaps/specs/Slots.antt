@@ -11,7 +11,7 @@ use Rattle.offset_heaps.specs.declared.limits.Limits.{Limits}
 use Rattle.offset_heaps.specs.Heaps.{IsRaisedAsNeeded, slot, range_in}
 
 -- a heap grants a request
-pub record Serves (size align : ℕ) (old new : Option Guard) (t : Ticket) : Type 0 where
+pub record GrantsIn (size align : ℕ) (old new : Option Guard) (t : Ticket) : Type 0 where
   pub before : Guard
   pub after : Guard
   pub was : old ≡ Some before
@@ -32,7 +32,7 @@ CanHoldIn size align None = ⊥
 CanHoldIn size align (Some g) = HasSerialLeft g × CanHold size align g.space
 
 -- such a block is granted
-pub record ServesTight (size : ℕ) (old new : Option Guard) (t : Ticket) : Type 0 where
+pub record GrantsTightIn (size : ℕ) (old new : Option Guard) (t : Ticket) : Type 0 where
   pub before : Guard
   pub after : Guard
   pub was : old ≡ Some before
@@ -42,7 +42,7 @@ pub record ServesTight (size : ℕ) (old new : Option Guard) (t : Ticket) : Type
   pub accesses : after.space.accesses ≤ before.space.accesses + 140 + 6 * length (bin_at before.space.bins (down size))
 
 -- such a block is granted at a multiple of align
-pub record Fills (size align : ℕ) (old new : Option Guard) (t : Ticket) : Type 0 where
+pub record GrantsTightAlignedIn (size align : ℕ) (old new : Option Guard) (t : Ticket) : Type 0 where
   pub before : Guard
   pub after : Guard
   pub was : old ≡ Some before

@@ -32,7 +32,7 @@ pub(crate) fn below(found: Option<u32>, limit: u32) -> Option<u32>
 impl<T: Tables> HeapsOf<T> {
     ghost use Rattle.offset_heaps.specs.Heaps.{heap_at, range_of, KeepsOthers, Grants, IsFirstFit, IsNext};
     ghost use Rattle.offset_heaps.specs.Heaps.{IsSame, IsSpareLarger, IsSpareUsual, IsUsual, IsWhy, NoneFits};
-    ghost use Rattle.offset_heaps.specs.Heaps.{TakesFewSteps, Adds, IsForRoom, IsOfKind, IsWhyNotMade};
+    ghost use Rattle.offset_heaps.specs.Heaps.{TakesFewAccesses, Adds, IsForRoom, IsOfKind, IsWhyNotMade};
     ghost use Rattle.offset_heaps.specs.Heaps.{MustRaiseIn, last_realm, numbers, room_of};
 
     // The first heap that has room for a request.
@@ -43,7 +43,7 @@ impl<T: Tables> HeapsOf<T> {
             (λ k. IsFirstFit (blocks_needed align) units k self.old) }
         ensures there { IfSome result (λ k. k < length self.old.slots) }
         ensures same { IsSame self.old self.new }
-        ensures steps { (bits : ℕ) → numbers self.old ≤ 2 ^ bits
+        ensures accesses { (bits : ℕ) → numbers self.old ≤ 2 ^ bits
             → self.new.accesses ≤ self.old.accesses + bits + 1 }
     {
         self.index.first_fit(units, align, &mut self.accesses)
@@ -66,7 +66,7 @@ impl<T: Tables> HeapsOf<T> {
         ensures first { MatchOption result ((k : ℕ) → IsSpareUsual size k self.old → ⊥)
             (λ k. IsSpareUsual size k self.old × ((j : ℕ) → j < k → IsSpareUsual size j self.old → ⊥)) }
         ensures same { IsSame self.old self.new }
-        ensures steps { (bits : ℕ) → numbers self.old ≤ 2 ^ bits
+        ensures accesses { (bits : ℕ) → numbers self.old ≤ 2 ^ bits
             → self.new.accesses ≤ self.old.accesses + bits + 1 }
     {
         let found = self
@@ -81,7 +81,7 @@ impl<T: Tables> HeapsOf<T> {
         ensures first { MatchOption result ((k : ℕ) → IsSpareLarger k self.old → ⊥)
             (λ k. IsSpareLarger k self.old × ((j : ℕ) → j < k → IsSpareLarger j self.old → ⊥)) }
         ensures same { IsSame self.old self.new }
-        ensures steps { (bits : ℕ) → numbers self.old ≤ 2 ^ bits
+        ensures accesses { (bits : ℕ) → numbers self.old ≤ 2 ^ bits
             → self.new.accesses ≤ self.old.accesses + bits + 1 }
     {
         // what is read recalls that sizes have 32 bits
@@ -103,7 +103,7 @@ impl<T: Tables> HeapsOf<T> {
             → room_of blocks (heap_at number self.new) ≡ room_of blocks (heap_at number self.old)) }
         ensures must { IsErr result → MustRaiseIn self.old.limits number (heap_at number self.old) }
         ensures same { IsErr result → IsSame self.old self.new }
-        ensures steps { self.new.accesses ≡ self.old.accesses + 1 }
+        ensures accesses { self.new.accesses ≡ self.old.accesses + 1 }
     {
         self.slots
             .raise(self.alloc, number, self.limits, &mut self.accesses)
@@ -120,7 +120,7 @@ impl<T: Tables> HeapsOf<T> {
         ensures number { result.place.heap ≡ number }
         ensures found { result.is_new ≡ false }
         ensures aligned { result.place.ticket.offset % align ≡ 0 }
-        ensures steps { (bits : ℕ) → numbers self.old ≤ 2 ^ bits
+        ensures accesses { (bits : ℕ) → numbers self.old ≤ 2 ^ bits
             → self.new.accesses ≤ self.old.accesses + 12 * bits + 10 }
     {
         let ticket = self.slots.grant(number, size, align, &mut self.accesses);
@@ -148,7 +148,7 @@ impl<T: Tables> HeapsOf<T> {
         ensures found { IfOk result (λ g. (g.is_new ≡ false) × (g.place.heap ≡ number)) }
         ensures grants { IfOk result (Grants size align self.old self.new) }
         ensures aligned { IfOk result (λ g. g.place.ticket.offset % align ≡ 0) }
-        ensures steps { (bits : ℕ) → numbers self.old ≤ 2 ^ bits
+        ensures accesses { (bits : ℕ) → numbers self.old ≤ 2 ^ bits
             → self.new.accesses ≤ self.old.accesses + 12 * bits + 11 }
     {
         match self.raise(number) {
@@ -168,7 +168,7 @@ impl<T: Tables> HeapsOf<T> {
           place = record { heap = number; realm = self.old.realm; ticket = ticket };
           is_new = true;
         } }
-        ensures steps { (bits : ℕ) → numbers self.old ≤ 2 ^ bits
+        ensures accesses { (bits : ℕ) → numbers self.old ≤ 2 ^ bits
             → self.new.accesses ≤ self.old.accesses + 12 * bits + 10 }
     {
         self.slots.put(number, slot, &mut self.accesses);
@@ -197,7 +197,7 @@ impl<T: Tables> HeapsOf<T> {
         ensures made { IfOk result (λ g. (g.is_new ≡ true) × (g.place.heap ≡ number)
             × (self.old.made < last_realm)) }
         ensures aligned { IfOk result (λ g. g.place.ticket.offset % align ≡ 0) }
-        ensures steps { (bits : ℕ) → numbers self.old ≤ 2 ^ bits
+        ensures accesses { (bits : ℕ) → numbers self.old ≤ 2 ^ bits
             → self.new.accesses ≤ self.old.accesses + 12 * bits + 10 }
     {
         if self.made == u32::MAX {
@@ -221,7 +221,7 @@ impl<T: Tables> HeapsOf<T> {
         ensures made { IfOk result (λ g. (g.is_new ≡ true) × (g.place.heap ≡ number)
             × (self.old.made < last_realm)) }
         ensures aligned { IfOk result (λ g. g.place.ticket.offset % align ≡ 0) }
-        ensures steps { (bits : ℕ) → numbers self.old ≤ 2 ^ bits
+        ensures accesses { (bits : ℕ) → numbers self.old ≤ 2 ^ bits
             → self.new.accesses ≤ self.old.accesses + 12 * bits + 10 }
     {
         if self.made == u32::MAX {
@@ -245,7 +245,7 @@ impl<T: Tables> HeapsOf<T> {
         ensures made { IfOk result (λ g. (g.is_new ≡ true)
             × IsNext size g.place.heap self.old) }
         ensures aligned { IfOk result (λ g. g.place.ticket.offset % align ≡ 0) }
-        ensures steps { (bits : ℕ) → numbers self.old ≤ 2 ^ bits
+        ensures accesses { (bits : ℕ) → numbers self.old ≤ 2 ^ bits
             → self.new.accesses ≤ self.old.accesses + 13 * bits + 16 }
     {
         if self.is_usual(size) {
@@ -276,7 +276,7 @@ impl<T: Tables> HeapsOf<T> {
             × IsNext size g.place.heap self.old) }
         ensures grants { IfOk result (Grants size align self.old self.new) }
         ensures aligned { IfOk result (λ g. g.place.ticket.offset % align ≡ 0) }
-        ensures steps { TakesFewSteps self.old self.new }
+        ensures accesses { TakesFewAccesses self.old self.new }
     {
         if size == 0 {
             return Err(Refusal::Empty);
@@ -313,7 +313,7 @@ impl<T: Tables> HeapsOf<T> {
             ≡ Some (record { offset = g.place.ticket.offset; size = size })) }
         ensures others { IfOk result (λ g. KeepsOthers g.place self.old self.new) }
         ensures grants { IfOk result (Grants size 1 self.old self.new) }
-        ensures steps { TakesFewSteps self.old self.new }
+        ensures accesses { TakesFewAccesses self.old self.new }
     {
         self.allocate_aligned(size, 1)
     }
@@ -366,7 +366,7 @@ impl<T: Tables> HeapsOf<T> {
         ensures others { IfOk result (λ g. KeepsOthers g.place self.old self.new) }
         // The step of that heap. All other heaps are as they were.
         ensures grants { IfOk result (Grants size align self.old self.new) }
-        ensures steps { TakesFewSteps self.old self.new }
+        ensures accesses { TakesFewAccesses self.old self.new }
     {
         self.request(size, align)
     }

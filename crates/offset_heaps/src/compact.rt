@@ -61,7 +61,7 @@ fn compact_all<T: Tables, F: FnMut(u32, Move<T::Index>)>(
 }
 
 impl<T: Tables> HeapsOf<T> {
-    ghost use Rattle.offset_heaps.specs.Heaps.{IsSame, KeepsOtherHeaps, TakesFewSteps, heap_at, numbers};
+    ghost use Rattle.offset_heaps.specs.Heaps.{IsSame, KeepsOtherHeaps, TakesFewAccesses, heap_at, numbers};
 
     /// Slides every live range of the heap of a number to the front of its space, as `GuardedOf::compact`
     /// does, and returns whether the number has a heap. Every place stays live, with its size; `offset_of`
@@ -86,7 +86,7 @@ impl<T: Tables> HeapsOf<T> {
         ensures same { result ≡ false → IsSame self.old self.new }
         // The step of its heap. All other heaps are as they were.
         ensures step { result ≡ true → CompactsHeap number self.old self.new }
-        ensures steps { TakesFewSteps self.old self.new }
+        ensures accesses { TakesFewAccesses self.old self.new }
     {
         if !self.slots.has(number, &mut self.accesses) {
             return false;
@@ -118,7 +118,7 @@ impl<T: Tables> HeapsOf<T> {
             (moves_from 0 self.old.slots) moved.new }
         // The step of each heap.
         ensures step { CompactsAll self.old self.new }
-        ensures steps { (bits : ℕ) → numbers self.old ≤ 2 ^ bits
+        ensures accesses { (bits : ℕ) → numbers self.old ≤ 2 ^ bits
             → self.new.accesses ≤ self.old.accesses + numbers self.old * (12 * bits + 10) }
     {
         compact_all(
@@ -162,7 +162,7 @@ impl<T: Tables> HeapsOf<T> {
         ensures step { IsSome (heap_at number self.old)
             → MakesRoomAt (IsCalledWith T.Index.NonMax.number (λ f range g. F.step f range tt g)) number size
             self.old moved.old result self.new moved.new }
-        ensures steps { TakesFewSteps self.old self.new }
+        ensures accesses { TakesFewAccesses self.old self.new }
     {
         if !self.slots.has(number, &mut self.accesses) {
             return None;

@@ -6,7 +6,7 @@ use crate::HeapsOf;
 use offset_allocator::Tables;
 
 impl<T: Tables> HeapsOf<T> {
-    ghost use Rattle.offset_heaps.specs.Heaps.{IsSame, KeepsAll, KeepsOtherHeaps, Puts, TakesFewSteps};
+    ghost use Rattle.offset_heaps.specs.Heaps.{IsSame, KeepsAll, KeepsOtherHeaps, Puts, TakesFewAccesses};
     ghost use Rattle.offset_heaps.specs.Heaps.{empties, heap_at, is_empty, numbers};
 
     /// Drops the last empty heap, by number, if more than `keep` heaps are empty, and returns its number:
@@ -31,7 +31,7 @@ impl<T: Tables> HeapsOf<T> {
         // All other heaps stay, and every place keeps its range.
         ensures heaps { IfSome result (λ k. Puts k None self.old self.new) }
         ensures places { KeepsAll self.old self.new }
-        ensures steps { TakesFewSteps self.old self.new }
+        ensures accesses { TakesFewAccesses self.old self.new }
     {
         if self.index.empty.count() <= keep as u64 {
             return None;
@@ -55,7 +55,7 @@ impl<T: Tables> HeapsOf<T> {
         ensures heaps { result ≡ true → Puts number None self.old self.new }
         ensures same { result ≡ false → IsSame self.old self.new }
         ensures places { KeepsAll self.old self.new }
-        ensures steps { TakesFewSteps self.old self.new }
+        ensures accesses { TakesFewAccesses self.old self.new }
     {
         if !self.slots.is_empty_at(number, &mut self.accesses) {
             return false;
@@ -79,7 +79,7 @@ impl<T: Tables> HeapsOf<T> {
         ensures same { result ≡ false → IsSame self.old self.new }
         ensures gone { heap_at number self.new ≡ None }
         ensures others { KeepsOtherHeaps number self.old self.new }
-        ensures steps { (bits : ℕ) → numbers self.old ≤ 2 ^ bits
+        ensures accesses { (bits : ℕ) → numbers self.old ≤ 2 ^ bits
             → self.new.accesses ≤ self.old.accesses + 12 * bits + 16 }
     {
         if !self.slots.has(number, &mut self.accesses) {

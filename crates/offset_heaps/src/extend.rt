@@ -59,7 +59,7 @@ pub(crate) fn extend_in<T: Tables>(
 }
 
 impl<T: Tables> HeapsOf<T> {
-    ghost use Rattle.offset_heaps.specs.Heaps.{IsSame, KeepsAll, TakesFewSteps, heap_at};
+    ghost use Rattle.offset_heaps.specs.Heaps.{IsSame, KeepsAll, TakesFewAccesses, heap_at};
 
     /// Adds `more` units at the end of the heap of a number, as `GuardedOf::extend` does, and returns whether it
     /// did: for a buffer that became larger in place. Every place keeps its range. A usual heap may have
@@ -97,7 +97,7 @@ impl<T: Tables> HeapsOf<T> {
         // The step of its heap. All other heaps are as they were.
         ensures step { IfOk result
             (λ done. IsSome (heap_at number self.old) → ExtendsHeap number more done self.old self.new) }
-        ensures steps { TakesFewSteps self.old self.new }
+        ensures accesses { TakesFewAccesses self.old self.new }
     {
         if !self.slots.has(number, &mut self.accesses) {
             return Ok(false);

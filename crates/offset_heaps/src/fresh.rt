@@ -2,7 +2,7 @@
 ghost use Rattle.std.specs.Prelude.{◌≡◌, ◌+◌, ◌<◌, ◌≤◌, IfOk, Some};
 ghost use Rattle.offset_guarded.specs.Guard.{Guard};
 ghost use Rattle.offset_heaps.specs.Heaps.{IsNew, larger_limit, usual_room, usual_size};
-ghost use Rattle.offset_heaps.specs.Slots.{Serves, ServesTight};
+ghost use Rattle.offset_heaps.specs.Slots.{GrantsIn, GrantsTightIn};
 
 use crate::limits::{Limits, usual_size};
 use crate::slots;
@@ -26,7 +26,7 @@ pub(crate) fn usual<T: Tables>(
     requires some { 1 ≤ size }
     requires fits { size ≤ usual_room limits number }
     ensures grants { IfOk result (λ r. (g : Guard)
-        × IsNew (usual_size limits number) limits.first_allocs realm g × Serves size 1 (Some g) r.0 r.1) }
+        × IsNew (usual_size limits number) limits.first_allocs realm g × GrantsIn size 1 (Some g) r.0 r.1) }
     ensures start { IfOk result (λ r. r.1.offset ≡ 0) }
 {
     let mut slot = Some(GuardedOf::with_max_allocs(
@@ -47,7 +47,7 @@ pub(crate) fn larger<T: Tables>(
 ) -> Result<(Option<GuardedOf<T>>, Ticket), AllocError>
     requires { 5 < T.Index.MAX }
     ensures grants { IfOk result (λ r. (g : Guard) × IsNew size larger_limit realm g
-        × ServesTight size (Some g) r.0 r.1) }
+        × GrantsTightIn size (Some g) r.0 r.1) }
     ensures start { IfOk result (λ r. r.1.offset ≡ 0) }
 {
     let mut slot = Some(GuardedOf::with_max_allocs(alloc, size, LARGER_LIMIT, realm)?);

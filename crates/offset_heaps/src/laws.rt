@@ -19,9 +19,9 @@ ghost use Rattle.offset_heaps.specs.Relocating.{live_units_at, squares, size_of}
 ghost use Rattle.offset_heaps.specs.Tight.{IsRefusedForTight, IsServedTight, IsWhyTight};
 ghost use Rattle.offset_heaps.specs.Twins.{AreTwins};
 ghost use Rattle.offset_heaps.specs.Calls.{Allocates, AllocatesTight, TakesAll, Call, Drops, DropsEmpty, Frees, GivesUp};
-ghost use Rattle.offset_heaps.specs.Calls.{CompactsOne, GoAll, Goes, Lengthens, Relocates, Reply, TakesRoom, TakesSize};
+ghost use Rattle.offset_heaps.specs.Calls.{CompactsOne, GoAll, Goes, ExtendsOne, Relocates, Reply, MakesRoomOne, TakesSize};
 ghost use Rattle.offset_heaps.specs.Asking.{IsRefusedFor, IsServed};
-ghost use Rattle.offset_heaps.specs.Changing.{CompactsAll, Wanted};
+ghost use Rattle.offset_heaps.specs.Changing.{CompactsAll, NewSize};
 ghost use Rattle.offset_allocator.specs.declared.moves.room.RoomCost.{RoomCost};
 ghost use Rattle.offset_heaps.specs.declared.limits.Limits.{Limits};
 ghost use Rattle.offset_heaps.specs.declared.place.Granted.{Granted};
@@ -232,11 +232,11 @@ pub fn a_state_decides_each_step()
         → GivesUp k hs ks r → GivesUp k hs' ks' r' → (r ≡ r') × AreTwins ks ks' }
     ensures reset { (hs hs' ks ks' : Heaps) → IsWellFormed hs → AreTwins hs hs' → ResetsAll hs ks
         → ResetsAll hs' ks' → AreTwins ks ks' }
-    ensures resize { (how : Wanted) (p : Place) (hs hs' ks ks' : Heaps) → IsWellFormed hs → AreTwins hs hs'
+    ensures resize { (how : NewSize) (p : Place) (hs hs' ks ks' : Heaps) → IsWellFormed hs → AreTwins hs hs'
         → (r r' : Option Bool) → TakesSize how p hs ks r → TakesSize how p hs' ks' r'
         → (r ≡ r') × AreTwins ks ks' }
     ensures extend_heap { (k more : ℕ) (hs hs' ks ks' : Heaps) → IsWellFormed hs → AreTwins hs hs'
-        → (r r' : Result Bool AllocError) → Lengthens k more hs ks r → Lengthens k more hs' ks' r'
+        → (r r' : Result Bool AllocError) → ExtendsOne k more hs ks r → ExtendsOne k more hs' ks' r'
         → ((e : AllocError) → r ≡ Err e → ⊥) → ((e : AllocError) → r' ≡ Err e → ⊥)
         → (r ≡ r') × AreTwins ks ks' }
     ensures compact_heap { (k : ℕ) (hs hs' ks ks' : Heaps) → AreTwins hs hs' → (r r' : Bool)
@@ -244,7 +244,7 @@ pub fn a_state_decides_each_step()
     ensures compact { (hs hs' ks ks' : Heaps) → AreTwins hs hs' → CompactsAll hs ks → CompactsAll hs' ks'
         → AreTwins ks ks' }
     ensures make_room { (k size : ℕ) (hs hs' ks ks' : Heaps) → IsWellFormed hs → AreTwins hs hs'
-        → (r r' : Option RoomCost) → TakesRoom k size hs ks r → TakesRoom k size hs' ks' r'
+        → (r r' : Option RoomCost) → MakesRoomOne k size hs ks r → MakesRoomOne k size hs' ks' r'
         → (r ≡ r') × AreTwins ks ks' }
     ensures range { (hs hs' : Heaps) (p : Place) → AreTwins hs hs' → range_of p hs' ≡ range_of p hs }
     ensures emptiest { (hs hs' : Heaps) → AreTwins hs hs' → (r r' : Option ℕ)

@@ -129,7 +129,7 @@ fn reset_all<T: Tables>(
 }
 
 impl<T: Tables> HeapsOf<T> {
-    ghost use Rattle.offset_heaps.specs.Heaps.{FreesIn, IsLive, IsSame, KeepsOthers, TakesFewSteps};
+    ghost use Rattle.offset_heaps.specs.Heaps.{FreesIn, IsLive, IsSame, KeepsOthers, TakesFewAccesses};
     ghost use Rattle.offset_heaps.specs.Heaps.{heap_at, range_in, range_of};
 
     /// No heap, and memory for the numbers of all that may be made: some 1.2 KB each. A heap is made by the
@@ -289,7 +289,7 @@ impl<T: Tables> HeapsOf<T> {
         ensures same { result ≡ false → IsSame self.old self.new }
         // The step of its heap. All other heaps are as they were.
         ensures step { result ≡ true → FreesIn place self.old self.new }
-        ensures steps { TakesFewSteps self.old self.new }
+        ensures accesses { TakesFewAccesses self.old self.new }
     {
         if place.realm != self.realm {
             return false;

@@ -1,5 +1,5 @@
-//! A row of numbers, of which the first and the last that is large enough are found in few steps: a tree of
-//! maxima. It touches its own cells alone, and counts each access.
+//! A row of keys, a key for each number of a heap: the first and the last number whose key is large enough
+//! are found in few steps, by a tree of maxima. It touches its own cells alone, and counts each access.
 ghost use Rattle.std.specs.Prelude.{ℕ, ◌≡◌, ◌+◌, ◌*◌, ◌/◌, ◌^◌, ◌<◌, ◌≤◌, IfOk, length, max, replicate, slice_set};
 ghost use Rattle.offset_allocator.specs.Accesses.{Costs};
 ghost use Rattle.offset_heaps.specs.Maxima.{AreBelow, IsFirst, IsLast, cell};
@@ -8,10 +8,10 @@ use offset_allocator::Accesses;
 use std::alloc::{AllocError, Global};
 use std::marker::Model;
 
-/// Numbers at places from 0 on.
+/// A key for each number from 0 on.
 #[derive(Drop)]
 pub(crate) struct Maxima {
-    // the numbers are the second half; before them, from place 1 on, each cell has the larger one of two
+    // the keys are the second half; before them, from cell 1 on, each cell has the larger one of two
     cells: Vec<u32>,
     height: u32,
 }
@@ -82,7 +82,7 @@ pub(crate) fn levels_for(count: u32) -> (u32, usize)
 }
 
 impl Maxima {
-    /// Two to the power of `height` places, each with 0.
+    /// Two to the power of `height` keys, each 0.
     pub(crate) fn with_height(alloc: Global, height: u32, places: usize) -> Result<Self, AllocError>
         requires low { height ≤ 32 }
         requires power { places ≡ 2 ^ height }
@@ -96,7 +96,7 @@ impl Maxima {
         Ok(Maxima { cells, height })
     }
 
-    /// The first place whose number is at least `least`, or `None` where there is none.
+    /// The first number whose key is at least `least`, or `None` where there is none.
     pub(crate) fn first_at_least(&self, least: u64, count: &mut Accesses) -> Option<u32>
         requires { 1 ≤ least }
         ensures first { IsFirst least self.now.keys result }
@@ -115,7 +115,7 @@ impl Maxima {
         Some((place - self.cells.len() / 2) as u32)
     }
 
-    /// The last place whose number is at least `least`, or `None` where there is none.
+    /// The last number whose key is at least `least`, or `None` where there is none.
     pub(crate) fn last_at_least(&self, least: u64, count: &mut Accesses) -> Option<u32>
         requires { 1 ≤ least }
         ensures last { IsLast least self.now.keys result }

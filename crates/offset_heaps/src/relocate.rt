@@ -37,7 +37,7 @@ impl<T: Tables> HeapsOf<T> {
             → TakesUnits self.old.limits own (blocks_needed align) units live self.old.slots j → ⊥)) }
         ensures there { IfSome result (λ k. k < length self.old.slots) }
         ensures same { IsSame self.old self.new }
-        ensures steps { (bits : ℕ) → numbers self.old ≤ 2 ^ bits
+        ensures accesses { (bits : ℕ) → numbers self.old ≤ 2 ^ bits
             → self.new.accesses ≤ self.old.accesses + numbers self.old + bits + 1 }
     {
         let from = self.first_fit(units, align)?;
@@ -97,7 +97,7 @@ impl<T: Tables> HeapsOf<T> {
         // The step of its heap: a grant of these units. All other heaps are as they were.
         ensures grants { IfSome result (λ q. Grants (size_of place self.old) 1 self.old self.new
             (granted q)) }
-        ensures steps { (bits : ℕ) → numbers self.old ≤ 2 ^ bits
+        ensures accesses { (bits : ℕ) → numbers self.old ≤ 2 ^ bits
             → self.new.accesses ≤ self.old.accesses + numbers self.old + 16 * bits + 32 }
     {
         self.relocate_aligned(place, 1)
@@ -133,7 +133,7 @@ impl<T: Tables> HeapsOf<T> {
         // The step of its heap: a grant of these units. All other heaps are as they were.
         ensures grants { IfSome result (λ q. Grants (size_of place self.old) align self.old self.new
             (granted q)) }
-        ensures steps { (bits : ℕ) → numbers self.old ≤ 2 ^ bits
+        ensures accesses { (bits : ℕ) → numbers self.old ≤ 2 ^ bits
             → self.new.accesses ≤ self.old.accesses + numbers self.old + 16 * bits + 32 }
     {
         if place.realm != self.realm {

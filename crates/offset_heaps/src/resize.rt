@@ -1,7 +1,7 @@
 //! Ranges that become smaller or larger in place. It changes one slot, and notes it in the index.
 ghost use Rattle.std.specs.Prelude.{◌≡◌, ◌↔◌, None, Some, IfSome, IsSome, IsTrue, false, true};
-ghost use Rattle.offset_heaps.specs.Changing.{CanResizeAt, HasUnits, KeepsLive, Less, More, ResizesAt};
-ghost use Rattle.offset_heaps.specs.Changing.{is_less, units_wanted, wanted};
+ghost use Rattle.offset_heaps.specs.Changing.{CanResizeAt, HasUnits, KeepsLive, Shrunk, Grown, ResizesAt};
+ghost use Rattle.offset_heaps.specs.Changing.{is_less, units_wanted, new_size};
 ghost use Rattle.offset_heaps.specs.Twins.{AreTwins};
 
 use crate::HeapsOf;
@@ -20,7 +20,7 @@ pub(crate) enum Resize {
 impl Resize {
     /// Whether it is to have at most as many.
     pub(crate) fn is_less(self) -> bool
-        ensures { result ≡ is_less (wanted self) }
+        ensures { result ≡ is_less (new_size self) }
     {
         match self {
             Resize::Shrink(_) => true,
@@ -30,19 +30,19 @@ impl Resize {
 }
 
 impl<T: Tables> HeapsOf<T> {
-    ghost use Rattle.offset_heaps.specs.Heaps.{IsLive, IsSame, KeepsOthers, TakesFewSteps};
+    ghost use Rattle.offset_heaps.specs.Heaps.{IsLive, IsSame, KeepsOthers, TakesFewAccesses};
 
     // Makes the range of a place smaller or larger in place.
     fn resize(&mut self, place: Place, how: Resize) -> Option<bool>
         ensures live { IsSome result ↔ IsLive place self.old }
-        ensures done { IfSome result (λ done. IsTrue done ↔ CanResizeAt (wanted how) place self.old) }
-        ensures range { result ≡ Some true → HasUnits place (units_wanted (wanted how)) self.old self.new }
+        ensures done { IfSome result (λ done. IsTrue done ↔ CanResizeAt (new_size how) place self.old) }
+        ensures range { result ≡ Some true → HasUnits place (units_wanted (new_size how)) self.old self.new }
         ensures others { KeepsOthers place self.old self.new }
         ensures kept { KeepsLive self.old self.new }
         ensures refused { result ≡ Some false → AreTwins self.old self.new }
         ensures gone { result ≡ None → IsSame self.old self.new }
-        ensures step { IfSome result (ResizesAt (wanted how) place self.old self.new) }
-        ensures steps { TakesFewSteps self.old self.new }
+        ensures step { IfSome result (ResizesAt (new_size how) place self.old self.new) }
+        ensures accesses { TakesFewAccesses self.old self.new }
     {
         if place.realm != self.realm {
             return None;
@@ -72,7 +72,7 @@ impl<T: Tables> HeapsOf<T> {
     /// ```
     pub fn shrink(&mut self, place: Place, size: u32) -> Option<bool>
         ensures live { IsSome result ↔ IsLive place self.old }
-        ensures done { IfSome result (λ done. IsTrue done ↔ CanResizeAt (Less size) place self.old) }
+        ensures done { IfSome result (λ done. IsTrue done ↔ CanResizeAt (Shrunk size) place self.old) }
         // Then the range has `size` units, from its first one on. Every other place keeps its range.
         ensures range { result ≡ Some true → HasUnits place size self.old self.new }
         ensures others { KeepsOthers place self.old self.new }
@@ -81,8 +81,8 @@ impl<T: Tables> HeapsOf<T> {
         ensures refused { result ≡ Some false → AreTwins self.old self.new }
         ensures gone { result ≡ None → IsSame self.old self.new }
         // The step of its heap. All other heaps are as they were.
-        ensures step { IfSome result (ResizesAt (Less size) place self.old self.new) }
-        ensures steps { TakesFewSteps self.old self.new }
+        ensures step { IfSome result (ResizesAt (Shrunk size) place self.old self.new) }
+        ensures accesses { TakesFewAccesses self.old self.new }
     {
         self.resize(place, Resize::Shrink(size))
     }
@@ -99,7 +99,7 @@ impl<T: Tables> HeapsOf<T> {
     /// ```
     pub fn grow_in_place(&mut self, place: Place, size: u32) -> Option<bool>
         ensures live { IsSome result ↔ IsLive place self.old }
-        ensures done { IfSome result (λ done. IsTrue done ↔ CanResizeAt (More size) place self.old) }
+        ensures done { IfSome result (λ done. IsTrue done ↔ CanResizeAt (Grown size) place self.old) }
         // Then the range has `size` units, from its first one on. Every other place keeps its range.
         ensures range { result ≡ Some true → HasUnits place size self.old self.new }
         ensures others { KeepsOthers place self.old self.new }
@@ -108,8 +108,8 @@ impl<T: Tables> HeapsOf<T> {
         ensures refused { result ≡ Some false → AreTwins self.old self.new }
         ensures gone { result ≡ None → IsSame self.old self.new }
         // The step of its heap. All other heaps are as they were.
-        ensures step { IfSome result (ResizesAt (More size) place self.old self.new) }
-        ensures steps { TakesFewSteps self.old self.new }
+        ensures step { IfSome result (ResizesAt (Grown size) place self.old self.new) }
+        ensures accesses { TakesFewAccesses self.old self.new }
     {
         self.resize(place, Resize::Grow(size))
     }

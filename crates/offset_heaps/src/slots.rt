@@ -9,15 +9,15 @@ ghost use Rattle.offset_allocator.specs.Tight.{CanHold};
 ghost use Rattle.offset_guarded.specs.Guard.{Guard, HasSerialLeft, IsLive};
 ghost use Rattle.offset_allocator.specs.Moving.Compacting.{IsCalledWith};
 ghost use Rattle.offset_heaps.specs.Changing.{AltersIn, CanResize, CanResizeIn, CompactsIn, MakesRoomIn, Resizes};
-ghost use Rattle.offset_heaps.specs.Changing.{CompactsSlot, IsCalledAt, moves_in, numbered, wanted};
+ghost use Rattle.offset_heaps.specs.Changing.{CompactsSlot, IsCalledAt, moves_in, numbered, new_size};
 ghost use Rattle.offset_heaps.specs.Extending.{CanExtendIn, ExtendsIf};
 ghost use Rattle.offset_heaps.specs.Heaps.{HasFewNodes, IsOfKind, IsRaisedAsNeeded, MustRaise, MustRaiseIn, is_empty};
 ghost use Rattle.offset_heaps.specs.Heaps.{live_of, part};
 ghost use Rattle.offset_heaps.specs.Heaps.{range_in, room, room_of, slot};
 ghost use Rattle.offset_heaps.specs.Numbering.{IsHeapFrom, NoHeapFrom};
 ghost use Rattle.offset_heaps.specs.Relocating.{HasLive, IsEmptiest, NoneLive, TakesUnits, units_in};
-ghost use Rattle.offset_heaps.specs.Slots.{CanHoldIn, Changes, Fills, FreesIn, KeepsOthersIn, RaisesIn};
-ghost use Rattle.offset_heaps.specs.Slots.{IsMore, ResetsIn, Serves, ServesTight};
+ghost use Rattle.offset_heaps.specs.Slots.{CanHoldIn, Changes, GrantsTightAlignedIn, FreesIn, KeepsOthersIn, RaisesIn};
+ghost use Rattle.offset_heaps.specs.Slots.{IsMore, ResetsIn, GrantsIn, GrantsTightIn};
 
 use crate::compact::compact_numbered;
 use crate::extend::extend_in;
@@ -111,7 +111,7 @@ pub(crate) fn grant_in<T: Tables>(slot: &mut Option<GuardedOf<T>>, size: u32, al
     requires some { 1 ≤ units_needed size align }
     requires alignment { 1 ≤ align }
     requires room { units_needed size align ≤ room_of (blocks_needed align) slot.old }
-    ensures { Serves size align slot.old slot.new result }
+    ensures { GrantsIn size align slot.old slot.new result }
 {
     match slot {
         Some(heap) => {
@@ -128,7 +128,7 @@ pub(crate) fn grant_in<T: Tables>(slot: &mut Option<GuardedOf<T>>, size: u32, al
 /// Grants a request in a heap that has a free block for it.
 pub(crate) fn grant_tight_in<T: Tables>(slot: &mut Option<GuardedOf<T>>, size: u32) -> Ticket
     requires { CanHoldIn size 1 slot.old }
-    ensures { ServesTight size slot.old slot.new result }
+    ensures { GrantsTightIn size slot.old slot.new result }
 {
     match slot {
         Some(heap) => match heap.allocate_tight(size) {
@@ -140,10 +140,14 @@ pub(crate) fn grant_tight_in<T: Tables>(slot: &mut Option<GuardedOf<T>>, size: u
 }
 
 // Grants a request in a heap, a free block of which holds it.
-fn fill_in<T: Tables>(slot: &mut Option<GuardedOf<T>>, size: u32, align: u32) -> Ticket
+fn grant_tight_aligned_in<T: Tables>(
+    slot: &mut Option<GuardedOf<T>>,
+    size: u32,
+    align: u32,
+) -> Ticket
     requires alignment { 1 ≤ align }
     requires holds { CanHoldIn size align slot.old }
-    ensures { Fills size align slot.old slot.new result }
+    ensures { GrantsTightAlignedIn size align slot.old slot.new result }
 {
     match slot {
         Some(heap) => match heap.allocate_tight_aligned(size, align) {
@@ -192,8 +196,8 @@ fn has_few_nodes<T: Tables>(heap: &GuardedOf<T>, number: u32, limits: Limits) ->
 fn resize_heap<T: Tables>(heap: &mut GuardedOf<T>, ticket: Ticket, how: Resize) -> Option<bool>
     ensures live { IsSome result ↔ IsLive ticket heap.old }
     ensures done { IfSome result
-        (λ done. IsTrue done ↔ CanResize (wanted how) ticket.name heap.old.space) }
-    ensures change { IfSome result (λ done. Resizes (wanted how) ticket done heap.old heap.new) }
+        (λ done. IsTrue done ↔ CanResize (new_size how) ticket.name heap.old.space) }
+    ensures change { IfSome result (λ done. Resizes (new_size how) ticket done heap.old heap.new) }
     ensures same { result ≡ None → heap.new ≡ heap.old }
 {
     is_well_formed(heap.allocator());
@@ -213,8 +217,8 @@ fn resize_in<T: Tables>(
 ) -> Option<bool>
     ensures live { IsSome result ↔ IsSome (range_in ticket slot.old) }
     ensures done { IfSome result
-        (λ done. IsTrue done ↔ CanResizeIn limits number (wanted how) ticket.name slot.old) }
-    ensures change { IfSome result (λ done. AltersIn (Resizes (wanted how) ticket done) slot.old slot.new) }
+        (λ done. IsTrue done ↔ CanResizeIn limits number (new_size how) ticket.name slot.old) }
+    ensures change { IfSome result (λ done. AltersIn (Resizes (new_size how) ticket done) slot.old slot.new) }
     ensures same { result ≡ None → slot.new ≡ slot.old }
 {
     match slot {
@@ -386,7 +390,7 @@ impl<T: Tables> Slots<T> {
         requires some { 1 ≤ units_needed size align }
         requires alignment { 1 ≤ align }
         requires room { units_needed size align ≤ room_of (blocks_needed align) (slot number self.old) }
-        ensures grants { Changes number (λ o p. Serves size align o p result) self.old self.new }
+        ensures grants { Changes number (λ o p. GrantsIn size align o p result) self.old self.new }
         ensures accesses { count.new ≡ count.old + 1 }
     {
         count.tick();
@@ -404,11 +408,11 @@ impl<T: Tables> Slots<T> {
         requires there { number < length self.old }
         requires alignment { 1 ≤ align }
         requires holds { CanHoldIn size align (slot number self.old) }
-        ensures grants { Changes number (λ o p. Fills size align o p result) self.old self.new }
+        ensures grants { Changes number (λ o p. GrantsTightAlignedIn size align o p result) self.old self.new }
         ensures accesses { count.new ≡ count.old + 1 }
     {
         count.tick();
-        fill_in(&mut self.heaps[number as usize], size, align)
+        grant_tight_aligned_in(&mut self.heaps[number as usize], size, align)
     }
 
     // Whether a free block of the heap of a number holds a request.
@@ -483,9 +487,9 @@ impl<T: Tables> Slots<T> {
         ensures live { IsSome result ↔ IsSome (range_in ticket (slot number self.old)) }
         ensures there { IsSome result → number < length self.old }
         ensures done { IfSome result
-            (λ done. IsTrue done ↔ CanResizeIn limits number (wanted how) ticket.name (slot number self.old)) }
+            (λ done. IsTrue done ↔ CanResizeIn limits number (new_size how) ticket.name (slot number self.old)) }
         ensures change { IfSome result
-            (λ done. Changes number (AltersIn (Resizes (wanted how) ticket done)) self.old self.new) }
+            (λ done. Changes number (AltersIn (Resizes (new_size how) ticket done)) self.old self.new) }
         ensures same { result ≡ None → self.new ≡ self.old }
         ensures accesses { count.new ≡ count.old + 1 }
     {

@@ -55,7 +55,7 @@ impl<T: Tables> HeapsOf<T> {
         ensures less { result ≡ None → NoneFits (blocks_needed align) (units_needed size align) self.old }
         ensures there { IfSome result (λ k. k < length self.old.slots) }
         ensures same { IsSame self.old self.new }
-        ensures steps { self.new.accesses ≤ self.old.accesses + numbers self.old }
+        ensures accesses { self.new.accesses ≤ self.old.accesses + numbers self.old }
     {
         let limits = self.limits;
         let numbers = limits.most + limits.most_larger;
@@ -64,7 +64,7 @@ impl<T: Tables> HeapsOf<T> {
     }
 
     // Grants a request in the heap of a number, a free block of which holds it, and whose node limit need not be raised.
-    fn fill_at(&mut self, number: u32, size: u32, align: u32) -> Granted
+    fn grant_tight_at(&mut self, number: u32, size: u32, align: u32) -> Granted
         requires there { number < length self.old.slots }
         requires alignment { 1 ≤ align }
         requires holds { CanHoldIn size align (heap_at number self.old) }
@@ -73,7 +73,7 @@ impl<T: Tables> HeapsOf<T> {
         ensures number { result.place.heap ≡ number }
         ensures found { result.is_new ≡ false }
         ensures aligned { result.place.ticket.offset % align ≡ 0 }
-        ensures steps { (bits : ℕ) → numbers self.old ≤ 2 ^ bits
+        ensures accesses { (bits : ℕ) → numbers self.old ≤ 2 ^ bits
             → self.new.accesses ≤ self.old.accesses + 12 * bits + 10 }
     {
         let ticket = self.slots.fill(number, size, align, &mut self.accesses);
@@ -90,7 +90,7 @@ impl<T: Tables> HeapsOf<T> {
     }
 
     // Grants a request in the first heap that holds it, and raises its node limit first where it has to.
-    fn fill_first(&mut self, number: u32, size: u32, align: u32) -> Result<Granted, Refusal>
+    fn grant_tight_first(&mut self, number: u32, size: u32, align: u32) -> Result<Granted, Refusal>
         requires there { number < length self.old.slots }
         requires units { 1 ≤ size }
         requires alignment { 1 ≤ align }
@@ -101,12 +101,12 @@ impl<T: Tables> HeapsOf<T> {
         ensures found { IfOk result (λ g. (g.is_new ≡ false) × (g.place.heap ≡ number)) }
         ensures grants { IfOk result (λ g. GrantsTight size align self.old self.new g.place) }
         ensures aligned { IfOk result (λ g. g.place.ticket.offset % align ≡ 0) }
-        ensures steps { (bits : ℕ) → numbers self.old ≤ 2 ^ bits
+        ensures accesses { (bits : ℕ) → numbers self.old ≤ 2 ^ bits
             → self.new.accesses ≤ self.old.accesses + 12 * bits + 11 }
     {
         match self.raise(number) {
             Err(_) => Err(Refusal::Memory),
-            Ok(_) => Ok(self.fill_at(number, size, align)),
+            Ok(_) => Ok(self.grant_tight_at(number, size, align)),
         }
     }
 
@@ -122,14 +122,14 @@ impl<T: Tables> HeapsOf<T> {
         ensures fills { IfOk result (λ g. g.is_new ≡ false → GrantsTight size align self.old self.new g.place) }
         ensures grants { IfOk result (λ g. g.is_new ≡ true → Grants size align self.old self.new g) }
         ensures aligned { IfOk result (λ g. g.place.ticket.offset % align ≡ 0) }
-        ensures steps { (bits : ℕ) → numbers self.old ≤ 2 ^ bits
+        ensures accesses { (bits : ℕ) → numbers self.old ≤ 2 ^ bits
             → self.new.accesses ≤ self.old.accesses + numbers self.old + 16 * bits + 32 }
     {
         if size == 0 {
             return Err(Refusal::Empty);
         }
         match self.first_holding(size, align) {
-            Some(number) => self.fill_first(number, size, align),
+            Some(number) => self.grant_tight_first(number, size, align),
             None => self.grant_new(size, align),
         }
     }
@@ -157,7 +157,7 @@ impl<T: Tables> HeapsOf<T> {
         ensures others { IfOk result (λ g. KeepsOthers g.place self.old self.new) }
         ensures fills { IfOk result (λ g. g.is_new ≡ false → GrantsTight size 1 self.old self.new g.place) }
         ensures grants { IfOk result (λ g. g.is_new ≡ true → Grants size 1 self.old self.new g) }
-        ensures steps { (bits : ℕ) → numbers self.old ≤ 2 ^ bits
+        ensures accesses { (bits : ℕ) → numbers self.old ≤ 2 ^ bits
             → self.new.accesses ≤ self.old.accesses + numbers self.old + 16 * bits + 32 }
     {
         self.allocate_tight_aligned(size, 1)
@@ -209,7 +209,7 @@ impl<T: Tables> HeapsOf<T> {
         // are as they were.
         ensures fills { IfOk result (λ g. g.is_new ≡ false → GrantsTight size align self.old self.new g.place) }
         ensures grants { IfOk result (λ g. g.is_new ≡ true → Grants size align self.old self.new g) }
-        ensures steps { (bits : ℕ) → numbers self.old ≤ 2 ^ bits
+        ensures accesses { (bits : ℕ) → numbers self.old ≤ 2 ^ bits
             → self.new.accesses ≤ self.old.accesses + numbers self.old + 16 * bits + 32 }
     {
         self.request_tight(size, align)

@@ -10,7 +10,7 @@ use Rattle.offset_heaps.specs.Heaps.{Heaps, FreesIn, Grants, IsSame, Puts, heap_
 use Rattle.offset_allocator.specs.Moving.Compacting.{Move}
 use Rattle.offset_allocator.specs.declared.moves.room.RoomCost.{RoomCost}
 use Rattle.offset_guarded.specs.Guard.{Guard}
-use Rattle.offset_heaps.specs.Changing.{CompactsHeap, MakesRoomAt, ResizesAt, Wanted}
+use Rattle.offset_heaps.specs.Changing.{CompactsHeap, MakesRoomAt, ResizesAt, NewSize}
 use Rattle.offset_heaps.specs.Extending.{ExtendsHeap}
 use Rattle.offset_heaps.specs.Histories.{IsStep}
 use Rattle.offset_heaps.specs.Tight.{GrantsTight}
@@ -38,7 +38,7 @@ module _ (hs ks : Heaps) where
   drops_one None same step = inl (same refl)
   drops_one (Some k) same step = inr (inr (inr (inl (k, step))))
 
-  pub resizes : (how : Wanted) (p : Place) (r : Option Bool) → (r ≡ None → IsSame hs ks) → IfSome r (ResizesAt how p hs ks) → IsStep hs ks
+  pub resizes : (how : NewSize) (p : Place) (r : Option Bool) → (r ≡ None → IsSame hs ks) → IfSome r (ResizesAt how p hs ks) → IsStep hs ks
   resizes how p None same step = inl (same refl)
   resizes how p (Some d) same step =
       inr (inr (inr (inr (inr (inl (p.heap, record { before = step.before; after = step.after; heap = step.heap; by = step.by.serials.realm; heaps = step.heaps }))))))

@@ -3,9 +3,9 @@
 
 ghost use Rattle.std.specs.Prelude.{◌≤◌};
 ghost use Rattle.offset_heaps.specs.Calls.{Allocates, CompactsOne, Drops, DropsEmpty, Frees, GivesUp, Relocates};
-ghost use Rattle.offset_heaps.specs.Calls.{TakesRoom, TakesSize};
+ghost use Rattle.offset_heaps.specs.Calls.{MakesRoomOne, TakesSize};
 ghost use Rattle.offset_heaps.specs.Histories.{ResetsAll};
-ghost use Rattle.offset_heaps.specs.Changing.{Less, More};
+ghost use Rattle.offset_heaps.specs.Changing.{Shrunk, Grown};
 
 use offset_allocator::{Move, RoomCost};
 use offset_heaps::{Granted, Heaps, Place, Refusal};
@@ -77,14 +77,14 @@ pub fn reset(heaps: &mut Heaps)
 
 /// Makes a range smaller in place.
 pub fn shrink(heaps: &mut Heaps, place: Place, size: u32) -> Option<bool>
-    ensures { TakesSize (Less size) place heaps.old heaps.new result }
+    ensures { TakesSize (Shrunk size) place heaps.old heaps.new result }
 {
     heaps.shrink(place, size)
 }
 
 /// Makes a range larger in place.
 pub fn grow_in_place(heaps: &mut Heaps, place: Place, size: u32) -> Option<bool>
-    ensures { TakesSize (More size) place heaps.old heaps.new result }
+    ensures { TakesSize (Grown size) place heaps.old heaps.new result }
 {
     heaps.grow_in_place(place, size)
 }
@@ -98,7 +98,7 @@ pub fn compact_heap(heaps: &mut Heaps, number: u32) -> bool
 
 /// Makes room for a request in a heap.
 pub fn make_room(heaps: &mut Heaps, number: u32, size: u32) -> Option<RoomCost>
-    ensures { TakesRoom number size heaps.old heaps.new result }
+    ensures { MakesRoomOne number size heaps.old heaps.new result }
 {
     heaps.make_room(number, size, &mut |_range: Move<u32>| ())
 }

@@ -68,8 +68,8 @@ pub fn add_replies(replies: &[Reply], digest: &mut Digest) {
                 add_moves(moves, digest);
             }
             Reply::RoomCost(cost) => add_cost(cost, digest),
-            Reply::Beside(None) => digest.add(13),
-            Reply::Beside(Some(range)) => {
+            Reply::Found(None) => digest.add(13),
+            Reply::Found(Some(range)) => {
                 digest.add(range.number);
                 digest.add(u64::from(range.offset));
             }

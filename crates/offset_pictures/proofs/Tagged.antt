@@ -173,7 +173,7 @@ is_refusal refusal.Fragmented = words (refusal_words refusal.Fragmented) refl
 
 is_reason : (why : Reason) (r : StorageReport) → IsContent (reason_text why r)
 is_reason (reason.Request why) r = joins (refusal_words why) (report_text why r) (is_refusal why) (is_reported why r)
-is_reason reason.Limit r = words (codes "a space has at most 4294967295 units") refl
+is_reason reason.TooManyUnits r = words (codes "a space has at most 4294967295 units") refl
 is_reason reason.NoRoom r = words (codes "too few units directly after the range are free") refl
 is_reason reason.Smaller r = words (codes "the range has fewer units") refl
 is_reason reason.Larger r = words (codes "the range has more units") refl

@@ -12,7 +12,7 @@ use Rattle.offset_pictures.specs.declared.reasons.Spot.{Spot}
 use Rattle.offset_pictures.specs.declared.refusing.Asked.{Asked}
 use Rattle.offset_pictures.specs.declared.refusing.Asked.TheVariants.{Alloc, Align, Extend, Shrink, Grow}
 use Rattle.offset_pictures.specs.declared.refusing.Reason.{Reason}
-use Rattle.offset_pictures.specs.declared.refusing.Reason.TheVariants.{Request, Limit, NoRoom, Smaller, Larger}
+use Rattle.offset_pictures.specs.declared.refusing.Reason.TheVariants.{Request, TooManyUnits, NoRoom, Smaller, Larger}
 use Rattle.offset_pictures.specs.declared.refusing.Refused.{Refused}
 use Rattle.offset_pictures.specs.Axes.{right_of}
 use Rattle.offset_pictures.specs.Numerals.{counted_from_1, pixels_text}
@@ -42,7 +42,7 @@ report_text other r = codes "; largest free region " ++ decimal r.largest_free_r
 -- why a call was refused
 abbrev pub reason_text : Reason → StorageReport → List ℕ
 reason_text (Request why) r = refusal_words why ++ report_text why r
-reason_text Limit r = codes "a space has at most 4294967295 units"
+reason_text TooManyUnits r = codes "a space has at most 4294967295 units"
 reason_text NoRoom r = codes "too few units directly after the range are free"
 reason_text Smaller r = codes "the range has fewer units"
 reason_text Larger r = codes "the range has more units"

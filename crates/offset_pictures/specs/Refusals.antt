@@ -54,7 +54,7 @@ shortage spare needed m =
 
 -- why more units are refused: a space may not have so many, or they need a block, and none may be added
 abbrev pub why_extend : ℕ → Numbers → Reason
-why_extend more m = if nat_le (m.units + more) max_size then reason.Request Nodes else reason.Limit
+why_extend more m = if nat_le (m.units + more) max_size then reason.Request Nodes else reason.TooManyUnits
 
 -- call i, where it is refused; other commands never are
 abbrev pub refused_call : ℕ → Command → Numbers → List Refused

@@ -34,7 +34,7 @@ pub enum Reason {
     /// What the allocator says of a request; `Nodes` of the other calls too.
     Request(Refusal),
     /// More units than a space may have: `extend`.
-    Limit,
+    TooManyUnits,
     /// Too few units directly after the range are free: `grow`.
     NoRoom,
     /// The range has fewer units: `shrink`.
@@ -83,7 +83,7 @@ fn why_extend<T: Tables>(space: &AllocatorOf<T>, more: u32) -> Reason
     if space.size().checked_add(more).is_some() {
         Reason::Request(Refusal::Nodes)
     } else {
-        Reason::Limit
+        Reason::TooManyUnits
     }
 }
 

@@ -153,8 +153,8 @@ fn put_reply(cells: &mut Cells<'_>, reply: &Reply) {
             put_all(cells, &[10, next.unwrap_or(u32::MAX)]);
             put_moves(cells, moves);
         }
-        Reply::Beside(None) => put(cells, 8),
-        Reply::Beside(Some(range)) => {
+        Reply::Found(None) => put(cells, 8),
+        Reply::Found(Some(range)) => {
             put(cells, 9);
             put(cells, range.number);
             put(cells, u64::from(range.offset));

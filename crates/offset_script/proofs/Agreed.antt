@@ -14,7 +14,7 @@ use Rattle.offset_script.proofs.Ends.{AreFree, free_named, free_tagged, apart_ta
 use Rattle.offset_script.proofs.{Tests.if_same, Tests.same_some, Found.found_at, Found.not_found, Found.chosen_at, Well.IsWell, Well.not_there, Members.map_parts, Members.map_first}
 use Rattle.offset_allocator.proofs.{Emptied.none_at, Views.ViewApart.and_true, Reading.size_at, Served.Serves, Views.Split.split_view, Tallies.units-append, Views.ViewBins.names_same}
 use Rattle.offset_allocator.proofs.{Views.ViewBins.names_other, Classes.down_small, Classes.fits_size}
-use Rattle.offset_allocator.specs.{View.Block, View.Place, View.place_of, View.free_block, View.free_part, Requests.HasRoomFor, Requests.CanGrant, Requests.blocks_needed, Requests.units_needed}
+use Rattle.offset_allocator.specs.{View.Block, View.Place, View.place_of, View.free_block, View.free_part, Requests.AdmitsBlocks, Requests.CanGrant, Requests.blocks_needed, Requests.units_needed}
 use Rattle.offset_script.specs.declared.scripts.Command.TheVariants as command
 use Rattle.offset_script.specs.Machine as machine
 use Rattle.offset_allocator.specs.View as named
@@ -174,10 +174,10 @@ module _ (v : View) (kept_name : ℕ → Option ℕ) (s : State) (w : IsWellForm
   same_units = ap units g.view ∙ sym (total_units g.labels) ∙ sym (ap total g.state)
 
   -- room for more blocks
-  pub has_room : (k : ℕ) → HasRoomFor k v → machine.is_short_of k s ≡ false
+  pub has_room : (k : ℕ) → AdmitsBlocks k v → machine.is_short_of k s ≡ false
   has_room k room = lt-leb s.limit (length s.blocks + k) (let e = g.limit in let f = same_length in omega arith)
 
-  pub room_for : (k : ℕ) → machine.is_short_of k s ≡ false → HasRoomFor k v
+  pub room_for : (k : ℕ) → machine.is_short_of k s ≡ false → AdmitsBlocks k v
   room_for k e = let h = leb-false s.limit (length s.blocks + k) e in let e = g.limit in let f = same_length in omega arith
 
   module _ (blocks needed n : ℕ) (padding_at : ℕ → ℕ) (u : View) (w' : IsWellFormed u) where
@@ -186,7 +186,7 @@ module _ (v : View) (kept_name : ℕ → Option ℕ) (s : State) (w : IsWellForm
     refused_is none = search (arith, none_chosen, labelled, room_for)
 
     -- a request that is granted, of a block at a place
-    granted_is : HasRoomFor blocks v → (padding : ℕ) (sp : Spot) → chosen_place needed (tags g.labels) ≡ Some (plain_place sp) → padding ≡ padding_at (units (names sp.before))
+    granted_is : AdmitsBlocks blocks v → (padding : ℕ) (sp : Spot) → chosen_place needed (tags g.labels) ≡ Some (plain_place sp) → padding ≡ padding_at (units (names sp.before))
         → machine.request s blocks needed n padding_at ≡ machine.grant s n padding (plain_place sp)
     granted_is room padding sp at e = search (arith, has_room, plain_place, total_units)
 
@@ -325,7 +325,7 @@ module _ (v : View) (kept_name : ℕ → Option ℕ) (s : State) (w : IsWellForm
   )
     where
       go : (b : Bool) → machine.ends_live s.blocks ≡ b → (b && machine.is_short_of 1 s) ≡ false
-          → HasRoomFor 1 v ⊎ ((before : List Block) × (last : Block) × (v.blocks ≡ before ++ last ∷ []) × (last.used ≡ false))
+          → AdmitsBlocks 1 v ⊎ ((before : List Block) × (last : Block) × (v.blocks ≡ before ++ last ∷ []) × (last.used ≡ false))
       go true f h = inl (room_for 1 h)
       go false f h = search (arith, last_free, length, length-map, by_name, names, map-append, not)
 

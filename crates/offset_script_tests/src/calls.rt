@@ -98,7 +98,7 @@ const AT_THE_LIMIT: List = List {
         // three blocks, so no further one
         (Call::Refusal(1), "Refusal(Some(Nodes))"),
         (Call::RefusalTight(1), "Refusal(Some(Nodes))"),
-        (Call::Tight(1), "Answer(Refused)"),
+        (Call::AllocateTight(1), "Answer(Refused)"),
         (Call::Shrink(1, 4), "Answer(Refused)"),
         (Call::Shrink(1, 5), "Resized"),
         (Call::Shrink(2, 4), "Resized"),
@@ -156,11 +156,14 @@ const TIGHT: List = List {
         (Call::RefusalTight(100), "Refusal(None)"),
         (Call::Refusal(100), "Refusal(Some(TooLarge))"),
         (Call::RefusalTight(101), "Refusal(Some(TooLarge))"),
-        (Call::Tight(101), "Answer(Refused)"),
+        (Call::AllocateTight(101), "Answer(Refused)"),
         // the class of the whole space has the value 96
-        (Call::Tight(100), "Answer(Grant { number: 1, offset: 0 })"),
+        (
+            Call::AllocateTight(100),
+            "Answer(Grant { number: 1, offset: 0 })",
+        ),
         (Call::RefusalTight(0), "Refusal(Some(Space))"),
-        (Call::Tight(0), "Answer(Refused)"),
+        (Call::AllocateTight(0), "Answer(Refused)"),
         (Call::Command(Command::Free(1)), "Answer(Freed)"),
         (
             Call::Command(Command::Alloc(41)),
@@ -186,15 +189,21 @@ const TIGHT: List = List {
         (Call::RefusalTight(98), "Refusal(Some(Fragmented))"),
         (Call::RefusalTight(99), "Refusal(Some(Space))"),
         (Call::RefusalTight(43), "Refusal(None)"),
-        (Call::Tight(42), "Answer(Grant { number: 6, offset: 42 })"),
-        (Call::Tight(41), "Answer(Grant { number: 7, offset: 0 })"),
+        (
+            Call::AllocateTight(42),
+            "Answer(Grant { number: 6, offset: 42 })",
+        ),
+        (
+            Call::AllocateTight(41),
+            "Answer(Grant { number: 7, offset: 0 })",
+        ),
         // of the 14 units at 86, as `Align` takes them
         (
-            Call::TightAligned(5, 8),
+            Call::AllocateTightAligned(5, 8),
             "Answer(Grant { number: 8, offset: 88 })",
         ),
         (
-            Call::TightAligned(7, 1),
+            Call::AllocateTightAligned(7, 1),
             "Answer(Grant { number: 9, offset: 93 })",
         ),
         // free: one unit at 84, two at 86
@@ -202,15 +211,18 @@ const TIGHT: List = List {
             Call::RefusalTightAligned(1, 64),
             "Refusal(Some(Fragmented))",
         ),
-        (Call::TightAligned(1, 64), "Answer(Refused)"),
+        (Call::AllocateTightAligned(1, 64), "Answer(Refused)"),
         (Call::RefusalTightAligned(2, 2), "Refusal(None)"),
         (Call::RefusalAligned(2, 2), "Refusal(Some(Fragmented))"),
         (
-            Call::TightAligned(2, 2),
+            Call::AllocateTightAligned(2, 2),
             "Answer(Grant { number: 10, offset: 86 })",
         ),
         (Call::RefusalTightAligned(2, 2), "Refusal(Some(Space))"),
-        (Call::Tight(1), "Answer(Grant { number: 11, offset: 84 })"),
+        (
+            Call::AllocateTight(1),
+            "Answer(Grant { number: 11, offset: 84 })",
+        ),
         (Call::Compact, "Compacted([])"),
     ],
 };
@@ -292,13 +304,13 @@ const ENDING: List = List {
     size: 100,
     limit: 16,
     rows: &[
-        (Call::First, "Beside(None)"),
-        (Call::Last, "Beside(None)"),
+        (Call::FirstLive, "Found(None)"),
+        (Call::LastLive, "Found(None)"),
         (Call::Retract(101), "Answer(Refused)"),
         (Call::Retract(0), "Resized"),
         (Call::Relocate(1), "Answer(Gone)"),
-        (Call::Before(1), "Answer(Gone)"),
-        (Call::After(0), "Answer(Gone)"),
+        (Call::LiveBefore(1), "Answer(Gone)"),
+        (Call::LiveAfter(0), "Answer(Gone)"),
         (
             Call::Command(Command::Alloc(10)),
             "Answer(Grant { number: 1, offset: 0 })",
@@ -313,45 +325,45 @@ const ENDING: List = List {
         ),
         // 10, 20 and 10 live, 60 free
         (
-            Call::Last,
-            "Beside(Some(LiveRange { number: 3, offset: 30 }))",
+            Call::LastLive,
+            "Found(Some(LiveRange { number: 3, offset: 30 }))",
         ),
         (
-            Call::Before(3),
-            "Beside(Some(LiveRange { number: 2, offset: 10 }))",
+            Call::LiveBefore(3),
+            "Found(Some(LiveRange { number: 2, offset: 10 }))",
         ),
         (
-            Call::After(1),
-            "Beside(Some(LiveRange { number: 2, offset: 10 }))",
+            Call::LiveAfter(1),
+            "Found(Some(LiveRange { number: 2, offset: 10 }))",
         ),
-        (Call::Before(1), "Beside(None)"),
-        (Call::After(3), "Beside(None)"),
+        (Call::LiveBefore(1), "Found(None)"),
+        (Call::LiveAfter(3), "Found(None)"),
         // the only free block begins after it
         (Call::Relocate(3), "Answer(Refused)"),
         (Call::Command(Command::Free(1)), "Answer(Freed)"),
-        (Call::Before(2), "Beside(None)"),
+        (Call::LiveBefore(2), "Found(None)"),
         (
-            Call::First,
-            "Beside(Some(LiveRange { number: 2, offset: 10 }))",
+            Call::FirstLive,
+            "Found(Some(LiveRange { number: 2, offset: 10 }))",
         ),
-        (Call::Before(1), "Answer(Gone)"),
+        (Call::LiveBefore(1), "Answer(Gone)"),
         (Call::Relocate(3), "Answer(Grant { number: 4, offset: 0 })"),
         (
-            Call::First,
-            "Beside(Some(LiveRange { number: 4, offset: 0 }))",
+            Call::FirstLive,
+            "Found(Some(LiveRange { number: 4, offset: 0 }))",
         ),
         // the old range is still live
         (Call::Offset(3), "Offset(30)"),
         (
-            Call::Before(2),
-            "Beside(Some(LiveRange { number: 4, offset: 0 }))",
+            Call::LiveBefore(2),
+            "Found(Some(LiveRange { number: 4, offset: 0 }))",
         ),
         (Call::Command(Command::Free(3)), "Answer(Freed)"),
         (Call::Relocate(3), "Answer(Gone)"),
         // 10 and 20 live, 70 free
         (
-            Call::Last,
-            "Beside(Some(LiveRange { number: 2, offset: 10 }))",
+            Call::LastLive,
+            "Found(Some(LiveRange { number: 2, offset: 10 }))",
         ),
         (Call::Retract(71), "Answer(Refused)"),
         (Call::Retract(30), "Resized"),
@@ -377,23 +389,23 @@ const ENDING: List = List {
         // 10 free, 20, 40 and 4 live
         (Call::Relocate(2), "Answer(Refused)"),
         (
-            Call::After(2),
-            "Beside(Some(LiveRange { number: 5, offset: 30 }))",
+            Call::LiveAfter(2),
+            "Found(Some(LiveRange { number: 5, offset: 30 }))",
         ),
         (Call::Command(Command::Free(5)), "Answer(Freed)"),
         // over a free block
         (
-            Call::After(2),
-            "Beside(Some(LiveRange { number: 6, offset: 70 }))",
+            Call::LiveAfter(2),
+            "Found(Some(LiveRange { number: 6, offset: 70 }))",
         ),
         (
-            Call::Before(6),
-            "Beside(Some(LiveRange { number: 2, offset: 10 }))",
+            Call::LiveBefore(6),
+            "Found(Some(LiveRange { number: 2, offset: 10 }))",
         ),
         (Call::Relocate(6), "Answer(Grant { number: 7, offset: 0 })"),
         (Call::Command(Command::Reset), "Answer(Reset)"),
-        (Call::Last, "Beside(None)"),
-        (Call::Before(6), "Answer(Gone)"),
+        (Call::LastLive, "Found(None)"),
+        (Call::LiveBefore(6), "Answer(Gone)"),
         // nothing is left but a block of no units
         (Call::Retract(74), "Resized"),
         (Call::Retract(1), "Answer(Refused)"),
@@ -406,8 +418,8 @@ const ENDING: List = List {
             "Answer(Grant { number: 8, offset: 0 })",
         ),
         (
-            Call::Last,
-            "Beside(Some(LiveRange { number: 8, offset: 0 }))",
+            Call::LastLive,
+            "Found(Some(LiveRange { number: 8, offset: 0 }))",
         ),
         (Call::Command(Command::Extend(3)), "Answer(Extended)"),
         (
@@ -415,8 +427,8 @@ const ENDING: List = List {
             "Answer(Grant { number: 9, offset: 0 })",
         ),
         (
-            Call::Before(9),
-            "Beside(Some(LiveRange { number: 8, offset: 0 }))",
+            Call::LiveBefore(9),
+            "Found(Some(LiveRange { number: 8, offset: 0 }))",
         ),
     ],
 };
@@ -468,8 +480,8 @@ const ENDING_AT_THE_LIMIT: List = List {
         // two blocks
         (Call::Relocate(2), "Answer(Grant { number: 3, offset: 0 })"),
         (
-            Call::Last,
-            "Beside(Some(LiveRange { number: 2, offset: 5 }))",
+            Call::LastLive,
+            "Found(Some(LiveRange { number: 2, offset: 5 }))",
         ),
     ],
 };

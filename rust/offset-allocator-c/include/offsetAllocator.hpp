@@ -343,7 +343,7 @@ public:
     // one is the last in the way of units; where there is none, both parts are NO_SPACE.
     Allocation allocateAt(uint32 offset, uint32 size) { return detail::of(oa_allocate_at(space, offset, size)); }
     bool isFreeAt(uint32 offset, uint32 size) const { return oa_is_free_at(space, offset, size); }
-    Allocation handleAt(uint32 offset) const { return detail::of(oa_handle_at(space, offset)); }
+    Allocation liveAt(uint32 offset) const { return detail::of(oa_live_at(space, offset)); }
     Allocation inTheWay(uint32 offset, uint32 size) const { return detail::of(oa_in_the_way(space, offset, size)); }
 
     // Whether the allocation was live; if not, nothing changes.

@@ -27,8 +27,10 @@ struct HeapLimits {
     uint32 firstSize;
     uint32 firstAllocs;
 
-    HeapLimits(uint32 units, uint32 nodes, uint32 usual, uint32 larger, uint32 beginUnits = 0, uint32 beginNodes = 0) noexcept
-        : size(units), maxAllocs(nodes), most(usual), mostLarger(larger), firstSize(beginUnits), firstAllocs(beginNodes) {}
+    HeapLimits(uint32 size_, uint32 maxAllocs_, uint32 most_, uint32 mostLarger_, uint32 firstSize_ = 0,
+               uint32 firstAllocs_ = 0) noexcept
+        : size(size_), maxAllocs(maxAllocs_), most(most_), mostLarger(mostLarger_), firstSize(firstSize_),
+          firstAllocs(firstAllocs_) {}
 };
 
 // A granted range, for as long as the grant lives.
@@ -145,11 +147,11 @@ public:
     bool growInPlace(const Place &place, uint32 size) { return oah_grow_in_place(heaps, in(place), size); }
 
     // Why a request would be refused now; granted, if memory for another heap is given.
-    HeapRefusal why(uint32 size) const { return HeapRefusal(oah_why(heaps, size)); }
-    HeapRefusal whyAligned(uint32 size, uint32 align) const { return HeapRefusal(oah_why_aligned(heaps, size, align)); }
+    HeapRefusal refusal(uint32 size) const { return HeapRefusal(oah_refusal(heaps, size)); }
+    HeapRefusal refusalAligned(uint32 size, uint32 align) const { return HeapRefusal(oah_refusal_aligned(heaps, size, align)); }
 
-    HeapRefusal whyTight(uint32 size) const { return HeapRefusal(oah_why_tight(heaps, size)); }
-    HeapRefusal whyTightAligned(uint32 size, uint32 align) const { return HeapRefusal(oah_why_tight_aligned(heaps, size, align)); }
+    HeapRefusal refusalTight(uint32 size) const { return HeapRefusal(oah_refusal_tight(heaps, size)); }
+    HeapRefusal refusalTightAligned(uint32 size, uint32 align) const { return HeapRefusal(oah_refusal_tight_aligned(heaps, size, align)); }
 
     // Adds units at the end of the heap of a number, whose buffer became larger in place: whether it did.
     bool extendHeap(uint32 number, uint32 more) { return oah_extend_heap(heaps, number, more); }

@@ -59,7 +59,7 @@ typedef struct oa_report {
     uint32_t largest_free_region;
 } oa_report;
 
-/* What is live and what is free, exactly, at the node limit too. live_units + free_units is the size of the space, and
+/* What is live and what is free, exactly, at the node limit too: `Statistics` of Rust and C++. live_units + free_units is the size of the space, and
  * live_ranges + free_blocks + unused_nodes the node limit.
  * largest_free_block: its units. largest_free_region: the smallest size of its class; with room for one more block a
  * request of at least 1 unit is granted exactly when it is at most this.
@@ -152,7 +152,7 @@ typedef enum oa_found {
     OA_BAD_LENGTH = 2,     /* They are not as many as their counts say, or no multiple of 4. */
     OA_BAD_FORM = 3,       /* They do not begin as a state does, or are of another version. */
     OA_BAD_LIMIT = 4,      /* The node limit is above the one that is admitted. */
-    OA_BAD_COUNTS = 5,     /* No block, or more blocks and unused nodes, or live ranges, than the node limit admits. */
+    OA_BAD_COUNTS = 5,     /* No block, or more blocks and unused names, or live ranges, than the node limit admits. */
     OA_BAD_CHECKSUM = 6,
     OA_BAD_BLOCK = 7,      /* A block with a wrong name, or the sizes are not that of the space. */
     OA_BAD_UNUSED = 8,     /* An unused name that is wrong, or listed twice. */
@@ -246,7 +246,7 @@ bool oa_is_free_at(const oa_allocator *space, uint32_t offset, uint32_t size);
 /* The handle of the live range that has the unit at `offset`, so that a range can be freed by a place in it. Both parts are
  * OA_NO_SPACE where that unit is free or not in the space, or if the allocator is null. Cost: 5 accesses, and 5 for each block,
  * from the last one back. */
-oa_allocation oa_handle_at(const oa_allocator *space, uint32_t offset);
+oa_allocation oa_live_at(const oa_allocator *space, uint32_t offset);
 
 /* The handle of the last live range that is in the way of the `size` units that begin at `offset`: it has one of them, or lies
  * among them, as a range of no units may; of no units, it has units on both sides of `offset`. Both parts are OA_NO_SPACE where there is none, or if the allocator is null. Cost: 5
@@ -551,7 +551,7 @@ oag_ticket oag_allocate_tight_aligned(oag_allocator *space, uint32_t size, uint3
 oag_ticket oag_allocate_at(oag_allocator *space, uint32_t offset, uint32_t size);
 bool oag_is_free_at(const oag_allocator *space, uint32_t offset, uint32_t size);
 
-/* As oa_handle_at and oa_in_the_way. The serial is 0 where there is no such range, or the allocator is null. */
+/* As oa_live_at and oa_in_the_way. The serial is 0 where there is no such range, or the allocator is null. */
 oag_ticket oag_live_at(const oag_allocator *space, uint32_t offset);
 oag_ticket oag_in_the_way(const oag_allocator *space, uint32_t offset, uint32_t size);
 

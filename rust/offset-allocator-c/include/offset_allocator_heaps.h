@@ -60,24 +60,24 @@ typedef struct oah_place {
 } oah_place;
 
 /* Why a request is refused: the first of these that applies. */
-typedef enum oah_refusal {
+typedef enum oah_reason {
     OAH_GRANTED = 0,   /* It is granted. */
     OAH_EMPTY = 1,     /* It is for no unit. */
     OAH_TOO_LARGE = 2, /* No heap has room, nor would the last usual one when fresh, and there may be no larger ones. */
     OAH_FULL = 3,      /* No heap has room, and each number whose heap would has one. Free ranges, or drop empty heaps. */
     OAH_MEMORY = 4,    /* Memory was refused: for another heap where none has room, or for more nodes of the one that has. */
     OAH_BAD_CALL = 5   /* The heaps are null, or the alignment is 0. */
-} oah_refusal;
+} oah_reason;
 
 /* What a request gets. is_new: its heap was made for it: make the buffer of that number before the range is used, or take the
  * heap back by oah_give_up. */
 typedef struct oah_granted {
     oah_place place;
     bool is_new;
-    oah_refusal refusal;
+    oah_reason refusal;
 } oah_granted;
 
-/* What is live and what is free in all heaps. A request of at least 1 unit, without alignment, is granted by a heap that is
+/* What is live and what is free in all heaps: Rust's `Totals`, C++'s `HeapTotals`. A request of at least 1 unit, without alignment, is granted by a heap that is
  * there exactly when it is at most largest_free_region. */
 typedef struct oah_all {
     uint32_t heaps;
@@ -214,12 +214,12 @@ bool oah_grow_in_place(oah_heaps *heaps, oah_place place, uint32_t size);
 
 /* What oah_allocate and oah_allocate_aligned would refuse a request for now: OAH_GRANTED where it would be granted, if memory
  * for another heap, or for more nodes of one, is given; never OAH_MEMORY. Cost: some steps for each bit of the numbers. */
-oah_refusal oah_why(const oah_heaps *heaps, uint32_t size);
-oah_refusal oah_why_aligned(const oah_heaps *heaps, uint32_t size, uint32_t align);
+oah_reason oah_refusal(const oah_heaps *heaps, uint32_t size);
+oah_reason oah_refusal_aligned(const oah_heaps *heaps, uint32_t size, uint32_t align);
 
 /* The same of oah_allocate_tight and oah_allocate_tight_aligned. Cost: that of these. */
-oah_refusal oah_why_tight(const oah_heaps *heaps, uint32_t size);
-oah_refusal oah_why_tight_aligned(const oah_heaps *heaps, uint32_t size, uint32_t align);
+oah_reason oah_refusal_tight(const oah_heaps *heaps, uint32_t size);
+oah_reason oah_refusal_tight_aligned(const oah_heaps *heaps, uint32_t size, uint32_t align);
 
 /* As oag_extend, of the heap of a number, whose buffer became larger in place: true if done. Every place keeps its range. A
  * usual heap that has fewer than five unused nodes, and may have more, gets them first, as before a grant. False,

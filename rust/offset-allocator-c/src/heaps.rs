@@ -252,15 +252,15 @@ exports! {
         heaps.grow_in_place(place(at), size).unwrap_or(false)
     } else false;
 
-    fn oah_why([heaps: &ManyHeaps], size: u32) -> Why { why(heaps.refusal(size)) } else Why::BadCall;
+    fn oah_refusal([heaps: &ManyHeaps], size: u32) -> Why { why(heaps.refusal(size)) } else Why::BadCall;
 
-    fn oah_why_aligned([heaps: &ManyHeaps], size: u32, align: u32) -> Why {
+    fn oah_refusal_aligned([heaps: &ManyHeaps], size: u32, align: u32) -> Why {
         if align != 0 { why(heaps.refusal_aligned(size, align)) } else { Why::BadCall }
     } else Why::BadCall;
 
-    fn oah_why_tight([heaps: &ManyHeaps], size: u32) -> Why { why(heaps.refusal_tight(size)) } else Why::BadCall;
+    fn oah_refusal_tight([heaps: &ManyHeaps], size: u32) -> Why { why(heaps.refusal_tight(size)) } else Why::BadCall;
 
-    fn oah_why_tight_aligned([heaps: &ManyHeaps], size: u32, align: u32) -> Why {
+    fn oah_refusal_tight_aligned([heaps: &ManyHeaps], size: u32, align: u32) -> Why {
         if align != 0 { why(heaps.refusal_tight_aligned(size, align)) } else { Why::BadCall }
     } else Why::BadCall;
 

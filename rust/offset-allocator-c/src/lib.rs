@@ -493,7 +493,7 @@ exports! {
 
     fn oa_is_free_at([space: &Space], offset: u32, size: u32) -> bool { space.is_free_at(offset, size) } else false;
 
-    fn oa_handle_at([space: &Space], offset: u32) -> Handle { handle(space.handle_at(offset)) } else NOTHING;
+    fn oa_live_at([space: &Space], offset: u32) -> Handle { handle(space.live_at(offset)) } else NOTHING;
 
     fn oa_in_the_way([space: &Space], offset: u32, size: u32) -> Handle {
         handle(space.in_the_way(offset, size))

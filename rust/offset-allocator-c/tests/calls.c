@@ -364,11 +364,11 @@ static bool same(oa_allocation a, oa_allocation b) { return a.offset == b.offset
 /* the middle of a free block, its start and its end, all of one, and what is in the way; then the node limit of three blocks */
 static void places(void) {
     oa_allocator *space = oa_new(100, 8);
-    CHECK(oa_is_free_at(space, 0, 100) && !oa_is_free_at(space, 0, 101) && is_nothing(oa_handle_at(space, 0)));
+    CHECK(oa_is_free_at(space, 0, 100) && !oa_is_free_at(space, 0, 101) && is_nothing(oa_live_at(space, 0)));
     oa_allocation middle = oa_allocate_at(space, 40, 20);
     CHECK(middle.offset == 40 && oa_allocation_size(space, middle) == 20 && oa_block_count(space) == 3);
-    CHECK(same(oa_handle_at(space, 40), middle) && same(oa_handle_at(space, 59), middle));
-    CHECK(is_nothing(oa_handle_at(space, 39)) && is_nothing(oa_handle_at(space, 60)) && is_nothing(oa_handle_at(space, 100)));
+    CHECK(same(oa_live_at(space, 40), middle) && same(oa_live_at(space, 59), middle));
+    CHECK(is_nothing(oa_live_at(space, 39)) && is_nothing(oa_live_at(space, 60)) && is_nothing(oa_live_at(space, 100)));
     CHECK(oa_is_free_at(space, 0, 40) && !oa_is_free_at(space, 0, 41) && !oa_is_free_at(space, 59, 1) && oa_is_free_at(space, 60, 40));
     CHECK(is_nothing(oa_allocate_at(space, 30, 20)) && same(oa_in_the_way(space, 30, 20), middle));
     CHECK(is_nothing(oa_in_the_way(space, 0, 40)) && is_nothing(oa_in_the_way(space, 60, 4294967295u)));
@@ -376,7 +376,7 @@ static void places(void) {
     CHECK(is_nothing(oa_allocate_at(space, 90, 11)) && is_nothing(oa_in_the_way(space, 90, 11)) && oa_block_count(space) == 3);
     oa_allocation start = oa_allocate_at(space, 0, 10), end = oa_allocate_at(space, 90, 10);
     CHECK(start.offset == 0 && end.offset == 90 && same(oa_in_the_way(space, 0, 100), end) && same(oa_in_the_way(space, 5, 80), middle));
-    CHECK(oa_free(space, oa_handle_at(space, 50)) && is_nothing(oa_in_the_way(space, 10, 80)));
+    CHECK(oa_free(space, oa_live_at(space, 50)) && is_nothing(oa_in_the_way(space, 10, 80)));
     CHECK(oa_allocate_at(space, 10, 80).offset == 10 && oa_free_units(space) == 0 && oa_block_count(space) == 3);
     CHECK(is_nothing(oa_allocate_at(space, 50, 0)));
     oa_drop(space);
@@ -551,7 +551,7 @@ static void nulls(void) {
     oa_compact(NULL, copy, NULL);
     CHECK(!oa_compact_by(NULL, 1, copy, NULL) && !oa_compact_by(NULL, 0, copy, NULL) && !oa_compact_within(NULL, 1, 0, 1, 1, copy, NULL).done);
     CHECK(is_nothing(oa_allocate(NULL, 1)) && is_nothing(oa_allocate_aligned(NULL, 1, 1)));
-    CHECK(is_nothing(oa_allocate_at(NULL, 0, 1)) && !oa_is_free_at(NULL, 0, 0) && is_nothing(oa_handle_at(NULL, 0)) && is_nothing(oa_in_the_way(NULL, 0, 1)));
+    CHECK(is_nothing(oa_allocate_at(NULL, 0, 1)) && !oa_is_free_at(NULL, 0, 0) && is_nothing(oa_live_at(NULL, 0)) && is_nothing(oa_in_the_way(NULL, 0, 1)));
     CHECK(is_nothing(oa_allocate_tight(NULL, 1)) && is_nothing(oa_allocate_tight_aligned(NULL, 1, 1)));
     CHECK(oa_refusal_tight(NULL, 0) == OA_BAD_CALL && oa_refusal_tight_aligned(NULL, 0, 1) == OA_BAD_CALL);
     CHECK(!oa_room_cost(NULL, 0).possible && !oa_make_room(NULL, 0, copy, NULL).possible);
@@ -628,7 +628,7 @@ static void garbage(void) {
                 uint32_t offset = any() >> any() % 32, size = any() >> any() % 32;
                 bool fits = oa_is_free_at(space, offset, size);
                 CHECK(!fits || is_nothing(oa_in_the_way(space, offset, size)));
-                oa_allocation at = oa_allocate_at(space, offset, size), there = oa_handle_at(space, offset);
+                oa_allocation at = oa_allocate_at(space, offset, size), there = oa_live_at(space, offset);
                 CHECK(is_nothing(at) || (fits && at.offset == offset && (!size || same(at, there))));
                 CHECK(is_nothing(there) || oa_is_live(space, there));
                 live += !is_nothing(at);

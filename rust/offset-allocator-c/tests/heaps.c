@@ -215,9 +215,9 @@ static void in_place(void) {
     oah_place a = oah_allocate(heaps, 60).place, b = oah_allocate(heaps, 30).place;
     oah_place gone = oah_allocate(heaps, 150).place, large = oah_allocate(heaps, 120).place;
     CHECK(oah_units_of_heap(heaps, 0) == 100 && oah_units_of_heap(heaps, 3) == 120 && oah_units_of_heap(heaps, 1) == 0);
-    CHECK(oah_why(heaps, 121) == OAH_FULL && oah_why(heaps, 60) == OAH_GRANTED && oah_why(heaps, 0) == OAH_EMPTY);
-    CHECK(oah_why_aligned(heaps, 60, 256) == OAH_GRANTED && oah_why_aligned(heaps, 60, 0) == OAH_BAD_CALL);
-    CHECK(oah_give_up(heaps, gone.heap) && oah_why(heaps, 121) == OAH_GRANTED);
+    CHECK(oah_refusal(heaps, 121) == OAH_FULL && oah_refusal(heaps, 60) == OAH_GRANTED && oah_refusal(heaps, 0) == OAH_EMPTY);
+    CHECK(oah_refusal_aligned(heaps, 60, 256) == OAH_GRANTED && oah_refusal_aligned(heaps, 60, 0) == OAH_BAD_CALL);
+    CHECK(oah_give_up(heaps, gone.heap) && oah_refusal(heaps, 121) == OAH_GRANTED);
     CHECK(oah_first_heap(heaps) == 0 && oah_heap_after(heaps, 0) == 3 && oah_heap_after(heaps, 3) == OA_NO_SPACE);
     oah_place first = oah_first_place(heaps), next = oah_place_after(heaps, first), last = oah_place_after(heaps, next);
     CHECK(first.ticket.serial == a.ticket.serial && next.ticket.serial == b.ticket.serial && last.heap == large.heap);
@@ -248,14 +248,14 @@ static void filled(void) {
     oah_heaps *heaps = oah_new(limits, 9);
     oah_place hole = oah_allocate(heaps, 21).place, rest = oah_allocate(heaps, 70).place;
     /* a request of 21 units is rounded up to 22, and of the last 9 units 4 begin at a multiple of 16 */
-    CHECK(oah_free(heaps, hole) && oah_why_tight(heaps, 21) == OAH_GRANTED && oah_allocate_tight(heaps, 21).place.heap == 0);
+    CHECK(oah_free(heaps, hole) && oah_refusal_tight(heaps, 21) == OAH_GRANTED && oah_allocate_tight(heaps, 21).place.heap == 0);
     oah_place last = oah_allocate_tight_aligned(heaps, 4, 16).place;
     CHECK(last.heap == 0 && oah_offset_of(heaps, last) == 96 && oah_storage_report(heaps, 0).total_free_space == 5);
     oah_granted other = oah_allocate_tight(heaps, 90);
-    CHECK(other.is_new && other.place.heap == 1 && oah_why_tight(heaps, 11) == OAH_FULL && oah_why_tight_aligned(heaps, 97, 8) == OAH_TOO_LARGE);
+    CHECK(other.is_new && other.place.heap == 1 && oah_refusal_tight(heaps, 11) == OAH_FULL && oah_refusal_tight_aligned(heaps, 97, 8) == OAH_TOO_LARGE);
     CHECK(oah_allocate_tight(heaps, 11).refusal == OAH_FULL && oah_allocate_tight_aligned(heaps, 1, 0).refusal == OAH_BAD_CALL);
     CHECK(oah_extend_heap(heaps, 1, 30) && oah_units_of_heap(heaps, 1) == 130 && !oah_extend_heap(heaps, 2, 1) && !oah_extend_heap(heaps, 1, 4294967295u));
-    CHECK(oah_why_tight_aligned(heaps, 1, 0) == OAH_BAD_CALL && oah_allocate_tight(heaps, 40).place.heap == 1);
+    CHECK(oah_refusal_tight_aligned(heaps, 1, 0) == OAH_BAD_CALL && oah_allocate_tight(heaps, 40).place.heap == 1);
     CHECK(oah_free(heaps, rest) && oah_free(heaps, other.place));
     oah_compact(heaps, note_move_in, NULL);
     CHECK(moved_in[0] == 4 && moved_in[1] == 40 && oah_offset_of(heaps, last) == 21);
@@ -315,7 +315,7 @@ static void heaps_double(void) {
     CHECK(oah_allocate(heaps, 1).refusal == OAH_FULL && oah_allocate(heaps, 1025).place.heap == 5);
     /* a dropped heap is made again with its size, and is passed over where it has too few units */
     CHECK(oah_free(heaps, all[0].place) && oah_drop_heap(heaps, 0) && oah_free(heaps, all[1].place) && oah_drop_heap(heaps, 1));
-    CHECK(oah_why(heaps, 513) == OAH_FULL);
+    CHECK(oah_refusal(heaps, 513) == OAH_FULL);
     oah_granted large = oah_allocate(heaps, 300), small = oah_allocate(heaps, 256);
     CHECK(large.is_new && large.place.heap == 1 && oah_units_of_heap(heaps, 1) == 512);
     CHECK(small.is_new && small.place.heap == 0 && oah_units_of_heap(heaps, 0) == 256);
@@ -329,7 +329,7 @@ static void heaps_double(void) {
     limits.most = 2;
     heaps = oah_new(limits, 9);
     large = oah_allocate(heaps, 513);
-    CHECK(large.is_new && large.place.heap == 2 && oah_units_of_heap(heaps, 2) == 513 && oah_why(heaps, 1024) == OAH_FULL);
+    CHECK(large.is_new && large.place.heap == 2 && oah_units_of_heap(heaps, 2) == 513 && oah_refusal(heaps, 1024) == OAH_FULL);
     oah_drop(heaps);
     limits.first_size = 1025;
     CHECK(!oah_new(limits, 9));
@@ -373,10 +373,10 @@ static void nulls(void) {
     CHECK(oah_totals(NULL).heaps == 0);
     CHECK(oah_first_heap(NULL) == OA_NO_SPACE && oah_heap_after(NULL, 0) == OA_NO_SPACE && oah_units_of_heap(NULL, 0) == 0);
     CHECK(!oah_first_place(NULL).ticket.serial && !oah_place_after(NULL, none.place).ticket.serial && !oah_first_live(NULL, 0).ticket.serial);
-    CHECK(!oah_live_after(NULL, none.place).ticket.serial && oah_limits_of(NULL).size == 0 && oah_why(NULL, 1) == OAH_BAD_CALL);
-    CHECK(oah_why_aligned(NULL, 1, 1) == OAH_BAD_CALL && !oah_shrink(NULL, none.place, 0) && !oah_grow_in_place(NULL, none.place, 0));
+    CHECK(!oah_live_after(NULL, none.place).ticket.serial && oah_limits_of(NULL).size == 0 && oah_refusal(NULL, 1) == OAH_BAD_CALL);
+    CHECK(oah_refusal_aligned(NULL, 1, 1) == OAH_BAD_CALL && !oah_shrink(NULL, none.place, 0) && !oah_grow_in_place(NULL, none.place, 0));
     CHECK(oah_allocate_tight(NULL, 1).refusal == OAH_BAD_CALL && oah_allocate_tight_aligned(NULL, 1, 1).refusal == OAH_BAD_CALL);
-    CHECK(oah_why_tight(NULL, 1) == OAH_BAD_CALL && oah_why_tight_aligned(NULL, 1, 1) == OAH_BAD_CALL && !oah_extend_heap(NULL, 0, 1));
+    CHECK(oah_refusal_tight(NULL, 1) == OAH_BAD_CALL && oah_refusal_tight_aligned(NULL, 1, 1) == OAH_BAD_CALL && !oah_extend_heap(NULL, 0, 1));
     oah_compact(NULL, NULL, NULL);
     CHECK(!oah_compact_heap(NULL, 0, NULL, NULL) && !oah_make_room(NULL, 0, 0, NULL, NULL).possible);
     oah_reset(NULL);

@@ -81,7 +81,7 @@ int main() {
     // a heap that becomes larger, a tight request, and all heaps compacted
     Heaps filled({100, 8, 2, 0});
     Place early = filled.allocate(21).place, late = filled.allocate(72).place;
-    CHECK(filled.free(early) && filled.whyTight(21) == HeapRefusal::granted && filled.whyTightAligned(22, 8) == HeapRefusal::granted);
+    CHECK(filled.free(early) && filled.refusalTight(21) == HeapRefusal::granted && filled.refusalTightAligned(22, 8) == HeapRefusal::granted);
     CHECK(filled.allocateTight(21).place.heap == 0 && filled.extendHeap(0, 20) && filled.unitsOfHeap(0) == 120 && !filled.extendHeap(1, 1));
     Place behind = filled.allocateTightAligned(16, 8).place;
     CHECK(behind.heap == 0 && filled.offsetOf(behind) == 96 && filled.free(late));
@@ -119,7 +119,7 @@ int main() {
     CHECK(changed.firstPlace() == low && changed.placeAfter(low) == high && changed.placeAfter(high) == big);
     CHECK(changed.firstLive(0) == low && changed.liveAfter(low) == high && changed.liveAfter(high).ticket.serial == 0);
     CHECK(changed.growInPlace(high, 40) && !changed.growInPlace(high, 41) && changed.shrink(low, 40) && changed.sizeOf(low) == 40);
-    CHECK(changed.why(121) == HeapRefusal::granted && changed.whyAligned(1, 0) == HeapRefusal::badCall && changed.why(0) == HeapRefusal::empty);
+    CHECK(changed.refusal(121) == HeapRefusal::granted && changed.refusalAligned(1, 0) == HeapRefusal::badCall && changed.refusal(0) == HeapRefusal::empty);
     uint32 units = 0;
     CHECK(changed.compactHeap(0, [&](const Move &move) { units += move.size; }) && units == 40 && changed.offsetOf(high) == 40);
     CHECK(changed.free(low) && changed.makeRoom(0, 56, [&](const Move &move) { units += move.size; }).possible && units == 80);

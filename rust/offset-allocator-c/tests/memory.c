@@ -135,7 +135,7 @@ int main(void) {
     for (int i = 0; i < 3; i++) oah_allocate(growing, 10);
     for (left = 0, raised = 0; oah_totals(growing).live_units == 30; raised++) {
         long before = held, next = left;
-        oah_refusal found = oah_allocate(growing, 10).refusal;
+        oah_reason found = oah_allocate(growing, 10).refusal;
         if (found != OAH_GRANTED && (found != OAH_MEMORY || held != before || oah_statistics(growing, 0).unused_nodes != 4)) return printf("a heap that grows keeps memory\n"), 1;
         left = found == OAH_GRANTED ? -1 : next + 1;
     }

@@ -269,10 +269,10 @@ static void moves() {
 static void places() {
     Allocator a(100, 8);
     Allocation mesh = a.allocateAt(40, 20);
-    CHECK(mesh.offset == 40 && a.allocationSize(mesh) == 20 && a.handleAt(59) == mesh && a.handleAt(60).offset == Allocation::NO_SPACE);
+    CHECK(mesh.offset == 40 && a.allocationSize(mesh) == 20 && a.liveAt(59) == mesh && a.liveAt(60).offset == Allocation::NO_SPACE);
     CHECK(a.isFreeAt(0, 40) && !a.isFreeAt(0, 41) && a.inTheWay(0, 41) == mesh && a.inTheWay(0, 40).offset == Allocation::NO_SPACE);
     CHECK(a.allocateAt(30, 20).offset == Allocation::NO_SPACE && a.blockCount() == 3);
-    CHECK(a.free(a.handleAt(50)) && a.allocateAt(30, 20).offset == 30);
+    CHECK(a.free(a.liveAt(50)) && a.allocateAt(30, 20).offset == 30);
     GuardedAllocator g(100, 8, 3);
     Ticket range = g.allocateAt(40, 20);
     CHECK(range && g.offsetOf(range) == 40 && g.liveAt(59) == range && !g.liveAt(60) && g.inTheWay(0, 41) == range && !g.inTheWay(0, 40));

@@ -56,7 +56,7 @@ impl<T: Tables> GuardedOf<T> {
         }
     }
 
-    /// The ticket of the live range that has the unit at `offset`, as `Allocator::handle_at` finds it, or `None`
+    /// The ticket of the live range that has the unit at `offset`, as `Allocator::live_at` finds it, or `None`
     /// where that unit is free or not in the space. So a range can be freed by a place in it.
     ///
     /// ```

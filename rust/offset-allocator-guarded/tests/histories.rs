@@ -138,7 +138,7 @@ impl<T: Tables> Space for AllocatorOf<T> {
     }
 
     fn live_at(&self, offset: u32) -> Option<Self::Grant> {
-        self.handle_at(offset)
+        self.live_at(offset)
     }
 
     fn free(&mut self, grant: Self::Grant) {
@@ -339,7 +339,7 @@ impl<G: Copy> Model<G> {
         self.blocks[..place].iter().map(|block| block.size).sum()
     }
 
-    fn has_room_for(&self, more: u32) -> bool {
+    fn admits_blocks(&self, more: u32) -> bool {
         self.blocks.len() + (more as usize) < self.limit
     }
 
@@ -356,7 +356,7 @@ impl<G: Copy> Model<G> {
     /// Grants a request, and returns the place of its block, which has no handle yet.
     fn request(&mut self, size: u32, align: u32) -> Option<usize> {
         let needed = size.checked_add(align - 1)?;
-        if !self.has_room_for(align.min(2)) {
+        if !self.admits_blocks(align.min(2)) {
             return None;
         }
         let is_fitting = |block: &Block<G>| block.live.is_none() && class_for(needed) <= class_of(block.size);
@@ -370,7 +370,7 @@ impl<G: Copy> Model<G> {
         if let Some(place) = self.request(size, align) {
             return Some(place);
         }
-        if !self.has_room_for(align.min(2)) {
+        if !self.admits_blocks(align.min(2)) {
             return None;
         }
         let is_fitting = |place: &usize| {
@@ -411,7 +411,7 @@ impl<G: Copy> Model<G> {
         let place = self.free_at(offset, size)?;
         let padding = offset - self.offset(place);
         let added = u32::from(padding > 0) + u32::from(padding + size < self.blocks[place].size);
-        self.has_room_for(added.max(1)).then(|| self.cut(place, padding, size))
+        self.admits_blocks(added.max(1)).then(|| self.cut(place, padding, size))
     }
 
     /// The place of the last live range that has one of these units, or, where either has no unit, lies within the other.
@@ -457,7 +457,7 @@ impl<G: Copy> Model<G> {
         let next = self.blocks.get(place + 1).filter(|next| next.live.is_none()).copied();
         let left = u64::from(self.blocks[place].size) + u64::from(next.map_or(0, |next| next.size));
         let needs_block = next.is_none() && size < self.blocks[place].size;
-        if u64::from(size) > left || needs_block && !self.has_room_for(1) {
+        if u64::from(size) > left || needs_block && !self.admits_blocks(1) {
             return false;
         }
         if size == self.blocks[place].size {
@@ -479,7 +479,7 @@ impl<G: Copy> Model<G> {
         if more == 0 {
             return true;
         }
-        if more > u32::MAX - self.size() || self.blocks.last().unwrap().live.is_some() && !self.has_room_for(1) {
+        if more > u32::MAX - self.size() || self.blocks.last().unwrap().live.is_some() && !self.admits_blocks(1) {
             return false;
         }
         let added = self.free_block(more);
@@ -514,7 +514,7 @@ impl<G: Copy> Model<G> {
 
     /// Why a request is refused, by what helps: a fresh space of this size, or a compaction.
     fn refusal(&self, size: u32, align: u32) -> Option<Refusal> {
-        if !self.has_room_for(align.min(2)) {
+        if !self.admits_blocks(align.min(2)) {
             return Some(Refusal::Nodes);
         }
         let (mut fresh, mut compacted) = (self.clone(), self.clone());
@@ -533,7 +533,7 @@ impl<G: Copy> Model<G> {
 
     /// Why a tight request is refused.
     fn refusal_tight(&self, size: u32, align: u32) -> Option<Refusal> {
-        if !self.has_room_for(align.min(2)) {
+        if !self.admits_blocks(align.min(2)) {
             return Some(Refusal::Nodes);
         }
         let (mut fresh, mut compacted) = (self.clone(), self.clone());
@@ -554,7 +554,7 @@ impl<G: Copy> Model<G> {
 
     /// The free units and the value of the largest class with a free block, as `storage_report` has them.
     fn report(&self) -> (u32, u32) {
-        if !self.has_room_for(1) {
+        if !self.admits_blocks(1) {
             return (0, 0);
         }
         let free = self.blocks.iter().filter(|block| block.live.is_none());
@@ -761,7 +761,7 @@ impl<S: Space> Pair<S> {
     }
 
     fn compact(&mut self, met: &mut Met) {
-        met.compacted_at_the_limit += u64::from(!self.model.has_room_for(1));
+        met.compacted_at_the_limit += u64::from(!self.model.admits_blocks(1));
         let mut moves = Vec::new();
         let buffer = &mut self.buffer;
         let grants = self.space.compact(|from, to, size| {
@@ -798,7 +798,7 @@ impl<S: Space> Pair<S> {
         let space = self.space.allocator();
         assert_eq!(space.size(), self.model.size());
         assert_eq!(space.block_count() as usize, self.model.blocks.len());
-        assert_eq!(space.is_full(), !self.model.has_room_for(1));
+        assert_eq!(space.is_full(), !self.model.admits_blocks(1));
         let report = space.storage_report();
         assert_eq!((report.total_free_space, report.largest_free_region), self.model.report());
         let mut counts = [0; 256];

@@ -1,15 +1,15 @@
 // Printed by rust/erase from crates/offset_heaps/src/maxima.rt: change it there.
 
-//! A row of numbers, of which the first and the last that is large enough are found in few steps: a tree of
-//! maxima. It touches its own cells alone, and counts each access.
+//! A row of keys, a key for each number of a heap: the first and the last number whose key is large enough
+//! are found in few steps, by a tree of maxima. It touches its own cells alone, and counts each access.
 
 use offset_allocator::Accesses;
 use crate::memory::Vec;
 use crate::memory::{AllocError, Global};
 
-/// Numbers at places from 0 on.
+/// A key for each number from 0 on.
 pub(crate) struct Maxima {
-    // the numbers are the second half; before them, from place 1 on, each cell has the larger one of two
+    // the keys are the second half; before them, from cell 1 on, each cell has the larger one of two
     cells: Vec<u32>,
     height: u32,
 }
@@ -50,7 +50,7 @@ pub(crate) fn levels_for(count: u32) -> (u32, usize) {
 }
 
 impl Maxima {
-    /// Two to the power of `height` places, each with 0.
+    /// Two to the power of `height` keys, each 0.
     pub(crate) fn with_height(alloc: Global, height: u32, places: usize) -> Result<Self, AllocError> {
         let mut cells = Vec::with_capacity(alloc, 2 * places)?;
         for _place in 0..2 * places {
@@ -59,7 +59,7 @@ impl Maxima {
         Ok(Maxima { cells, height })
     }
 
-    /// The first place whose number is at least `least`, or `None` where there is none.
+    /// The first number whose key is at least `least`, or `None` where there is none.
     pub(crate) fn first_at_least(&self, least: u64, count: &mut Accesses) -> Option<u32> {
         if (read(&self.cells, 1, count) as u64) < least {
             return None;
@@ -74,7 +74,7 @@ impl Maxima {
         Some((place - self.cells.len() / 2) as u32)
     }
 
-    /// The last place whose number is at least `least`, or `None` where there is none.
+    /// The last number whose key is at least `least`, or `None` where there is none.
     pub(crate) fn last_at_least(&self, least: u64, count: &mut Accesses) -> Option<u32> {
         let mut last = 1;
         if (read(&self.cells, last, count) as u64) < least {

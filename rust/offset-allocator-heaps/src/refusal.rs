@@ -16,7 +16,7 @@ pub enum Refusal {
     /// No heap has room, and though one may be large enough, none may be made for it now: each number of its
     /// kind whose heap would be large enough has one, or all 4294967295 realms are given. Its kind is the usual
     /// one where the last usual heap would have room when it is fresh, and else a larger one. Free ranges, or
-    /// drop empty heaps of that kind.
+    /// drop empty heaps of that kind. It says nothing of `is_full`, which is a space at its node limit.
     Full,
     /// Memory was refused: where no heap has room, that for another one, which may be made; where one has room,
     /// that for more nodes of the first such, which has fewer than five unused nodes and a node limit below

@@ -90,7 +90,11 @@ pub(crate) fn grant_tight_in<T: Tables>(slot: &mut Option<GuardedOf<T>>, size: u
 }
 
 // Grants a request in a heap, a free block of which holds it.
-fn fill_in<T: Tables>(slot: &mut Option<GuardedOf<T>>, size: u32, align: u32) -> Ticket {
+fn grant_tight_aligned_in<T: Tables>(
+    slot: &mut Option<GuardedOf<T>>,
+    size: u32,
+    align: u32,
+) -> Ticket {
     match slot {
         Some(heap) => match heap.allocate_tight_aligned(size, align) {
             Some(ticket) => ticket,
@@ -272,7 +276,7 @@ impl<T: Tables> Slots<T> {
         count: &mut Accesses,
     ) -> Ticket {
         count.tick();
-        fill_in(&mut self.heaps[number as usize], size, align)
+        grant_tight_aligned_in(&mut self.heaps[number as usize], size, align)
     }
 
     // Whether a free block of the heap of a number holds a request.

@@ -47,7 +47,7 @@ impl<T: Tables> HeapsOf<T> {
     }
 
     // Grants a request in the heap of a number, a free block of which holds it, and whose node limit need not be raised.
-    fn fill_at(&mut self, number: u32, size: u32, align: u32) -> Granted {
+    fn grant_tight_at(&mut self, number: u32, size: u32, align: u32) -> Granted {
         let ticket = self.slots.fill(number, size, align, &mut self.accesses);
         self.index
             .note(&self.slots, number, self.limits, &mut self.accesses);
@@ -62,10 +62,10 @@ impl<T: Tables> HeapsOf<T> {
     }
 
     // Grants a request in the first heap that holds it, and raises its node limit first where it has to.
-    fn fill_first(&mut self, number: u32, size: u32, align: u32) -> Result<Granted, Refusal> {
+    fn grant_tight_first(&mut self, number: u32, size: u32, align: u32) -> Result<Granted, Refusal> {
         match self.raise(number) {
             Err(_) => Err(Refusal::Memory),
-            Ok(_) => Ok(self.fill_at(number, size, align)),
+            Ok(_) => Ok(self.grant_tight_at(number, size, align)),
         }
     }
 
@@ -75,7 +75,7 @@ impl<T: Tables> HeapsOf<T> {
             return Err(Refusal::Empty);
         }
         match self.first_holding(size, align) {
-            Some(number) => self.fill_first(number, size, align),
+            Some(number) => self.grant_tight_first(number, size, align),
             None => self.grant_new(size, align),
         }
     }

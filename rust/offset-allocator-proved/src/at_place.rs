@@ -26,7 +26,7 @@ fn last_free_to<T: Tables>(tables: &T, last: u32, offset: u32, count: &mut Acces
 }
 
 // Whether a block of `size` units from `begin` on has one of the `units` from an offset on, or lies among them.
-fn is_among(offset: u32, units: u32, begin: u32, size: u32) -> bool {
+fn is_in_the_way(offset: u32, units: u32, begin: u32, size: u32) -> bool {
     (begin as u64) < offset as u64 + units as u64 && (offset as u64) < begin as u64 + size as u64
 }
 
@@ -61,7 +61,7 @@ impl<T: Tables> AllocatorOf<T> {
             Some(parts) => parts,
         };
         let more = (parts.padding.min(1) + parts.remainder.min(1)).max(1);
-        if !self.has_room_for(more) {
+        if !self.admits_blocks(more) {
             return None;
         }
         let class = self.bring_first(name);
@@ -130,11 +130,11 @@ impl<T: Tables> AllocatorOf<T> {
     /// # let alloc = Global;
     /// let mut space = Allocator::<u32>::new(alloc, 1000)?;
     /// let mesh = space.allocate(300).unwrap();
-    /// assert_eq!(space.handle_at(299), Some(mesh));
-    /// assert_eq!(space.handle_at(300), None);
+    /// assert_eq!(space.live_at(299), Some(mesh));
+    /// assert_eq!(space.live_at(300), None);
     /// # Ok::<(), AllocError>(())
     /// ```
-    pub fn handle_at(&self, offset: u32) -> Option<Allocation<T::Index>> {
+    pub fn live_at(&self, offset: u32) -> Option<Allocation<T::Index>> {
         in_the_way_counted(self, offset, 1, &mut Accesses::new())
     }
 
@@ -184,7 +184,7 @@ pub fn in_the_way_counted<T: Tables>(
 ) -> Option<Allocation<T::Index>> {
     let mut blocks = allocator.blocks();
     while let Some(block) = next_block_counted(&mut blocks, count) {
-        if block.allocation.is_some() && is_among(offset, size, block.offset, block.size) {
+        if block.allocation.is_some() && is_in_the_way(offset, size, block.offset, block.size) {
             return block.allocation;
         }
     }

@@ -63,7 +63,7 @@ impl<T: Tables> AllocatorOf<T> {
     /// Whether the node limit admits this number of further blocks. The first test costs less, and is mostly
     /// enough: at most `max_allocs` nodes are made, so it implies the second.
     #[inline(always)]
-    pub(crate) fn has_room_for(&self, blocks: u32) -> bool {
+    pub(crate) fn admits_blocks(&self, blocks: u32) -> bool {
         self.store.spare_count > blocks || self.unused_nodes() > blocks
     }
 
@@ -91,7 +91,7 @@ impl<T: Tables> AllocatorOf<T> {
     /// padding where `align` is above 1.
     #[inline(always)]
     pub(crate) fn serve(&mut self, size: u32, align: u32) -> Option<Allocation<T::Index>> {
-        if !self.has_room_for(align.min(2)) {
+        if !self.admits_blocks(align.min(2)) {
             return None;
         }
         if size > u32::MAX - (align - 1) {

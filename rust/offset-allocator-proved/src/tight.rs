@@ -143,7 +143,7 @@ impl<T: Tables> AllocatorOf<T> {
         match self.serve(size, align) {
             Some(handle) => Some(handle),
             None => {
-                if self.has_room_for(align.min(2)) {
+                if self.admits_blocks(align.min(2)) {
                     self.look_further(size, align)
                 } else {
                     None

@@ -222,7 +222,7 @@ impl<NI: NodeIndex> Pair<NI> {
                 assert_eq!(laws::is_free_at_counted(&self.space, offset, size, &mut count), is_free);
                 let way = result(|| self.space.in_the_way(offset, size)).unwrap();
                 assert_eq!(laws::in_the_way_counted(&self.space, offset, size, &mut count), way);
-                assert_eq!(result(|| self.space.handle_at(offset)).unwrap(), self.space.in_the_way(offset, 1));
+                assert_eq!(result(|| self.space.live_at(offset)).unwrap(), self.space.in_the_way(offset, 1));
                 let found = result(|| self.space.allocate_at(offset, size)).unwrap();
                 assert!(found.is_none() || is_free && way.is_none());
                 if let Some(handle) = found {

@@ -125,7 +125,7 @@ impl<NI: NodeIndex> Following<NI> {
                 (Asked::Align(n, align), Reason::Request(space.refusal_aligned(n, align)?))
             }
             Call::Command(Command::Extend(more)) => {
-                let why = if space.size().checked_add(more).is_none() { Reason::Limit } else { nodes };
+                let why = if space.size().checked_add(more).is_none() { Reason::TooManyUnits } else { nodes };
                 (Asked::Extend(more), why)
             }
             Call::Shrink(k, n) => (Asked::Shrink(k, n), if held(k) < n { Reason::Smaller } else { nodes }),

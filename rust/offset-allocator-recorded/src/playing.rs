@@ -19,7 +19,7 @@ pub fn put_reply(out: &mut Vec<u8>, call: Call, reply: &Reply) -> Result<(), All
         },
         Reply::Compacted(_) => "compacted",
         Reply::Refusal(None) => "granted",
-        Reply::RoomMade(None, _) | Reply::RoomCost(None) | Reply::Beside(None) => "none",
+        Reply::RoomMade(None, _) | Reply::RoomCost(None) | Reply::Found(None) => "none",
         Reply::Refusal(Some(why)) => {
             write!(line, "{why}")?;
             &line
@@ -41,7 +41,7 @@ pub fn put_reply(out: &mut Vec<u8>, call: Call, reply: &Reply) -> Result<(), All
             }
             &line
         }
-        Reply::Beside(Some(range)) => {
+        Reply::Found(Some(range)) => {
             write!(line, "range {} at {}", range.number, range.offset)?;
             &line
         }

@@ -163,7 +163,7 @@ fn refused_for_lack_of_nodes() {
         [
             Refused { call: 5, asked: Asked::Extend(5), why: nodes },
             Refused { call: 6, asked: Asked::Shrink(3, 10), why: nodes },
-            Refused { call: 7, asked: Asked::Extend(4_294_967_295), why: Reason::Limit },
+            Refused { call: 7, asked: Asked::Extend(4_294_967_295), why: Reason::TooManyUnits },
             Refused { call: 8, asked: Asked::Align(1, 2), why: nodes },
             Refused { call: 10, asked: Asked::Grow(4, 21), why: Reason::NoRoom },
         ]

@@ -34,10 +34,10 @@ pub enum Call {
     /// least 1.
     RefusalAligned(u32, u32),
     /// Requests this many units of any free block that has them.
-    Tight(u32),
+    AllocateTight(u32),
     /// Requests this many units from a multiple of the second number on, which is at least 1, of any free
     /// block that holds them.
-    TightAligned(u32, u32),
+    AllocateTightAligned(u32, u32),
     /// Requests, from the offset that is the first number on, as many units as the second says, as `allocate_at`
     /// does.
     AllocateAt(u32, u32),
@@ -68,13 +68,13 @@ pub enum Call {
     /// gone where it has no units and is not the only one.
     Retract(u32),
     /// Asks which live range is the first one in space.
-    First,
+    FirstLive,
     /// Asks which live range is the last one in space.
-    Last,
+    LastLive,
     /// Asks which live range is directly before that of this number.
-    Before(u32),
+    LiveBefore(u32),
     /// Asks which live range is directly after that of this number.
-    After(u32),
+    LiveAfter(u32),
 }
 
 impl Call {
@@ -83,7 +83,7 @@ impl Call {
     /// ```
     /// # use offset_calls::*;
     /// # let alloc = Global;
-    /// assert!(!Call::TightAligned(300, 0).is_valid());
+    /// assert!(!Call::AllocateTightAligned(300, 0).is_valid());
     /// assert!(!Call::CompactBy(0).is_valid());
     /// # Ok::<(), AllocError>(())
     /// ```
@@ -91,7 +91,7 @@ impl Call {
         match self {
             Call::Command(Command::Align(_, align)) => *align >= 1,
             Call::RefusalAligned(_, align) => *align >= 1,
-            Call::TightAligned(_, align) => *align >= 1,
+            Call::AllocateTightAligned(_, align) => *align >= 1,
             Call::RefusalTightAligned(_, align) => *align >= 1,
             Call::WouldBegin(_, align) => *align >= 1,
             Call::RelocateAligned(_, align) => *align >= 1,
@@ -109,7 +109,7 @@ impl Call {
 /// ```
 /// # use offset_calls::*;
 /// # let alloc = Global;
-/// assert!(are_valid(&[Call::TightAligned(300, 12), Call::Compact]));
+/// assert!(are_valid(&[Call::AllocateTightAligned(300, 12), Call::Compact]));
 /// # Ok::<(), AllocError>(())
 /// ```
 pub fn are_valid(calls: &[Call]) -> bool {
@@ -165,7 +165,7 @@ pub enum Reply {
     /// run of blocks gives up enough units and nodes.
     RoomCost(Option<RoomCost>),
     /// The live range that was asked for, or `None` where there is none.
-    Beside(Option<LiveRange>),
+    Found(Option<LiveRange>),
 }
 
 // The reply to `WouldBegin`.

@@ -53,10 +53,10 @@ fn find<NI: NodeIndex>(
 ) -> Result<Reply, AllocError> {
     numbers.read(handles, names)?;
     match found {
-        None => Ok(Reply::Beside(None)),
+        None => Ok(Reply::Found(None)),
         Some(handle) => {
             let (offset, name) = handle.to_parts();
-            Ok(Reply::Beside(Some(LiveRange {
+            Ok(Reply::Found(Some(LiveRange {
                 number: numbers.of(name),
                 offset,
             })))

@@ -3,7 +3,7 @@
 //! Plays calls on a guarded allocator. Each call may pass any ticket.
 
 use crate::calls::{Call, Reply};
-use crate::desk::{Desk, answer, other};
+use crate::guarded_playing::{TicketPlayer, answer, other};
 use offset_allocator::{NodeIndex, Tables};
 use offset_guarded::{GuardedOf, Ticket};
 use offset_script::Command;
@@ -39,8 +39,8 @@ fn number_in(call: &Call) -> u32 {
         Call::Offset(number) => *number,
         Call::Relocate(number) => *number,
         Call::RelocateAligned(number, _) => *number,
-        Call::Before(number) => *number,
-        Call::After(number) => *number,
+        Call::LiveBefore(number) => *number,
+        Call::LiveAfter(number) => *number,
         _ => 0,
     }
 }
@@ -68,12 +68,12 @@ fn passed(tickets: &[Ticket], call: &TicketCall) -> Option<Ticket> {
 #[inline(never)]
 fn append_other<T: Tables>(
     alloc: Global,
-    desk: &mut Desk<T>,
+    player: &mut TicketPlayer<T>,
     call: &TicketCall,
     replies: &mut Vec<Reply>,
 ) -> Result<(), AllocError> {
-    let ticket = passed(&desk.tickets, call);
-    let reply = other(alloc, desk, call.call, ticket)?;
+    let ticket = passed(&player.tickets, call);
+    let reply = other(alloc, player, call.call, ticket)?;
     replies.push(reply)?;
     Ok(())
 }
@@ -82,18 +82,18 @@ fn append_other<T: Tables>(
 #[inline(always)]
 fn append<T: Tables>(
     alloc: Global,
-    desk: &mut Desk<T>,
+    player: &mut TicketPlayer<T>,
     call: &TicketCall,
     replies: &mut Vec<Reply>,
 ) -> Result<(), AllocError> {
     match call.call {
         Call::Command(command) => {
-            let ticket = passed(&desk.tickets, call);
-            let answer = answer(alloc, desk, command, ticket)?;
+            let ticket = passed(&player.tickets, call);
+            let answer = answer(alloc, player, command, ticket)?;
             replies.push(Reply::Answer(answer))?;
             Ok(())
         }
-        _ => append_other(alloc, desk, call, replies),
+        _ => append_other(alloc, player, call, replies),
     }
 }
 
@@ -116,7 +116,7 @@ fn append<T: Tables>(
 /// ```
 /// # use offset_calls::*;
 /// # let alloc = Global;
-/// let call = TicketCall { call: Call::Tight(300), ticket: None };
+/// let call = TicketCall { call: Call::AllocateTight(300), ticket: None };
 /// let played = play_guarded::<offset_allocator::ByNode<u32>>(alloc, 1000, 16, 7, &[call])?;
 /// assert_eq!((played.tickets[0].realm, played.tickets[0].serial), (7, 1));
 /// # Ok::<(), AllocError>(())
@@ -132,16 +132,16 @@ pub fn play_guarded<T: Tables>(
     assert!(2 <= max_allocs, "max_allocs must be at least 2");
     assert!(max_allocs < T::Index::MAX - 1, "max_allocs must be at most NI::MAX - 2");
     assert!(calls.iter().all(|it| it.call.is_valid()), "each alignment must be at least 1");
-    let mut desk: Desk<T> = Desk {
+    let mut player: TicketPlayer<T> = TicketPlayer {
         space: GuardedOf::with_max_allocs(alloc, size, max_allocs, realm)?,
         tickets: Vec::new(alloc),
     };
     let mut replies = Vec::with_capacity(alloc, calls.len())?;
     for call in calls {
-        append(alloc, &mut desk, call, &mut replies)?;
+        append(alloc, &mut player, call, &mut replies)?;
     }
     Ok(Played {
         replies,
-        tickets: desk.tickets,
+        tickets: player.tickets,
     })
 }

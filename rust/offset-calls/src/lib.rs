@@ -20,10 +20,10 @@ pub use offset_allocator_memory as memory;
 pub use offset_allocator_memory::{AllocError, Global};
 
 mod calls;
-mod desk;
 mod ending;
-mod ending_desk;
 mod guarded;
+mod guarded_ending;
+mod guarded_playing;
 mod numbers;
 mod player;
 mod playing;

@@ -66,7 +66,7 @@ impl<T: Tables> CallPlayerOf<T> {
     /// # use offset_calls::*;
     /// # let alloc = Global;
     /// let mut player = CallPlayer::<u32>::start(alloc, 1000, 16)?;
-    /// assert!(matches!(player.call(alloc, Call::Tight(300))?, Reply::Answer(_)));
+    /// assert!(matches!(player.call(alloc, Call::AllocateTight(300))?, Reply::Answer(_)));
     /// assert!(matches!(player.call(alloc, Call::Shrink(1, 200))?, Reply::Resized));
     /// assert_eq!(player.space().free_units(), 800);
     /// # Ok::<(), AllocError>(())
@@ -97,7 +97,7 @@ impl<T: Tables> CallPlayerOf<T> {
     /// # use offset_calls::*;
     /// # let alloc = Global;
     /// let mut player = CallPlayer::<u32>::start(alloc, 1000, 16)?;
-    /// player.call(alloc, Call::Tight(300))?;
+    /// player.call(alloc, Call::AllocateTight(300))?;
     /// assert!(player.handle(1).is_some());
     /// # Ok::<(), AllocError>(())
     /// ```

@@ -122,8 +122,8 @@ fn other<T: Tables>(
         Call::RefusalAligned(size, align) => Ok(Reply::Refusal(
             player.space.refusal_aligned(size, align),
         )),
-        Call::Tight(size) => tight(player, size),
-        Call::TightAligned(size, align) => tight_aligned(player, size, align),
+        Call::AllocateTight(size) => tight(player, size),
+        Call::AllocateTightAligned(size, align) => tight_aligned(player, size, align),
         Call::AllocateAt(offset, size) => allocate_at(player, offset, size),
         Call::RefusalTight(size) => Ok(Reply::Refusal(player.space.refusal_tight(size))),
         Call::RefusalTightAligned(size, align) => Ok(Reply::Refusal(
@@ -139,10 +139,10 @@ fn other<T: Tables>(
         Call::Relocate(number) => ending::relocate(player, number),
         Call::RelocateAligned(number, align) => ending::relocate_aligned(player, number, align),
         Call::Retract(less) => Ok(ending::retract(player, less)),
-        Call::First => ending::first_live(player, numbers),
-        Call::Last => ending::last_live(player, numbers),
-        Call::Before(number) => ending::live_before(player, numbers, number),
-        Call::After(number) => ending::live_after(player, numbers, number),
+        Call::FirstLive => ending::first_live(player, numbers),
+        Call::LastLive => ending::last_live(player, numbers),
+        Call::LiveBefore(number) => ending::live_before(player, numbers, number),
+        Call::LiveAfter(number) => ending::live_after(player, numbers, number),
     }
 }
 
@@ -213,9 +213,9 @@ fn append<T: Tables>(
 /// ```
 /// # use offset_calls::*;
 /// # let alloc = Global;
-/// let calls = [Call::Tight(300), Call::MakeRoom(600), Call::Last];
+/// let calls = [Call::AllocateTight(300), Call::MakeRoom(600), Call::LastLive];
 /// let replies = play_calls_of::<offset_allocator::ByField<u16>>(alloc, 1000, 16, &calls)?;
-/// assert!(matches!(replies[2], Reply::Beside(Some(LiveRange { number: 1, offset: 0 }))));
+/// assert!(matches!(replies[2], Reply::Found(Some(LiveRange { number: 1, offset: 0 }))));
 /// # Ok::<(), AllocError>(())
 /// ```
 #[track_caller]
@@ -247,7 +247,7 @@ pub fn play_calls_of<T: Tables>(
 /// ```
 /// # use offset_calls::*;
 /// # let alloc = Global;
-/// let replies = play_calls::<u32>(alloc, 1000, 16, &[Call::Tight(300), Call::Shrink(1, 200)])?;
+/// let replies = play_calls::<u32>(alloc, 1000, 16, &[Call::AllocateTight(300), Call::Shrink(1, 200)])?;
 /// assert!(matches!(replies[1], Reply::Resized));
 /// # Ok::<(), AllocError>(())
 /// ```

@@ -3,7 +3,7 @@
 //! Calls that slide ranges: the moves, and the numbers of the ranges that move.
 
 use crate::calls::{Moved, Reply};
-use crate::desk::Desk;
+use crate::guarded_playing::TicketPlayer;
 use crate::numbers::Numbers;
 use offset_allocator::{Allocation, AllocatorOf, Move, NodeIndex, Progress, RoomCost, Tables};
 use offset_guarded::GuardedOf;
@@ -305,68 +305,68 @@ fn with_serials<T: Tables>(
 #[inline(never)]
 pub(crate) fn compact_guarded<T: Tables>(
     alloc: Global,
-    desk: &mut Desk<T>,
+    player: &mut TicketPlayer<T>,
 ) -> Result<Reply, AllocError> {
     let mut seen = Slides::new(alloc);
-    compacted_guarded(&mut desk.space, &mut seen);
+    compacted_guarded(&mut player.space, &mut seen);
     if seen.is_refused {
         return Err(AllocError);
     }
-    Ok(Reply::Compacted(with_serials(alloc, &desk.space, &seen.found)?))
+    Ok(Reply::Compacted(with_serials(alloc, &player.space, &seen.found)?))
 }
 
 // The reply to `CompactBy` of a guarded space.
 #[inline(never)]
 pub(crate) fn compact_by_guarded<T: Tables>(
     alloc: Global,
-    desk: &mut Desk<T>,
+    player: &mut TicketPlayer<T>,
     step: u32,
 ) -> Result<Reply, AllocError> {
     let mut seen = Slides::new(alloc);
-    let done = compacted_by_guarded(&mut desk.space, step, &mut seen);
+    let done = compacted_by_guarded(&mut player.space, step, &mut seen);
     if seen.is_refused {
         return Err(AllocError);
     }
-    Ok(by_steps(done, with_serials(alloc, &desk.space, &seen.found)?))
+    Ok(by_steps(done, with_serials(alloc, &player.space, &seen.found)?))
 }
 
 // The reply to `MakeRoom` of a guarded space.
 #[inline(never)]
 pub(crate) fn make_room_guarded<T: Tables>(
     alloc: Global,
-    desk: &mut Desk<T>,
+    player: &mut TicketPlayer<T>,
     size: u32,
 ) -> Result<Reply, AllocError> {
     let mut seen = Slides::new(alloc);
-    let cost = collect_guarded(&mut desk.space, size, &mut seen);
+    let cost = collect_guarded(&mut player.space, size, &mut seen);
     if seen.is_refused {
         return Err(AllocError);
     }
-    Ok(Reply::RoomMade(cost, with_serials(alloc, &desk.space, &seen.found)?))
+    Ok(Reply::RoomMade(cost, with_serials(alloc, &player.space, &seen.found)?))
 }
 
 // The reply to `MakeRoomBy` of a guarded space.
 #[inline(never)]
 pub(crate) fn make_room_by_guarded<T: Tables>(
     alloc: Global,
-    desk: &mut Desk<T>,
+    player: &mut TicketPlayer<T>,
     size: u32,
     align: u32,
     step: u32,
 ) -> Result<Reply, AllocError> {
     let mut seen = Slides::new(alloc);
-    let cost = collect_by_guarded(&mut desk.space, size, align, step, &mut seen);
+    let cost = collect_by_guarded(&mut player.space, size, align, step, &mut seen);
     if seen.is_refused {
         return Err(AllocError);
     }
-    Ok(Reply::RoomMade(cost, with_serials(alloc, &desk.space, &seen.found)?))
+    Ok(Reply::RoomMade(cost, with_serials(alloc, &player.space, &seen.found)?))
 }
 
 // The reply to `CompactWithin` of a guarded space.
 #[inline(never)]
 pub(crate) fn compact_within_guarded<T: Tables>(
     alloc: Global,
-    desk: &mut Desk<T>,
+    player: &mut TicketPlayer<T>,
     step: u32,
     from: u32,
     most_units: u32,
@@ -374,7 +374,7 @@ pub(crate) fn compact_within_guarded<T: Tables>(
 ) -> Result<Reply, AllocError> {
     let mut seen = Slides::new(alloc);
     let progress = moved_within_guarded(
-        &mut desk.space,
+        &mut player.space,
         step,
         from,
         most_units,
@@ -384,5 +384,5 @@ pub(crate) fn compact_within_guarded<T: Tables>(
     if seen.is_refused {
         return Err(AllocError);
     }
-    Ok(so_far(progress, with_serials(alloc, &desk.space, &seen.found)?))
+    Ok(so_far(progress, with_serials(alloc, &player.space, &seen.found)?))
 }

@@ -28,17 +28,17 @@ fn random_call(state: &mut u64) -> Call {
         19 => Call::Offset(k),
         20 => Call::Refusal(n),
         21 => Call::RefusalAligned(n, align),
-        22 => Call::Tight(n),
-        23 => Call::TightAligned(n, align),
+        22 => Call::AllocateTight(n),
+        23 => Call::AllocateTightAligned(n, align),
         24 => Call::RefusalTight(n),
         25 => Call::RefusalTightAligned(n, align),
         26 => Call::MakeRoom(3 * n),
         27 => Call::RoomCost(3 * n),
         28 => Call::Relocate(k),
         29 => Call::Retract(n),
-        30 => Call::First,
-        31 => Call::Last,
-        32 => Call::Before(k),
+        30 => Call::FirstLive,
+        31 => Call::LastLive,
+        32 => Call::LiveBefore(k),
         33 => Call::CompactBy(n + 1),
         34 => Call::RelocateAligned(k, align),
         35 => Call::RoomCostBy(3 * n, align, k + 1),
@@ -46,7 +46,7 @@ fn random_call(state: &mut u64) -> Call {
         37 => Call::MakeRoomBy(3 * n, align, k + 1),
         38 => Call::CompactWithin(k + 1, 9 * n, 2 * n, k),
         39 => Call::AllocateAt(9 * n, k),
-        _ => Call::After(k),
+        _ => Call::LiveAfter(k),
     }
 }
 
@@ -64,7 +64,7 @@ fn alike<T: Tables>(seed: u64) -> usize {
     assert_eq!(said(&one_by_one), whole, "seed {seed}");
     let with_tickets: Vec<TicketCall> = calls.iter().map(|call| TicketCall { call: *call, ticket: None }).collect();
     assert_eq!(said(&play_guarded::<T>(Global, size, nodes, 7, &with_tickets).unwrap().replies), whole, "seed {seed}");
-    whole.iter().filter(|it| it.starts_with("RoomMade(Some") || it.starts_with("Beside(Some")).count()
+    whole.iter().filter(|it| it.starts_with("RoomMade(Some") || it.starts_with("Found(Some")).count()
 }
 
 #[test]
@@ -76,8 +76,8 @@ fn replies_are_those_of_the_list() {
 #[test]
 fn conditions() {
     let start = || CallPlayer::<u16>::start(Global, 100, 16).unwrap();
-    assert!(catch_unwind(|| start().call(Global, Call::TightAligned(1, 3))).is_ok());
-    assert!(catch_unwind(|| start().call(Global, Call::TightAligned(1, 0))).is_err());
+    assert!(catch_unwind(|| start().call(Global, Call::AllocateTightAligned(1, 3))).is_ok());
+    assert!(catch_unwind(|| start().call(Global, Call::AllocateTightAligned(1, 0))).is_err());
     assert!(catch_unwind(|| start().call(Global, Call::RelocateAligned(1, 0))).is_err());
     assert!(catch_unwind(|| start().call(Global, Call::WouldBegin(1, 0))).is_err());
     assert!(catch_unwind(|| start().call(Global, Call::RoomCostBy(1, 1, 0))).is_err());

@@ -57,7 +57,7 @@ fn put_reason(out: &mut String, why: Reason, report: StorageReport) -> Result<()
             write!(out, "{why}")?;
             put_report(out, why, report)
         }
-        Reason::Limit => write!(out, "a space has at most 4294967295 units"),
+        Reason::TooManyUnits => write!(out, "a space has at most 4294967295 units"),
         Reason::NoRoom => write!(out, "too few units directly after the range are free"),
         Reason::Smaller => write!(out, "the range has fewer units"),
         Reason::Larger => write!(out, "the range has more units"),

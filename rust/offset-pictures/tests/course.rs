@@ -47,7 +47,7 @@ fn each_reason() {
         (Asked::Alloc(4_026_531_841), Reason::Request(Refusal::TooLarge), format!("alloc 4026531841: the request is too large for the space{free}")),
         (Asked::Align(3, 2), Reason::Request(Refusal::Space), format!("align 3 2, rounded up to 4: too few units are free{free}")),
         (Asked::Align(u32::MAX, 1 << 31), Reason::Request(Refusal::Nodes), "align 4294967295 2147483648: too few nodes are left".to_owned()),
-        (Asked::Extend(7), Reason::Limit, "extend 7: a space has at most 4294967295 units".to_owned()),
+        (Asked::Extend(7), Reason::TooManyUnits, "extend 7: a space has at most 4294967295 units".to_owned()),
         (Asked::Shrink(1, 11), Reason::Smaller, "shrink 1 11: the range has fewer units".to_owned()),
         (Asked::Grow(1, 5), Reason::Larger, "grow 1 5: the range has more units".to_owned()),
         (Asked::Grow(1, 95), Reason::NoRoom, "grow 1 95: too few units directly after the range are free".to_owned()),
@@ -60,7 +60,7 @@ fn each_reason() {
 
 #[test]
 fn calls_of_one_pixel_have_one_title() {
-    let at = |call, n| Refused { call, asked: Asked::Extend(n), why: Reason::Limit };
+    let at = |call, n| Refused { call, asked: Asked::Extend(n), why: Reason::TooManyUnits };
     let text = drawn(&course(vec![at(0, 1), at(0, 2), at(0, 3), at(1, 4), at(9, 5)]));
     // a call beyond the axis is at its end
     for wanted in ["<rect x='469' y='550' width='3' height='12'><title>call 1: extend 1: a space has at most 4294967295 units; 2 more refused here</title></rect>\n",

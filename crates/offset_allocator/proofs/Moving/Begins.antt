@@ -3,7 +3,7 @@ use Rattle.offset_allocator.proofs.{Sound.Fields, Sound.AreSound, Sound.shown, C
 use Rattle.offset_allocator.proofs.Served.{one_aligns, aligns_counted, aligned_serves, grants, multiple}
 use Rattle.offset_allocator.proofs.{Refusals.fit_small, Taken.HasFit, Views.ViewPlaces.place_at, Ranges.live_inside}
 use Rattle.offset_allocator.proofs.Common.{◌-◌, ◌%◌, ◌++◌, Bool, true, false, option_map, option_and_then, unwrap_or, if◌then◌else◌, units, place_of, padding_to, blocks_needed, units_needed}
-use Rattle.offset_allocator.proofs.Common.{Block, Place, Splits, HasRoomFor, CanGrant, max_size}
+use Rattle.offset_allocator.proofs.Common.{Block, Place, Splits, AdmitsBlocks, CanGrant, max_size}
 use Rattle.offset_allocator.proofs.Common.{◌≡◌, ℕ, ◌+◌, ◌<◌, ◌≤◌, List, [], ◌∷◌, length, Option, None, Some, IfSome, refl, sym, ap, subst, ◌∙◌, arith, inl, inr, cases_lt, up, down, Node, node, View}
 use Rattle.offset_allocator.proofs.Common.{Handle, HasPlace, IsChain, IsFoundFrom, IsLinked, first_of, bin_at, bins_in, Allocates, Aligns, IsWellFormed, Range, range_of}
 use Rattle.offset_allocator.specs.{Relations.SameState, Moving.Relocating.WouldBegin, Moving.Relocating.offset_of, Moving.Relocating.Relocates, Moving.Relocating.RelocatesAligned}
@@ -39,7 +39,7 @@ module _ (it : Fields) (s : AreSound it) (n o : ℕ) (b : WouldBegin n (shown it
       ap (λ (x : ℕ). (node it.cells.chain x).offset) head ∙ begins_at
 
 -- the block of a grant begins where it would
-pub split_begins : {needed n : ℕ} {padding_at : ℕ → ℕ} {v w : View} {g : Handle} → HasRoomFor 1 v → (s : Splits needed n padding_at v w g) → WouldBegin needed v (units s.before)
+pub split_begins : {needed n : ℕ} {padding_at : ℕ → ℕ} {v w : View} {g : Handle} → AdmitsBlocks 1 v → (s : Splits needed n padding_at v w g) → WouldBegin needed v (units s.before)
 split_begins room s = record {
   before = s.before;
   block = s.block;

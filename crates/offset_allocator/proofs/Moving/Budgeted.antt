@@ -3,7 +3,7 @@ use Rattle.offset_allocator.proofs.Common.{◌≡◌, ◌≢◌, ℕ, ◌+◌, �
 use Rattle.offset_allocator.proofs.Common.{◌⊎◌, inl, inr, cases_lt, ends_used, first_or, last_or, one, true≢false, used_of, used_units, append_assoc, ChainCells, IsChain, IsSpace, HasPlace, blocks, Option}
 use Rattle.offset_allocator.proofs.{Linking.Places.placed, Tallies.tally_append}
 use Rattle.offset_allocator.proofs.{Sound.Fields, Moving.Rooms.apart_few, Views.ViewApart.apart_parts, Common.AreCoalesced, Common.max, Common.◌*◌, Moving.Compacting.live_append, Moving.Stepped.stepped_fewer, Moving.Stepped.stepped_length, Moving.Stepped.stepped_live}
-use Rattle.offset_allocator.proofs.Common.{View, HasRoomFor, IsWellFormed, append-nil, free_block, length, length-append, live, starts_free}
+use Rattle.offset_allocator.proofs.Common.{View, AdmitsBlocks, IsWellFormed, append-nil, free_block, length, length-append, live, starts_free}
 use Rattle.offset_allocator.specs.declared.moves.budget.{Progress.Progress, Reach.Reach}
 use Rattle.offset_allocator.specs.Moving.{BySteps.given_up, BySteps.stepped}
 use Rattle.offset_allocator.specs.Moving.Budget.{first_from, start_of, IsWithin, IsReached, SlidesWithin, StopsAt}
@@ -152,7 +152,7 @@ stops_apart u r bs [] s = refl
 stops_apart u r bs (b ∷ back) s = ap not s.0
 
 -- a free block after it has a node
-pub few_left : (t m : ℕ) (v : View) → IsWellFormed v → v.max_allocs ≡ m → (front run back : List Block) → v.blocks ≡ front ++ (run ++ back) → run ≢ [] → HasRoomFor 1 v ⊎ (ends_used run ≡ false)
+pub few_left : (t m : ℕ) (v : View) → IsWellFormed v → v.max_allocs ≡ m → (front run back : List Block) → v.blocks ≡ front ++ (run ++ back) → run ≢ [] → AdmitsBlocks 1 v ⊎ (ends_used run ≡ false)
     → length front + (length (stepped t run) + length back) + 2 ≤ m
 few_left t m v w limit front run back is some can =
     let n : length v.blocks ≡ length front + (length run + length back) = omega (arith, ap (λ (l : List Block). length l) is, length-append front (run ++ back), length-append run back) in

@@ -3,7 +3,7 @@ use Rattle.offset_allocator.proofs.{Classes.down_law, Moving.Compacting.live_are
 use Rattle.offset_allocator.proofs.{Tallies.hit_cases, Views.ViewFits.fits_exactly, Views.ViewFits.largest_small}
 use Rattle.offset_allocator.proofs.Common.{◌≡◌, sym, append-nil, ◌↔◌, ℕ, ◌+◌, ◌≤◌, Bool, true, false, Option, Some, None, List, [], ◌∷◌, ◌++◌, sum, if◌then◌else◌, nat_eq, option_map, option_and_then}
 use Rattle.offset_allocator.proofs.Common.{refl, ap, ◌∙◌, arith, AllByRecursion, cases_eq, nat_tests, sum_by-cons, value, down, largest, Block, View, Place, one, place_of, count_named, free_sizes}
-use Rattle.offset_allocator.proofs.Common.{units, IsWellFormed, CanGrant, HasRoomFor, Range, Move, live, moves, move_of, gathered, AreBetween, AreSafe, KeepsSizes, Compacts, common_steps}
+use Rattle.offset_allocator.proofs.Common.{units, IsWellFormed, CanGrant, AdmitsBlocks, Range, Move, live, moves, move_of, gathered, AreBetween, AreSafe, KeepsSizes, Compacts, common_steps}
 
 -- the units that a name holds, if it is live
 abbrev units_at : Option Place → Option ℕ
@@ -79,7 +79,7 @@ largest_gathered : (x : ℕ) (ns : List ℕ) → largest (free_sizes (gathered x
 largest_gathered x [] = omega (arith, (down_law 0 (down 0) (omega arith)).0 (omega arith))
 largest_gathered x (n ∷ ns) = let e : sum (n ∷ ns) ≡ n + sum ns = sum_by-cons (λ n. n) n ns in omega (arith, ap (λ m. value (down m)) e)
 
-pub compacted_grants : (v w : View) (n : ℕ) → IsWellFormed w → 1 ≤ n → Compacts v w → CanGrant 1 n w ↔ (HasRoomFor 1 w × (n ≤ value (down (sum (free_sizes v.blocks)))))
+pub compacted_grants : (v w : View) (n : ℕ) → IsWellFormed w → 1 ≤ n → Compacts v w → CanGrant 1 n w ↔ (AdmitsBlocks 1 w × (n ≤ value (down (sum (free_sizes v.blocks)))))
 compacted_grants v w n well some c =
     let is : largest (free_sizes w.blocks) ≡ value (down (sum (free_sizes v.blocks))) = grind (arith, common_steps, sizes_live, live_are_used, largest_gathered) in (
       λ h. (h.0, let small : n ≤ 4294967295 = omega (arith, fit_small n w well h.1, well.fits) in omega (arith, (fits_exactly w well n small well.fits some).0 h.1, is)),

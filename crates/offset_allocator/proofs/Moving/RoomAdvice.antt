@@ -6,7 +6,7 @@ use Rattle.offset_allocator.proofs.{Moving.Compacting.first_is, Moving.Runs.sing
 use Rattle.offset_allocator.proofs.Common.{◌≡◌, ℕ, ◌^◌, ◌<◌, ◌≤◌, ◌⊎◌, Bool, true, false, not, ◌&&◌, Option, Some, None, List, [], ◌∷◌, ◌++◌, sum, if◌then◌else◌, refl, sym, ap, ap₂, subst, ◌∙◌, arith}
 use Rattle.offset_allocator.proofs.Common.{inl, inr, eq-zero-or-pos, true≢false, not-true, Block, View, IsWellFormed, AreCoalesced, CanGrant, IsWhy, free_sizes, starts_free, ends_used, used_of, one}
 use Rattle.offset_allocator.proofs.Common.{value, up, down, times, units, first_free}
-use Rattle.offset_allocator.proofs.{Common.HasRoomFor, Common.length, Common.◌↔◌, Moving.DecidedRoomsBySteps.least_by_decided, Moving.Rooms.apart_few, Moving.RoomsBySteps.fit_of, Moving.RoomsBySteps.found_by}
+use Rattle.offset_allocator.proofs.{Common.AdmitsBlocks, Common.length, Common.◌↔◌, Moving.DecidedRoomsBySteps.least_by_decided, Moving.Rooms.apart_few, Moving.RoomsBySteps.fit_of, Moving.RoomsBySteps.found_by}
 use Rattle.offset_allocator.proofs.{Moving.Stepping.emptied_free, Moving.Stepping.given_free}
 use Rattle.offset_allocator.specs.Moving.RoomBySteps.{IsLeastCostBy, Serves, names_short}
 use Rattle.offset_allocator.specs.Moving.Room.{IsRun, IsAtMost, IsLeastCost, ranges_of}
@@ -177,7 +177,7 @@ module _ (v : View) (w : IsWellFormed v) (n : ℕ) (why : IsWhy 1 n v Fragmented
 
 -- by steps, nothing has to move exactly where the request is granted
 module _ (v : View) (w : IsWellFormed v) (t k n : ℕ) where
-  short_room : names_short k v ≤ 1 → HasRoomFor k v
+  short_room : names_short k v ≤ 1 → AdmitsBlocks k v
   short_room l = omega (arith, l)
 
   none_moves : (run : List Block) → IsRun run v.blocks → Serves t (value (up n)) (names_short k v) run → used_of run ≡ 0 → CanGrant k n v

@@ -6,7 +6,7 @@ use Rattle.offset_allocator.proofs.{Tallies.free_sum, Tallies.units-append, View
 use Rattle.offset_allocator.proofs.Moving.Stepped.{split_length, stepped_free_units, stepped_live, used_up_length}
 use Rattle.offset_allocator.proofs.Common.{◌≡◌, ◌≢◌, ℕ, ◌+◌, ◌-◌, ◌*◌, ◌%◌, ◌^◌, ◌<◌, ◌≤◌, false, not, ◌&&◌, Some, None, Option, List, [], ◌∷◌, ◌++◌, refl, sym, ap, ap₂, subst}
 use Rattle.offset_allocator.proofs.Common.{◌∙◌, arith, inl, inr, append_assoc, append-nil, cases_lt, length, length-append, sum, take, true≢false, not-true, common_steps, Block, View, units, used_units}
-use Rattle.offset_allocator.proofs.Common.{free_block, free_sizes, starts_free, ends_used, times, down, up, value, live, replace, FoldsTo, AreCoalesced, AreInBins, IsWellFormed, HasRoomFor, CanGrant, SameSpace, HasPlace, blocks, first_or, last_or, drop}
+use Rattle.offset_allocator.proofs.Common.{free_block, free_sizes, starts_free, ends_used, times, down, up, value, live, replace, FoldsTo, AreCoalesced, AreInBins, IsWellFormed, AdmitsBlocks, CanGrant, SameSpace, HasPlace, blocks, first_or, last_or, drop}
 use Rattle.offset_allocator.specs.Moving.BySteps.{stepped, given_up, used_up, moves_by}
 use Rattle.offset_allocator.specs.Moving.Compacting.{Move}
 use Rattle.offset_allocator.specs.Moving.Room.{IsRun, IsAtMost, cost_of}
@@ -36,11 +36,11 @@ alone_serves s want short b u l k = record {
 }
 
 -- one name is enough where there is room for the blocks
-pub short_few : (k : ℕ) (v : View) → HasRoomFor k v → names_short k v ≤ 1
+pub short_few : (k : ℕ) (v : View) → AdmitsBlocks k v → names_short k v ≤ 1
 short_few k v room = omega (arith, room)
 
 -- a bin that is found has a block that serves
-pub found_by : (s k n : ℕ) (v : View) → IsWellFormed v → HasRoomFor k v → HasFit n v → IsLeastCostBy s (value (up n)) (names_short k v) v.blocks (Some (record { units = 0; ranges = 0 }))
+pub found_by : (s k n : ℕ) (v : View) → IsWellFormed v → AdmitsBlocks k v → HasFit n v → IsLeastCostBy s (value (up n)) (names_short k v) v.blocks (Some (record { units = 0; ranges = 0 }))
 found_by s k n v w room h =
     let p = fitting n v w h in
     let b = p.0.block in

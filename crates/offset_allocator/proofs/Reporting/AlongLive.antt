@@ -4,7 +4,7 @@ use Rattle.offset_allocator.proofs.Common.{refl, sym, ap, subst, ◌∙◌, inl,
 use Rattle.offset_allocator.proofs.{Common.placed, Common.place_of, Common.is_used_at, Common.count_named, Common.tally, Common.one, Reporting.Nearby.back, Reporting.Nearby.used_first}
 use Rattle.offset_allocator.proofs.{Reporting.Nearby.free_first, Views.ViewPlaces.place_here, Tallies.hit_cases, Tallies.times-append, Tallies.units-append, Tallies.one-same, Reading.live_is}
 use Rattle.std.proofs.lemmas.Bool.{cases_Bool}
-use Rattle.offset_allocator.specs.Reporting.Beside.{AreOfLive, HasOffset, IsWalk, first_handle, first_live, handles_from, last_live, live_after, live_before, live_handles}
+use Rattle.offset_allocator.specs.Reporting.Walking.{AreOfLive, HasOffset, IsWalk, first_handle, first_live, handles_from, last_live, live_after, live_before, live_handles}
 
 -- what is met of one block
 met_used : (o : ℕ) (b : Block) (bs : List Block) → b.used ≡ true → handles_from o (b ∷ bs) ≡ record { name = b.name; offset = o } ∷ handles_from (o + b.size) bs

@@ -1,7 +1,7 @@
 -- The first live range of a space.
 use Rattle.offset_allocator.proofs.Common.{◌≡◌, ℕ, ◌+◌, Bool, true, false, List, [], ◌∷◌, ◌++◌, Option, None, Some, option_map, refl, sym, ap, subst, ◌∙◌, arith}
 use Rattle.offset_allocator.proofs.Common.{Node, node, HasPlace, IsChain, Block, Place, Handle, View, units, placed, blocks}
-use Rattle.offset_allocator.specs.Reporting.Beside.{first_handle, first_live}
+use Rattle.offset_allocator.specs.Reporting.Walking.{first_handle, first_live}
 use Rattle.offset_allocator.proofs.{Sound.Fields, Sound.AreSound, Sound.shown, Linking.Places.placed as placed_at_name, Linking.Places.at_place, Tallies.units-append}
 
 -- the name of a grant

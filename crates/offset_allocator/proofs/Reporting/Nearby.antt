@@ -4,7 +4,7 @@ use Rattle.offset_allocator.proofs.{Common.append_assoc, Common.false≢true, So
 use Rattle.offset_allocator.proofs.{Linking.Ends.ended, Linking.Places.end_place, Linking.Places.located, Reporting.Listing.placed-push, Linking.Ends.last_none, Linking.Places.at_place}
 use Rattle.offset_allocator.proofs.{Linking.Places.previous_place, Linking.Places.next_place, Views.ViewApart.left_false, Tallies.units-append}
 use Rattle.offset_allocator.proofs.Common.{ChainCells, Node, node, HasPlace, Block, Place, Handle, units, AreCoalesced, Placed, placed, placed_at, first_or, View, IsLive, place_of, is_used_at, blocks}
-use Rattle.offset_allocator.specs.Reporting.Beside.{first_handle, last_live, live_before, live_after}
+use Rattle.offset_allocator.specs.Reporting.Walking.{first_handle, last_live, live_before, live_after}
 
 -- the grants of blocks from the last one back
 pub back : (fs : List Block) (b : Block) → reverse (placed 0 (fs ++ b ∷ [])) ≡ placed_at (units fs) b ∷ reverse (placed 0 fs)

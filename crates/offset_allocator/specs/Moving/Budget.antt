@@ -6,7 +6,7 @@ use Rattle.offset_allocator.specs.Moving.BySteps.{given_up, moves_by, stepped, u
 use Rattle.offset_allocator.specs.Moving.Compacting.{Move}
 use Rattle.offset_allocator.specs.Names.{IsTaken, names_of}
 use Rattle.offset_allocator.specs.Relations.{SameSpace, SameState}
-use Rattle.offset_allocator.specs.Requests.{HasRoomFor}
+use Rattle.offset_allocator.specs.Requests.{AdmitsBlocks}
 use Rattle.offset_allocator.specs.View.{View, Block, ends_used, free_block, replace, units, used_of, used_units}
 
 -- the name of the first free block of at least a step that ends at an offset or behind it and has a block after it, of
@@ -53,7 +53,7 @@ pub record SlidesWithin (s from u r : ℕ) (v w : View) (p : Progress) : Type 0 
 
 -- there is a name for a free block after these blocks, or the last of them is free, whose name is unused then
 abbrev pub CanFollow : View → List Block → Type 0
-CanFollow v bs = HasRoomFor 1 v ⊎ (ends_used bs ≡ false)
+CanFollow v bs = AdmitsBlocks 1 v ⊎ (ends_used bs ≡ false)
 
 -- a call: where no such block is, nothing changes; where no free block can follow the run, it is refused
 abbrev pub CompactsWithin : {F : Type 0} → (F → Move → F → Type 0) → ℕ → ℕ → ℕ → ℕ → View → F → Option Progress → View → F → Type 0

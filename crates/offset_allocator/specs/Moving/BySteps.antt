@@ -4,7 +4,7 @@ use Rattle.std.specs.List.{AllByRecursion}
 use Rattle.offset_allocator.specs.Moving.Compacting.{Move, move_of}
 use Rattle.offset_allocator.specs.Names.{IsTaken, names_of}
 use Rattle.offset_allocator.specs.Relations.{SameSpace, SameState}
-use Rattle.offset_allocator.specs.Requests.{HasRoomFor}
+use Rattle.offset_allocator.specs.Requests.{AdmitsBlocks}
 use Rattle.offset_allocator.specs.View.{View, Block, ends_used, free_block, free_part, replace}
 
 -- what a free block of n units keeps, which has these blocks after it: what whole steps leave of it, or 0 where the list
@@ -42,7 +42,7 @@ first_whole s (b ∷ c ∷ bs) = if not b.used && nat_le s b.size then Some b.na
 
 -- the node limit admits one more block, or the last block is free, which gives its name back
 abbrev pub CanStep : View → Type 0
-CanStep v = HasRoomFor 1 v ⊎ (ends_used v.blocks ≡ false)
+CanStep v = AdmitsBlocks 1 v ⊎ (ends_used v.blocks ≡ false)
 
 -- from the first free block of at least a step on, each free block keeps what whole steps leave of its units, and the
 -- units that they give up are one free block at the end. Each of these free blocks leaves its bin; what it keeps becomes

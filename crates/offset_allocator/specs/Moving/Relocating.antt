@@ -3,7 +3,7 @@ use Rattle.std.specs.Prelude.{◌≡◌, ℕ, ◌<◌, ◌≤◌, List, [], ◌�
 use Rattle.offset_allocator.specs.Classes.{up, down}
 use Rattle.offset_allocator.specs.Ranges.{Range, range_of, size_of}
 use Rattle.offset_allocator.specs.Relations.{Aligns, Allocates, SameState}
-use Rattle.offset_allocator.specs.Requests.{HasRoomFor, blocks_needed, units_needed}
+use Rattle.offset_allocator.specs.Requests.{AdmitsBlocks, blocks_needed, units_needed}
 use Rattle.offset_allocator.specs.View.{View, Block, Handle, bin_at, units}
 
 -- where the range of a name begins: 0 where it is not live
@@ -17,7 +17,7 @@ pub record WouldBegin (n : ℕ) (v : View) (offset : ℕ) : Type 0 where
   pub block : Block
   pub after : List Block
   pub blocks : v.blocks ≡ before ++ (block ∷ after)
-  pub room : HasRoomFor 1 v
+  pub room : AdmitsBlocks 1 v
   pub fits : up n ≤ down block.size
   pub smallest : (c : ℕ) → up n ≤ c → c < down block.size → bin_at v.bins c ≡ []
   pub older : List ℕ
@@ -34,5 +34,5 @@ Relocates x v w (Some g) = Allocates (size_of x v) v w (Some g) × (g.offset < o
 -- nothing changes where that would begin after it, or the request be refused
 abbrev pub RelocatesAligned : ℕ → ℕ → View → View → Option Handle → Type 0
 RelocatesAligned x align v w None =
-    ((o : ℕ) → HasRoomFor (blocks_needed align) v → WouldBegin (units_needed (size_of x v) align) v o → offset_of x v ≤ o) × SameState v w
+    ((o : ℕ) → AdmitsBlocks (blocks_needed align) v → WouldBegin (units_needed (size_of x v) align) v o → offset_of x v ≤ o) × SameState v w
 RelocatesAligned x align v w (Some g) = (a : Aligns (size_of x v) align v w (Some g)) × (units a.1.before < offset_of x v)

@@ -20,7 +20,7 @@ HasForm ws = (8 ≤ length ws) × (word 0 ws ≡ state_form) × (word 1 ws ≡ s
 abbrev pub HasLimit : ℕ → ℕ → List ℕ → Type 0
 HasLimit max most ws = (word 3 ws + 1 < max) × (word 3 ws ≤ most)
 
--- the node limit admits the blocks and the unused nodes
+-- the node limit admits the blocks and the unused names
 abbrev pub HasCounts : List ℕ → Type 0
 HasCounts ws = (1 ≤ word 4 ws) × (word 4 ws + 1 ≤ word 3 ws) × (word 4 ws + word 6 ws ≤ word 3 ws)
 

@@ -7,7 +7,7 @@ ghost use Rattle.offset_allocator.specs.Accesses.{Costs};
 ghost use Rattle.offset_allocator.specs.Chain.{IsSpace, blocks, last_or};
 ghost use Rattle.offset_allocator.specs.Moving.Budget.{CompactsWithin, IsWithin, StopsAt, first_from, start_of};
 ghost use Rattle.offset_allocator.specs.Moving.Compacting.{IsCalledWith, KeepsSizes, live};
-ghost use Rattle.offset_allocator.specs.Requests.{HasRoomFor};
+ghost use Rattle.offset_allocator.specs.Requests.{AdmitsBlocks};
 ghost use Rattle.offset_allocator.specs.View.{Block, ends_used, units, used_of, used_units};
 
 use crate::accesses::Accesses;
@@ -128,9 +128,9 @@ fn run_from<T: Tables>(
 impl<T: Tables> AllocatorOf<T> {
     // Whether there is a name for a free block after a run: one that ends in a free block has it.
     fn can_follow(&self, end_used: bool) -> bool
-        ensures is { IsTrue result ↔ (HasRoomFor 1 self.now ⊎ (end_used ≡ false)) }
+        ensures is { IsTrue result ↔ (AdmitsBlocks 1 self.now ⊎ (end_used ≡ false)) }
     {
-        !end_used || self.has_room_for(1)
+        !end_used || self.admits_blocks(1)
     }
 
     /// As `compact_by`, for a part of the space: moves the live ranges behind the first free block of at least a

@@ -207,7 +207,7 @@ impl<T: Tables> AllocatorOf<T> {
         ensures same { SameState self.old self.new }
         ensures accesses { Costs 0 1 self.old.accesses self.new.accesses }
     {
-        if self.has_room_for(1) {
+        if self.admits_blocks(1) {
             return true;
         }
         let last = self.store.last;

@@ -117,7 +117,7 @@ fn copied<T: Tables>(
 
 impl<T: Tables> AllocatorOf<T> {
     /// A copy of the space, with memory of its own: the same live ranges under the same handles, the same
-    /// blocks and the same order in bins, and the same unused nodes. So each further call has the same answer
+    /// blocks and the same order in bins, and the same unused names. So each further call has the same answer
     /// in both, handles included, and a handle of one is live in the other exactly if it was when the copy
     /// was made.
     ///

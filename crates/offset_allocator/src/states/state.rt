@@ -35,7 +35,7 @@ pub enum StateFaultKind {
     Form,
     /// The node limit is above that which the caller or the index type admits.
     Limit,
-    /// There is no block, or more blocks and unused nodes than the node limit admits; or more than
+    /// There is no block, or more blocks and unused names than the node limit admits; or more than
     /// `max_allocs - 2` of the blocks are live. The place is that of the number of blocks.
     Counts,
     /// The checksum is not that of the bytes.

@@ -531,7 +531,7 @@ fn expect_at<T: Tables>(
     assert_same_at(at, &allocator.free_units(), &left);
     if size > 0 {
         assert_that_at(at, allocator.in_the_way(offset, size) == granted);
-        assert_that_at(at, allocator.handle_at(offset) == granted);
+        assert_that_at(at, allocator.live_at(offset) == granted);
     }
 }
 
@@ -561,7 +561,7 @@ fn expect_way<T: Tables>(
     let counted = in_the_way_counted(allocator, offset, size, &mut Accesses::new());
     assert_that_at(at, counted == wanted);
     if size == 1 {
-        assert_that_at(at, allocator.handle_at(offset) == wanted);
+        assert_that_at(at, allocator.live_at(offset) == wanted);
     }
 }
 

@@ -97,7 +97,7 @@ fn run_from<T: Tables>(
 impl<T: Tables> AllocatorOf<T> {
     // Whether there is a name for a free block after a run: one that ends in a free block has it.
     fn can_follow(&self, end_used: bool) -> bool {
-        !end_used || self.has_room_for(1)
+        !end_used || self.admits_blocks(1)
     }
 
     /// As `compact_by`, for a part of the space: moves the live ranges behind the first free block of at least a

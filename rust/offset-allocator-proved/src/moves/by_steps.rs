@@ -108,7 +108,7 @@ pub(crate) fn slide_run<T: Tables, F: FnMut(Move<T::Index>)>(
 impl<T: Tables> AllocatorOf<T> {
     // Whether there is a name for the block that is left at the end.
     fn can_step(&mut self) -> bool {
-        if self.has_room_for(1) {
+        if self.admits_blocks(1) {
             return true;
         }
         let last = self.store.last;

@@ -1,4 +1,4 @@
-use Rattle.offset_allocator.proofs.Common.{◌≡◌, ◌∙◌, ℕ, true, refl, sym, subst, ap, arith, length, take, List, [], ◌∷◌, ◌++◌, node, Block, Node, HasRoomFor, units}
+use Rattle.offset_allocator.proofs.Common.{◌≡◌, ◌∙◌, ℕ, true, refl, sym, subst, ap, arith, length, take, List, [], ◌∷◌, ◌++◌, node, Block, Node, AdmitsBlocks, units}
 use Rattle.offset_allocator.proofs.{Sound.fields_of, Classes.down_small, Linking.Names.kept_unused, Linking.Names.next_taken, Linking.Names.ready_place, Linking.Places.at_place}
 use Rattle.offset_allocator.proofs.{Linking.Places.end_place, Linking.Places.last_place, Linking.Places.placed, Views.ViewChain.blocks-chain, Extending.Growth, Extending.Grown, Extending.end}
 use Rattle.offset_allocator.proofs.{Extending.end_held, Extending.free_fits, Extending.split_fits, Extending.append_unlisted, Extending.appended}
@@ -68,7 +68,7 @@ done g c r k =
     let taken = next_taken c.split-name.result _ _ here c.ensure_spare.ensures.unused unused in
     rw (c.push.ensures.chain.1, c.push.ensures.chain.2)
     (appended r (g.T.Tables.cells c.push.new.store.tables) k
-    (subst (HasRoomFor 1) (sym c.self.view_is) c.requires.enough)
+    (subst (AdmitsBlocks 1) (sym c.self.view_is) c.requires.enough)
     size (rw c.push.ensures.chain.0 grown.chain) c.push.ensures.binned
     (rw (c.grow.ensures.bins, c.split-name.ensures.bins.0, (c.ensure_spare.ensures.readies.bins _ c.self.invariant.bins).1, c.uint_to_float_round_down.ensures.is) at c.push.ensures.lists)
     (c.split-name.ensures.fresh _ _ held)

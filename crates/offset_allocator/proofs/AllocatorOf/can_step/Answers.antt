@@ -11,7 +11,7 @@ returns-clause-is g c =
     ap (λ (u : View). ends_used u.blocks) (sym c.self.view_is) ∙ sym (used_at_end (fields_of g.T.Tables.cells g.T.Index.NodeIndex.MAX c.self.inside) 0 c.self.invariant) ∙ sym c.is_used.ensures.cell in (
       λ h. inr (ends ∙ not-true c.is_used.result h),
       λ can. elim can [
-        | inl room ↦ absurd (false≢true (sym c.if-has_room_for.false ∙ c.has_room_for.ensures.1 room))
+        | inl room ↦ absurd (false≢true (sym c.if-admits_blocks.false ∙ c.admits_blocks.ensures.1 room))
         | inr e ↦ ap not (sym ends ∙ e)
       ],
     )

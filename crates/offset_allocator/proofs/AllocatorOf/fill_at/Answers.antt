@@ -1,6 +1,6 @@
 use Rattle.offset_allocator.proofs.{AtPlace.at_counted, AtPlace.serves, Classes.down_small, Granting.found_itself, Holding.first_is, Holding.place_there, Linking.Places.at_place, Linking.Places.placed}
 use Rattle.offset_allocator.proofs.{Served.split_as, Sound.Fields, Sound.fields_of, Sound.known_sound, Sound.shown, Sound.well_counted, Common.◌++◌, Common.IsWellFormed, Common.HasPlace, Common.IsChain, Common.List}
-use Rattle.offset_allocator.proofs.Common.{◌≡◌, ℕ, ◌-◌, ◌<◌, ◌∷◌, ◌∙◌, None, Some, ap, arith, refl, subst, sym, bin_at, remove, units, value, Block, HasRoomFor, Node, node, Place, Splits, View}
+use Rattle.offset_allocator.proofs.Common.{◌≡◌, ℕ, ◌-◌, ◌<◌, ◌∷◌, ◌∙◌, None, Some, ap, arith, refl, subst, sym, bin_at, remove, units, value, Block, AdmitsBlocks, Node, node, Place, Splits, View}
 use Rattle.offset_allocator.specs.{AtPlace.AllocatesAt, AtPlace.CanGrantAt, AtPlace.GrantsAt, Tight.with_first}
 use Rattle.offset_allocator.proofs.AllocatorOf.fill_at.Goals as goal
 use Rattle.offset_allocator.proofs.AllocatorOf.fill_at.{Goals.After-formed, Goals.After-size-whole, Given.Over}
@@ -40,9 +40,9 @@ returns-in-None-clause-step g c =
     λ h. omega (arith, (serves c.args.self.now c.args.offset c.args.size l.0 l.1 l.4 l.5 h.at).holds.1, c.in-None.ensures.none refl, begin, whole, l.4) in
     subst (λ (u : View). AllocatesAt c.args.offset c.args.size u left None) c.self.view_is (λ h. no (subst (CanGrantAt c.args.offset c.args.size) c.self.view_is h), refl)
 
-pub returns-then-not-has_room_for-clause-step : goal.returns-then-not-has_room_for-clause-step
-returns-then-not-has_room_for-clause-step g c =
-    let at = (goal.at.returns-then-not-has_room_for-clause-step g c).After-formed in
+pub returns-then-not-admits_blocks-clause-step : goal.returns-then-not-admits_blocks-clause-step
+returns-then-not-admits_blocks-clause-step g c =
+    let at = (goal.at.returns-then-not-admits_blocks-clause-step g c).After-formed in
     let l = c.requires.last in
     let f : Fields = fields_of g.T.Tables.cells g.T.Index.NodeIndex.MAX c.self.inside in
     let left : View = shown (record f { accesses = c.size-whole.new.count }) in
@@ -51,10 +51,10 @@ returns-then-not-has_room_for-clause-step g c =
     let parts = c.in-Some.ensures.parts in
     let no : CanGrantAt c.args.offset c.args.size c.args.self.now → ⊥ = λ h.
     let s = serves c.args.self.now c.args.offset c.args.size l.0 l.1 l.4 l.5 h.at in
-    let room : HasRoomFor c.max-more.result c.args.self.now =
+    let room : AdmitsBlocks c.max-more.result c.args.self.now =
     omega (arith, h.room, s.added, s.holds.0, s.holds.1, parts.0, parts.1, parts.2, begin, whole, c.min.ensures, c.min-2.ensures, c.max-more.ensures) in
-    let t = c.has_room_for.ensures.1 (subst (HasRoomFor c.max-more.result) (sym c.self.view_is) room) in
-    let n = c.if-not-has_room_for.true in
+    let t = c.admits_blocks.ensures.1 (subst (AdmitsBlocks c.max-more.result) (sym c.self.view_is) room) in
+    let n = c.if-not-admits_blocks.true in
     absurd (cc) in
     subst (λ (u : View). AllocatesAt c.args.offset c.args.size u left None) c.self.view_is (λ h. no (subst (CanGrantAt c.args.offset c.args.size) c.self.view_is h), refl)
 
@@ -132,7 +132,7 @@ returns-clause-step g c =
     let P : View → Type 0 = λ u. Splits (value k) c.in-Some.parts.size (λ begin. c.args.offset - begin) u c.grant_part.new.self c.grant_part.result in
     let base = split_as (subst P same (c.grant_part.ensures.step (value k) found)) v.accesses c.grant_part.new.self.accesses (λ begin. c.args.offset - begin) (λ o. refl) in
     let S : ℕ → ℕ → ℕ → Type 0 = λ j n x. Splits (value j) n (λ begin. c.args.offset - begin) (with_first j x v) c.grant_part.new.self c.grant_part.result in
-    let room : HasRoomFor c.max-more.result v = c.has_room_for.ensures.0 c.if-not-has_room_for.false in
+    let room : AdmitsBlocks c.max-more.result v = c.admits_blocks.ensures.0 c.if-not-admits_blocks.false in
     let r : GrantsAt c.args.offset c.args.size v c.grant_part.new.self c.grant_part.result = record {
       at = record { place = p; there = t; free = l.3; holds = (l.4, omega (arith, parts.0, parts.1, parts.2, begin, whole, l.4)) };
       room = omega (arith, room, parts.0, parts.1, parts.2, begin, whole, l.4, c.min.ensures, c.min-2.ensures, c.max-more.ensures);

@@ -1,6 +1,6 @@
 use Rattle.offset_allocator.proofs.{Sound.shown, Sound.AreSound, Sound.Fields, Sound.fields_of, Linking.Places.at_place, Linking.Places.kept_place, Linking.Names.kept_unused, Tallies.one-same}
 use Rattle.offset_allocator.proofs.{Filing.Uses.removed_unlisted, Common.length, Common.◌≢◌, Common.[], Common.◌∷◌, Common.Splits}
-use Rattle.offset_allocator.proofs.Common.{◌≡◌, ◌+◌, ◌-◌, ◌≤◌, ◌<◌, ◌^◌, ◌∙◌, ℕ, ap, arith, refl, subst, sym, up, Node, View, padding_to, IsFoundFrom, Some, HasRoomFor, blocks_needed, units, bin_at}
+use Rattle.offset_allocator.proofs.Common.{◌≡◌, ◌+◌, ◌-◌, ◌≤◌, ◌<◌, ◌^◌, ◌∙◌, ℕ, ap, arith, refl, subst, sym, up, Node, View, padding_to, IsFoundFrom, Some, AdmitsBlocks, blocks_needed, units, bin_at}
 use Rattle.offset_allocator.proofs.Granting.{Call, got, held, unlisted, padding_fits, units_free, granted}
 use Rattle.offset_allocator.specs.Requests.{NewestHolds}
 use Rattle.offset_allocator.proofs.AllocatorOf.grant.Goals as goal
@@ -119,7 +119,7 @@ done g c p holds k f e =
     let oe = c.offset-offset.ensures.cell ∙ ap (λ (v : Node). v.offset) at in
     let we = c.size-whole.ensures.cell ∙ ap (λ (v : Node). v.size) at in
     let place = c.divide.ensures.place _ _ h in
-    let room = subst (HasRoomFor (blocks_needed c.args.align))
+    let room = subst (AdmitsBlocks (blocks_needed c.args.align))
     (sym c.self.view_is) c.requires.enough in
     rw (e, oe) (granted p c.args.size (padding_to c.args.align) holds (blocks_needed c.args.align) room (omega (arith, c.requires.some))
     (omega (arith, c.requires.some, two c.args.align (units (got p).place.before))) _ _ _ _ _ (rw (oe, we) at place) c.divide.ensures.binned (rw (oe, we, c.pop-name.ensures.lists) at c.divide.ensures.lists)

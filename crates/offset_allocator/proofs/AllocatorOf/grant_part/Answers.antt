@@ -1,7 +1,7 @@
 use Rattle.std.specs.Prelude.{max, min}
 use Rattle.offset_allocator.proofs.{AtPlace.IsWhole, Sound.shown, Sound.AreSound, Sound.Fields, Sound.fields_of, Linking.Places.at_place, Linking.Places.kept_place, Linking.Names.kept_unused}
 use Rattle.offset_allocator.proofs.{Tallies.one-same, Filing.Uses.removed_unlisted, Common.length, Common.◌≢◌, Common.[], Common.◌∷◌, Common.Splits}
-use Rattle.offset_allocator.proofs.Common.{◌≡◌, ◌+◌, ◌-◌, ◌∙◌, ℕ, ap, arith, refl, subst, sym, up, Handle, Node, View, IsFoundFrom, Some, HasRoomFor, units, bin_at}
+use Rattle.offset_allocator.proofs.Common.{◌≡◌, ◌+◌, ◌-◌, ◌∙◌, ℕ, ap, arith, refl, subst, sym, up, Handle, Node, View, IsFoundFrom, Some, AdmitsBlocks, units, bin_at}
 use Rattle.offset_allocator.proofs.Granting.{Call, got, held, unlisted, units_free, granted}
 use Rattle.offset_allocator.proofs.AllocatorOf.grant_part.Goals as goal
 use Rattle.offset_allocator.proofs.AllocatorOf.grant_part.{Goals.After-pop-name, Goals.After-divide, Given.Over}
@@ -99,7 +99,7 @@ done g c p w k f e =
     let se : before + (c.args.start - before) ≡ c.args.start = omega (arith, w.0) in
     let place = c.divide.ensures.place _ _ h in
     let most = max 1 (min 1 c.args.parts.padding + min 1 c.args.parts.remainder) in
-    let room = subst (HasRoomFor most) (sym c.self.view_is) c.requires.enough in
+    let room = subst (AdmitsBlocks most) (sym c.self.view_is) c.requires.enough in
     let r = granted p c.args.parts.size (λ begin. c.args.start - begin) (omega (arith, w.0, w.1)) most room (omega arith) (omega (arith, w.0, w.1)) _ _ _ _ _
     (rw (pe, re) at place) {accesses = k} c.divide.ensures.binned (rw (pe, re, c.pop-name.ensures.lists) at c.divide.ensures.lists)
     (rw (kept_unused c.pop-name.ensures.chain, pe, re) at (c.divide.ensures.unused _ _ h)) in

@@ -1,4 +1,4 @@
-use Rattle.offset_allocator.proofs.Common.{Some, None, refl, sym, subst, ◌∙◌, View, HasRoomFor, blocks_needed}
+use Rattle.offset_allocator.proofs.Common.{Some, None, refl, sym, subst, ◌∙◌, View, AdmitsBlocks, blocks_needed}
 use Rattle.offset_allocator.proofs.{Sound.Fields, Sound.shown, Sound.fields_of, Sound.known_sound, Holding.chosen_is, Holding.none_holds, Holding.fills_counted}
 use Rattle.offset_allocator.specs.Tight.{FillsFirst}
 use Rattle.offset_allocator.proofs.AllocatorOf.look_further.Goals as goal
@@ -20,7 +20,7 @@ returns-in-Some-clause-step g c =
     let f : Fields = fields_of g.T.Tables.cells g.T.Index.NodeIndex.MAX c.self.inside in
     let w = c.grant_first.new.self in
     let e = sym (chosen_is f c.self.invariant c.args.size c.args.align) ∙ sym c.in-Some.ensures.first in
-    let room = subst (HasRoomFor (blocks_needed c.args.align)) (sym c.self.view_is) c.requires.enough in
+    let room = subst (AdmitsBlocks (blocks_needed c.args.align)) (sym c.self.view_is) c.requires.enough in
     let step = c.grant_first.ensures.step in
     subst (λ (u : View). FillsFirst c.args.size c.args.align u w (Some c.grant_first.result)) c.self.view_is
     (fills_counted c.args.size c.args.align (shown f) w c.choose.new.count (Some c.grant_first.result) (room, (step.0, c.in-Some.name, e, step.1)))

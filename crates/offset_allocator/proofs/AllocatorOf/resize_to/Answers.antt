@@ -1,10 +1,10 @@
 use Rattle.offset_allocator.proofs.Common.{cases_lt, true≢false, ◌≡◌, ◌⊎◌, ◌+◌, ◌-◌, ◌<◌, ◌≤◌, ◌∙◌, ℕ, true, false, length, inl, inr, refl, sym, ap, subst, arith, Node, View, IsWellFormed, free_start}
-use Rattle.offset_allocator.proofs.{Common.units, Common.HasRoomFor, Common.range_of, Common.size_of, Common.Resizes, Common.ResizesTo, Freeing.Release, Freeing.at, Freeing.filed, Freeing.room_for}
+use Rattle.offset_allocator.proofs.{Common.units, Common.AdmitsBlocks, Common.range_of, Common.size_of, Common.Resizes, Common.ResizesTo, Freeing.Release, Freeing.at, Freeing.filed, Freeing.room_for}
 use Rattle.offset_allocator.proofs.{Freeing.named_live, Linking.Places.at_place, Reading.live_used, Sound.Fields, Sound.AreSound, Sound.shown, Sound.fields_of, Sound.known_sound}
 use Rattle.offset_allocator.proofs.AllocatorOf.resize_to.Given.{Over}
 use Rattle.offset_allocator.proofs.Resizing.{resized, free_beside, next_some, some_after, resizes_full, resizes_short, resizes_done, resized_units, resized_others, size_there}
 use Rattle.offset_allocator.proofs.AllocatorOf.resize_to.Goals as goal
-use Rattle.offset_allocator.proofs.AllocatorOf.resize_to.Goals.{After-self, After-units_after-more, After-resize, else-is_none-via-then-is_none+else-not-has_room_for, else-is_none-via-else-is_none}
+use Rattle.offset_allocator.proofs.AllocatorOf.resize_to.Goals.{After-self, After-units_after-more, After-resize, else-is_none-via-then-is_none+else-not-admits_blocks, else-is_none-via-else-is_none}
 
 -- where the block is, and its size
 block : (g : Over) (c : After-self g) → Release (fields_of g.T.Tables.cells g.T.Index.NodeIndex.MAX c.self.inside) c.args.name
@@ -42,26 +42,26 @@ pub returns-then-size-old_size-2-clause-others : goal.returns-then-size-old_size
 returns-then-size-old_size-2-clause-others g c y ne = ap (range_of y) (returns-then-size-old_size-2-clause-same g c refl)
 
 -- no block may take those that are given back
-pub returns-then-not-has_room_for-clause-step : goal.returns-then-not-has_room_for-clause-step
-returns-then-not-has_room_for-clause-step g c =
-    let here = goal.at.returns-then-not-has_room_for-clause-step g c in
+pub returns-then-not-admits_blocks-clause-step : goal.returns-then-not-admits_blocks-clause-step
+returns-then-not-admits_blocks-clause-step g c =
+    let here = goal.at.returns-then-not-admits_blocks-clause-step g c in
     let r = block g here.After-self in
     let none = (next_some r _ c.free_after-next.ensures.free).1 c.if-is_none.ensures in
     let less : c.args.size < (at r).place.block.size =
     omega (arith, size g here.After-self, more g here.After-units_after-more r, ap units none, c.if-size-old_size.false, c.if-size-old_size-2.false) in
     let full : c.self.inside.max_allocs ≤ length (shown (fields_of g.T.Tables.cells g.T.Index.NodeIndex.MAX c.self.inside)).blocks + 1 =
     elim (cases_lt (length (shown (fields_of g.T.Tables.cells g.T.Index.NodeIndex.MAX c.self.inside)).blocks + 1) c.self.inside.max_allocs) [
-      | inl l ↦ absurd (true≢false (sym (c.has_room_for.ensures.1 l) ∙ c.if-not-has_room_for.true))
+      | inl l ↦ absurd (true≢false (sym (c.admits_blocks.ensures.1 l) ∙ c.if-not-admits_blocks.true))
       | inr m ↦ omega (arith, m)
     ] in
     subst (λ (u : View). ResizesTo c.args.name c.args.size u (shown (record (fields_of g.T.Tables.cells g.T.Index.NodeIndex.MAX c.self.inside) { accesses = c.units_after-more.new.count })) false) c.self.view_is
     (resizes_full r c.args.size c.units_after-more.new.count less none full)
 
-pub returns-then-not-has_room_for-clause-same : goal.returns-then-not-has_room_for-clause-same
-returns-then-not-has_room_for-clause-same g c e = ap (λ (u : View). record u { accesses = c.units_after-more.new.count }) c.self.view_is
+pub returns-then-not-admits_blocks-clause-same : goal.returns-then-not-admits_blocks-clause-same
+returns-then-not-admits_blocks-clause-same g c e = ap (λ (u : View). record u { accesses = c.units_after-more.new.count }) c.self.view_is
 
-pub returns-then-not-has_room_for-clause-others : goal.returns-then-not-has_room_for-clause-others
-returns-then-not-has_room_for-clause-others g c y ne = ap (range_of y) (returns-then-not-has_room_for-clause-same g c refl)
+pub returns-then-not-admits_blocks-clause-others : goal.returns-then-not-admits_blocks-clause-others
+returns-then-not-admits_blocks-clause-others g c y ne = ap (range_of y) (returns-then-not-admits_blocks-clause-same g c refl)
 
 -- it is resized
 pub resize-requires-clause-place : goal.resize-requires-clause-place
@@ -74,10 +74,10 @@ resize-requires-clause-place g c =
       filed r,
       omega (arith, size g here.After-self, more g here.After-units_after-more r, c.if-size-old_size-2.false),
       elim c.else-is_none.branch [
-        | else-is_none-via-then-is_none+else-not-has_room_for w ↦ inr
+        | else-is_none-via-then-is_none+else-not-admits_blocks w ↦ inr
             (omega (
               arith,
-              w.has_room_for.ensures.0 w.if-not-has_room_for.false,
+              w.admits_blocks.ensures.0 w.if-not-admits_blocks.false,
               ap length (at r).list_is,
               c.self.invariant.memory,
             ))
@@ -115,9 +115,9 @@ after g c k = record (fields_of g.T.Tables.cells g.T.Index.NodeIndex.MAX c.self.
 room : (g : Over) (c : After-resize g)
     (r : Release (fields_of g.T.Tables.cells g.T.Index.NodeIndex.MAX c.self.inside)
     c.args.name) → (1 ≤ length (free_start (at r).place.after))
-    ⊎ HasRoomFor 1 (shown (fields_of g.T.Tables.cells g.T.Index.NodeIndex.MAX c.self.inside))
+    ⊎ AdmitsBlocks 1 (shown (fields_of g.T.Tables.cells g.T.Index.NodeIndex.MAX c.self.inside))
 room g c r = elim c.else-is_none.branch [
-  | else-is_none-via-then-is_none+else-not-has_room_for w ↦ inr (w.has_room_for.ensures.0 w.if-not-has_room_for.false)
+  | else-is_none-via-then-is_none+else-not-admits_blocks w ↦ inr (w.admits_blocks.ensures.0 w.if-not-admits_blocks.false)
   | else-is_none-via-else-is_none w ↦ inl ((next_some r _ c.free_after-next.ensures.free).0 w.if-is_none.ensures)
 ]
 

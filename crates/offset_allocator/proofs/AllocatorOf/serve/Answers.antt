@@ -1,4 +1,4 @@
-use Rattle.offset_allocator.proofs.Common.{◌≡◌, ℕ, ◌+◌, ◌-◌, ◌<◌, ◌≤◌, ◌∙◌, None, Some, ap, arith, refl, subst, sym, up, View, max_size, units_needed, blocks_needed, HasRoomFor, Aligns}
+use Rattle.offset_allocator.proofs.Common.{◌≡◌, ℕ, ◌+◌, ◌-◌, ◌<◌, ◌≤◌, ◌∙◌, None, Some, ap, arith, refl, subst, sym, up, View, max_size, units_needed, blocks_needed, AdmitsBlocks, Aligns}
 use Rattle.offset_allocator.proofs.{Sound.Fields, Sound.shown, Sound.fields_of, Sound.known_sound, Classes.below_value_up, Granting.first_holds, Served.aligns_counted, Served.past_refuses}
 use Rattle.offset_allocator.proofs.AllocatorOf.serve.Goals as goal
 
@@ -25,8 +25,8 @@ returns-in-Some-clause-step g c =
     let f : Fields = fields_of g.T.Tables.cells g.T.Index.NodeIndex.MAX c.self.inside in
     let P : View → Type 0 = λ u. Aligns c.args.size c.args.align u c.grant.new.self (Some c.grant.result) in
     let from = low c.args.size c.args.align _ c.requires c.uint_to_float_round_up-smallest.ensures.is in
-    let room = c.has_room_for.ensures.0 c.if-not-has_room_for.false in
-    let enough : HasRoomFor (blocks_needed c.args.align) (shown f) = subst (HasRoomFor (blocks_needed c.args.align)) (sym c.self.view_is) (omega (arith, room, c.min.ensures)) in
+    let room = c.admits_blocks.ensures.0 c.if-not-admits_blocks.false in
+    let enough : AdmitsBlocks (blocks_needed c.args.align) (shown f) = subst (AdmitsBlocks (blocks_needed c.args.align)) (sym c.self.view_is) (omega (arith, room, c.min.ensures)) in
     subst P c.self.view_is (aligns_counted c.args.size c.args.align (shown f) c.grant.new.self c.find_at_or_above.new.count (Some c.grant.result)
     (enough, c.grant.ensures.step (units_needed c.args.size c.args.align) (rw from at c.in-Some.ensures.smallest)))
 
@@ -42,8 +42,8 @@ invariant_of-self g c = c.self.invariant
 pub invariant_of-self-in-Some : goal.invariant_of-self-in-Some
 invariant_of-self-in-Some g c = c.self.invariant
 
-pub returns-then-not-has_room_for-clause-formed : goal.returns-then-not-has_room_for-clause-formed
-returns-then-not-has_room_for-clause-formed g c = (known_sound (fields_of g.T.Tables.cells g.T.Index.NodeIndex.MAX c.self.inside) c.self.invariant c.args.self.now c.self.view_is).0
+pub returns-then-not-admits_blocks-clause-formed : goal.returns-then-not-admits_blocks-clause-formed
+returns-then-not-admits_blocks-clause-formed g c = (known_sound (fields_of g.T.Tables.cells g.T.Index.NodeIndex.MAX c.self.inside) c.self.invariant c.args.self.now c.self.view_is).0
 
 pub returns-then-size-align-clause-formed : goal.returns-then-size-align-clause-formed
 returns-then-size-align-clause-formed g c = (known_sound (fields_of g.T.Tables.cells g.T.Index.NodeIndex.MAX c.self.inside) c.self.invariant c.args.self.now c.self.view_is).0

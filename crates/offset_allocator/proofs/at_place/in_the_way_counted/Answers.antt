@@ -6,8 +6,8 @@ use Rattle.offset_allocator.proofs.at_place.in_the_way_counted.Goals as goal
 long : (v : View) → length (listing v) ≡ length v.blocks
 long v = length-reverse (placed 0 v.blocks) ∙ length-placed 0 v.blocks
 
-pub returns-then-is_among-clause-accesses : goal.returns-then-is_among-clause-accesses
-returns-then-is_among-clause-accesses g c =
+pub returns-then-is_in_the_way-clause-accesses : goal.returns-then-is_in_the_way-clause-accesses
+returns-then-is_in_the_way-clause-accesses g c =
     let i = c.loop-block.invariant in
     let one = ap (λ (l : List Placed). length l) c.in-Some.ensures.yields in (
       omega (arith, i.least, one, c.in-Some.ensures.accesses_min refl, long c.args.allocator.now),

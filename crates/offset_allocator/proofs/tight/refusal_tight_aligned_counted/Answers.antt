@@ -1,4 +1,4 @@
-use Rattle.offset_allocator.proofs.Common.{ap, arith, refl, sym, ◌∙◌, sum, View, free_sizes, HasRoomFor, blocks_needed}
+use Rattle.offset_allocator.proofs.Common.{ap, arith, refl, sym, ◌∙◌, sum, View, free_sizes, AdmitsBlocks, blocks_needed}
 use Rattle.offset_allocator.proofs.{Sound.Fields, Sound.fields_of, Holding.chosen_is, Holding.holder, Holding.none_holds, Holding.hold_fits}
 use Rattle.offset_allocator.specs.Tight.{first_holding}
 use Rattle.offset_allocator.proofs.tight.refusal_tight_aligned_counted.Goals as goal
@@ -15,7 +15,7 @@ pub returns-in-Some-clause-granted : goal.returns-in-Some-clause-granted
 returns-in-Some-clause-granted g c =
     let v : View = c.args.allocator.now in
     let f : Fields = fields_of g.T.Tables.cells g.T.Index.NodeIndex.MAX c.allocator.inside in
-    let room : HasRoomFor (blocks_needed c.args.align) v = omega (arith, c.unused_nodes.ensures, c.min.ensures, c.if-unused_nodes-min.false) in
+    let room : AdmitsBlocks (blocks_needed c.args.align) v = omega (arith, c.unused_nodes.ensures, c.min.ensures, c.if-unused_nodes-min.false) in
     let seen = sym (ap (first_holding c.args.size c.args.align) c.allocator.view_is) ∙ sym (chosen_is f c.allocator.invariant c.args.size c.args.align) in
     let h = holder v c.formed.ensures c.args.size c.args.align c.in-Some.field-0 (seen ∙ sym c.in-Some.ensures.first) in
     (λ e. (room, (h.place, h.there, h.free, h.holds)), λ e. refl)
@@ -24,7 +24,7 @@ pub returns-then-allocator-max-clause-granted : goal.returns-then-allocator-max-
 returns-then-allocator-max-clause-granted g c =
     let v : View = c.args.allocator.now in
     let f : Fields = fields_of g.T.Tables.cells g.T.Index.NodeIndex.MAX c.allocator.inside in
-    let room : HasRoomFor (blocks_needed c.args.align) v = omega (arith, c.unused_nodes.ensures, c.min.ensures, c.if-unused_nodes-min.false) in
+    let room : AdmitsBlocks (blocks_needed c.args.align) v = omega (arith, c.unused_nodes.ensures, c.min.ensures, c.if-unused_nodes-min.false) in
     let seen = sym (ap (first_holding c.args.size c.args.align) c.allocator.view_is) ∙ sym (chosen_is f c.allocator.invariant c.args.size c.args.align) in
     let none = none_holds v c.formed.ensures c.args.size c.args.align (seen ∙ sym c.in-None.ensures.first) in
     (λ e. absurd (cc), λ h. absurd (none h.1.0 h.1.1 h.1.2 h.1.3))
@@ -33,7 +33,7 @@ pub returns-then-allocator-max-clause-why : goal.returns-then-allocator-max-clau
 returns-then-allocator-max-clause-why g c =
     let v : View = c.args.allocator.now in
     let f : Fields = fields_of g.T.Tables.cells g.T.Index.NodeIndex.MAX c.allocator.inside in
-    let room : HasRoomFor (blocks_needed c.args.align) v = omega (arith, c.unused_nodes.ensures, c.min.ensures, c.if-unused_nodes-min.false) in
+    let room : AdmitsBlocks (blocks_needed c.args.align) v = omega (arith, c.unused_nodes.ensures, c.min.ensures, c.if-unused_nodes-min.false) in
     let seen = sym (ap (first_holding c.args.size c.args.align) c.allocator.view_is) ∙ sym (chosen_is f c.allocator.invariant c.args.size c.args.align) in
     let none = none_holds v c.formed.ensures c.args.size c.args.align (seen ∙ sym c.in-None.ensures.first) in
     let free = c.allocator.invariant.total in
@@ -45,7 +45,7 @@ pub returns-else-allocator-max-clause-granted : goal.returns-else-allocator-max-
 returns-else-allocator-max-clause-granted g c =
     let v : View = c.args.allocator.now in
     let f : Fields = fields_of g.T.Tables.cells g.T.Index.NodeIndex.MAX c.allocator.inside in
-    let room : HasRoomFor (blocks_needed c.args.align) v = omega (arith, c.unused_nodes.ensures, c.min.ensures, c.if-unused_nodes-min.false) in
+    let room : AdmitsBlocks (blocks_needed c.args.align) v = omega (arith, c.unused_nodes.ensures, c.min.ensures, c.if-unused_nodes-min.false) in
     let seen = sym (ap (first_holding c.args.size c.args.align) c.allocator.view_is) ∙ sym (chosen_is f c.allocator.invariant c.args.size c.args.align) in
     let none = none_holds v c.formed.ensures c.args.size c.args.align (seen ∙ sym c.in-None.ensures.first) in
     (λ e. absurd (cc), λ h. absurd (none h.1.0 h.1.1 h.1.2 h.1.3))
@@ -54,7 +54,7 @@ pub returns-else-allocator-max-clause-why : goal.returns-else-allocator-max-clau
 returns-else-allocator-max-clause-why g c =
     let v : View = c.args.allocator.now in
     let f : Fields = fields_of g.T.Tables.cells g.T.Index.NodeIndex.MAX c.allocator.inside in
-    let room : HasRoomFor (blocks_needed c.args.align) v = omega (arith, c.unused_nodes.ensures, c.min.ensures, c.if-unused_nodes-min.false) in
+    let room : AdmitsBlocks (blocks_needed c.args.align) v = omega (arith, c.unused_nodes.ensures, c.min.ensures, c.if-unused_nodes-min.false) in
     let seen = sym (ap (first_holding c.args.size c.args.align) c.allocator.view_is) ∙ sym (chosen_is f c.allocator.invariant c.args.size c.args.align) in
     let none = none_holds v c.formed.ensures c.args.size c.args.align (seen ∙ sym c.in-None.ensures.first) in
     let free = c.allocator.invariant.total in

@@ -9,11 +9,11 @@ pub loop-call-preserved : goal.loop-call-preserved
 loop-call-preserved g c =
     let cs = c.args.calls.now in
     let i = c.loop-call.call-index in
-    let ts = c.loop-call.desk.tickets.items in
+    let ts = c.loop-call.guarded_playing.tickets.items in
     let within : i < length cs = omega arith in
-    goes_on c.args.size c.args.max_allocs c.args.realm c.requires.low c.loop-call.desk.space c.append.new.desk.space ts c.append.new.desk.tickets.items cs i _
+    goes_on c.args.size c.args.max_allocs c.args.realm c.requires.low c.loop-call.guarded_playing.space c.append.new.guarded_playing.space ts c.append.new.guarded_playing.tickets.items cs i _
     c.loop-call.replies.items c.append.new.replies.items
-    c.loop-call.invariant.ledger c.loop-call.invariant.few c.loop-call.invariant.played c.loop-call.invariant.realm c.loop-call.invariant.granted
+    c.loop-call.invariant.all_tickets c.loop-call.invariant.few c.loop-call.invariant.played c.loop-call.invariant.realm c.loop-call.invariant.granted
     (subst IsWellFormed c.allocator-in-loop-call.ensures c.is_well_formed-in-loop-call.ensures) within
     c.requires.valid c.in_ok-append.ensures
 
@@ -27,7 +27,7 @@ pub returns-clause-replies : goal.returns-clause-replies
 returns-clause-replies g c = search (arith, ends, take_all)
 
 pub returns-clause-tickets : goal.returns-clause-tickets
-returns-clause-tickets g c = subst (λ r. AreInOrder r 0 c.loop-call.desk.tickets.items) c.loop-call.invariant.realm c.loop-call.invariant.ledger.order
+returns-clause-tickets g c = subst (λ r. AreInOrder r 0 c.loop-call.guarded_playing.tickets.items) c.loop-call.invariant.realm c.loop-call.invariant.all_tickets.order
 
 pub returns-clause-count : goal.returns-clause-count
 returns-clause-count g c = search (arith, all_granted, take_all)

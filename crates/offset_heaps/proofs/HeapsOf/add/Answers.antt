@@ -14,8 +14,8 @@ invariant_of-self g c =
     rw e (sound_put g.T.Index.NodeIndex.MAX c.self.inside.slots c.self.inside.limits c.self.inside.made (c.self.inside.made + 1) c.self.inside.index c.note.new.self c.args.number c.args.slot
     c.self.invariant (omega arith) below kind there (rw e at c.note.ensures.wide) (rw e at c.note.ensures.here) (rw e at c.note.ensures.others) c.note.ensures.levels)
 
-pub returns-clause-steps : goal.returns-clause-steps
-returns-clause-steps g c bits enough =
+pub returns-clause-accesses : goal.returns-clause-accesses
+returns-clause-accesses g c bits enough =
     let low = levels g.T.Index.NodeIndex.MAX c.self.inside.slots c.self.inside.limits c.self.inside.made c.self.inside.index c.self.invariant c.self.inside.realm c.self.inside.accesses
     c.args.self.now c.self.view_is bits enough in
     let start = ap (λ (h : Heaps). h.accesses) c.self.view_is in

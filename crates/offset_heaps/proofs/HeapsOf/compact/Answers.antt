@@ -30,8 +30,8 @@ returns-clause-sizes g c =
 pub returns-clause-moved : goal.returns-clause-moved
 returns-clause-moved g c = rw (← c.self.view_is) c.compact_all.ensures.moved
 
-pub returns-clause-steps : goal.returns-clause-steps
-returns-clause-steps g c =
+pub returns-clause-accesses : goal.returns-clause-accesses
+returns-clause-accesses g c =
     let is = c.self.invariant in
     let all = c.compact_all.ensures.accesses in
     rw (← c.self.view_is) (λ bits enough.

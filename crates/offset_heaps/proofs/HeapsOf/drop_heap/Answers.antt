@@ -21,10 +21,10 @@ returns-clause-places g c p =
     let realm : c.give_up.new.self.realm ≡ old.realm = ap (λ (h : Heaps). h.realm) (c.give_up.ensures.heaps done) in
     rw (← c.self.view_is) (dropped_keeps old c.give_up.new.self c.args.number empty c.give_up.ensures.gone realm c.give_up.ensures.others p)
 
-pub returns-clause-steps : goal.returns-clause-steps
-returns-clause-steps g c bits enough =
+pub returns-clause-accesses : goal.returns-clause-accesses
+returns-clause-accesses g c bits enough =
     let all = ap numbers c.self.view_is in
     let start = ap (λ (h : Heaps). h.accesses) c.self.view_is in
     let asked = c.is_empty_at.ensures.accesses in
-    let few = c.give_up.ensures.steps bits (omega arith) in
+    let few = c.give_up.ensures.accesses bits (omega arith) in
     omega arith

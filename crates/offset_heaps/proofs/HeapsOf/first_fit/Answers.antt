@@ -18,8 +18,8 @@ returns-clause-there g c = rw (← c.self.view_is)
     c.args.units c.args.align
     c.first_fit.result c.requires.power c.first_fit.ensures.one c.first_fit.ensures.two))
 
-pub returns-clause-steps : goal.returns-clause-steps
-returns-clause-steps g c bits enough =
+pub returns-clause-accesses : goal.returns-clause-accesses
+returns-clause-accesses g c bits enough =
     let low = levels g.T.Index.NodeIndex.MAX c.self.inside.slots c.self.inside.limits c.self.inside.made c.self.inside.index c.self.invariant c.self.inside.realm c.self.inside.accesses
     c.args.self.now c.self.view_is bits enough in
     let start = ap (λ (h : Heaps). h.accesses) c.self.view_is in

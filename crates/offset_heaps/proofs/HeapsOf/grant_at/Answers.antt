@@ -28,8 +28,8 @@ returns-clause-grants g c =
     rw (← c.self.view_is) (granted_at c.self.inside.slots c.grant-ticket.new.self c.self.inside.limits c.self.inside.made c.self.inside.realm c.self.inside.accesses c.note.new.count
     c.args.number c.args.size c.args.align c.grant-ticket.result there stays c.grant-ticket.ensures.grants)
 
-pub returns-clause-steps : goal.returns-clause-steps
-returns-clause-steps g c bits enough =
+pub returns-clause-accesses : goal.returns-clause-accesses
+returns-clause-accesses g c bits enough =
     let low = levels g.T.Index.NodeIndex.MAX c.self.inside.slots c.self.inside.limits c.self.inside.made c.self.inside.index c.self.invariant c.self.inside.realm c.self.inside.accesses
     c.args.self.now c.self.view_is bits enough in
     let start = ap (λ (h : Heaps). h.accesses) c.self.view_is in

@@ -12,12 +12,12 @@ returns-in_err-number-clause-none g c =
       λ _. c.from_residual.ensures,
     )
 
-pub returns-in_err-number-clause-steps : goal.returns-in_err-number-clause-steps
-returns-in_err-number-clause-steps g c bits enough =
+pub returns-in_err-number-clause-accesses : goal.returns-in_err-number-clause-accesses
+returns-in_err-number-clause-accesses g c bits enough =
     let all = ap numbers c.self.view_is in
     let start = ap (λ (h : Heaps). h.accesses) c.self.view_is in
     let asked = c.units_at-size.ensures.accesses in
-    let few = c.taker.ensures.steps bits (omega (arith, all, enough)) in
+    let few = c.taker.ensures.accesses bits (omega (arith, all, enough)) in
     omega (arith, all, start, asked, few)
 
 pub returns-clause-none : goal.returns-clause-none
@@ -70,12 +70,12 @@ returns-clause-others g c =
     (others_kept c.units_at-size.result.0 c.args.align old c.grant_at.new.self c.grant_at.result
     (granted_since c.units_at-size.result.0 c.args.align old c.taker.new.self c.grant_at.new.self c.grant_at.result c.taker.ensures.same c.grant_at.ensures.grants))
 
-pub returns-clause-steps : goal.returns-clause-steps
-returns-clause-steps g c bits enough =
+pub returns-clause-accesses : goal.returns-clause-accesses
+returns-clause-accesses g c bits enough =
     let all = ap numbers c.self.view_is in
     let start = ap (λ (h : Heaps). h.accesses) c.self.view_is in
     let asked = c.units_at-size.ensures.accesses in
     let same = ap numbers c.taker.ensures.same in
-    let few = c.taker.ensures.steps bits (omega (arith, all, enough)) in
-    let more = c.grant_at.ensures.steps bits (omega (arith, all, enough, same)) in
+    let few = c.taker.ensures.accesses bits (omega (arith, all, enough)) in
+    let more = c.grant_at.ensures.accesses bits (omega (arith, all, enough, same)) in
     omega (arith, all, start, asked, few, more)

@@ -5,14 +5,14 @@ use Rattle.offset_heaps.proofs.HeapsOf.request_tight.Goals as goal
 
 pub returns-in-Some-clause-fills : goal.returns-in-Some-clause-fills
 returns-in-Some-clause-fills g c =
-    filled_if_since c.args.size c.args.align c.args.self.now c.first_holding.new.self c.fill_first.new.self c.fill_first.result c.first_holding.ensures.same c.fill_first.ensures.grants
+    filled_if_since c.args.size c.args.align c.args.self.now c.first_holding.new.self c.grant_tight_first.new.self c.grant_tight_first.result c.first_holding.ensures.same c.grant_tight_first.ensures.grants
 
 pub returns-in-Some-clause-grants : goal.returns-in-Some-clause-grants
 returns-in-Some-clause-grants g c =
-    not_made c.args.size c.args.align c.args.self.now c.fill_first.new.self c.fill_first.result (λ it. it.place.heap ≡ c.in-Some.number) c.fill_first.ensures.found
+    not_made c.args.size c.args.align c.args.self.now c.grant_tight_first.new.self c.grant_tight_first.result (λ it. it.place.heap ≡ c.in-Some.number) c.grant_tight_first.ensures.found
 
 pub returns-in-Some-clause-why : goal.returns-in-Some-clause-why
-returns-in-Some-clause-why g c = why_first_since c.args.size c.args.align c.args.self.now c.first_holding.new.self c.fill_first.result c.first_holding.ensures.same c.fill_first.ensures.why
+returns-in-Some-clause-why g c = why_first_since c.args.size c.args.align c.args.self.now c.first_holding.new.self c.grant_tight_first.result c.first_holding.ensures.same c.grant_tight_first.ensures.why
 
 pub returns-in-None-clause-fills : goal.returns-in-None-clause-fills
 returns-in-None-clause-fills g c =

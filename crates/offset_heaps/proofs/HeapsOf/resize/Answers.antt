@@ -2,7 +2,7 @@ use Rattle.std.proofs.Common.{◌+◌, ◌<◌, ◌≤◌, Bool, ap, arith, inl,
 use Rattle.std.proofs.lemmas.Bool.{cases_Bool}
 use Rattle.offset_allocator.specs.View.{View}
 use Rattle.offset_guarded.specs.Guard.{Guard}
-use Rattle.offset_heaps.specs.Changing.{CanResizeIn, Resizes, ResizesSpace, wanted}
+use Rattle.offset_heaps.specs.Changing.{CanResizeIn, Resizes, ResizesSpace, new_size}
 use Rattle.offset_heaps.specs.Heaps.{HasNodesLeft}
 use Rattle.offset_heaps.proofs.Raising.{still_left}
 use Rattle.offset_heaps.proofs.Changes.{alike, altered, kept_of_places, others_kept, resized_left, same_limits, same_space, undone_twin}
@@ -15,16 +15,16 @@ invariant_of-self-2 g c =
     let change = c.in_ok-done.ensures.change in
     let by = change.by in
     let e = change.slots in
-    let limits = same_limits (wanted c.args.how) c.args.place.ticket.name by.before.space by.after.space c.in_ok-done.done by.by.step in
+    let limits = same_limits (new_size c.args.how) c.args.place.ticket.name by.before.space by.after.space c.in_ok-done.done by.by.step in
     let below = realm_kept c.self.inside.made _ change.now by.before by.after by.was by.is by.by.serials.realm (c.self.invariant.realms c.args.place.heap) in
     let left : c.args.place.heap < c.self.inside.limits.most → HasNodesLeft c.self.inside.limits by.before → min c.self.inside.limits.max_allocs (length by.after.space.blocks + 3) ≤ by.after.space.max_allocs =
     elim (cases_Bool c.in_ok-done.done) [
       | inl done ↦
-          let can = subst (CanResizeIn c.self.inside.limits c.args.place.heap (wanted c.args.how) c.args.place.ticket.name) by.was (c.in_ok-done.ensures.done.0 done) in
-          resized_left c.self.inside.limits c.args.place.heap (wanted c.args.how) by.before by.after can.1 by.by.blocks limits.1
+          let can = subst (CanResizeIn c.self.inside.limits c.args.place.heap (new_size c.args.how) c.args.place.ticket.name) by.was (c.in_ok-done.ensures.done.0 done) in
+          resized_left c.self.inside.limits c.args.place.heap (new_size c.args.how) by.before by.after can.1 by.by.blocks limits.1
       | inr stays ↦
-          let same = same_space (wanted c.args.how) c.args.place.ticket.name by.before.space by.after.space
-          (subst (λ (b : Bool). ResizesSpace (wanted c.args.how) c.args.place.ticket.name by.before.space by.after.space b) stays by.by.step) in
+          let same = same_space (new_size c.args.how) c.args.place.ticket.name by.before.space by.after.space
+          (subst (λ (b : Bool). ResizesSpace (new_size c.args.how) c.args.place.ticket.name by.before.space by.after.space b) stays by.by.step) in
           still_left c.self.inside.limits c.args.place.heap by.before by.after (omega (arith, ap (λ (v : View). length v.blocks) same)) limits.1
     ] in
     let kind = kind_kept c.self.inside.limits c.args.place.heap _ change.now by.before by.after by.was by.is limits.0 limits.1 left (c.self.invariant.kinds c.args.place.heap) in
@@ -35,7 +35,7 @@ pub returns-clause-others : goal.returns-clause-others
 returns-clause-others g c =
     let old = shown c.self.inside.slots c.self.inside.limits c.self.inside.made c.self.inside.realm c.self.inside.accesses in
     let new = shown c.resize.new.self c.self.inside.limits c.self.inside.made c.self.inside.realm c.note.new.count in
-    let P = Resizes (wanted c.args.how) c.args.place.ticket c.in_ok-done.done in
+    let P = Resizes (new_size c.args.how) c.args.place.ticket c.in_ok-done.done in
     let a = altered c.args.place.heap P old new c.in_ok-done.ensures.change refl in
     rw (← c.self.view_is) (others_kept c.args.place P old new (c.in_ok-done.ensures.there refl) a c.if-place-self.false a.by.others)
 
@@ -43,7 +43,7 @@ pub returns-clause-kept : goal.returns-clause-kept
 returns-clause-kept g c =
     let old = shown c.self.inside.slots c.self.inside.limits c.self.inside.made c.self.inside.realm c.self.inside.accesses in
     let new = shown c.resize.new.self c.self.inside.limits c.self.inside.made c.self.inside.realm c.note.new.count in
-    let P = Resizes (wanted c.args.how) c.args.place.ticket c.in_ok-done.done in
+    let P = Resizes (new_size c.args.how) c.args.place.ticket c.in_ok-done.done in
     let a = altered c.args.place.heap P old new c.in_ok-done.ensures.change refl in
     rw (← c.self.view_is) (kept_of_places c.args.place.heap P old new (c.in_ok-done.ensures.there refl) a is_some a.by.kept)
 
@@ -51,7 +51,7 @@ pub returns-clause-refused : goal.returns-clause-refused
 returns-clause-refused g c e =
     let old = shown c.self.inside.slots c.self.inside.limits c.self.inside.made c.self.inside.realm c.self.inside.accesses in
     let new = shown c.resize.new.self c.self.inside.limits c.self.inside.made c.self.inside.realm c.note.new.count in
-    let P = Resizes (wanted c.args.how) c.args.place.ticket c.in_ok-done.done in
+    let P = Resizes (new_size c.args.how) c.args.place.ticket c.in_ok-done.done in
     let a = altered c.args.place.heap P old new c.in_ok-done.ensures.change refl in
     rw (← c.self.view_is) (alike c.args.place.heap P old new (c.in_ok-done.ensures.there refl) a
-    (undone_twin (wanted c.args.how) c.args.place.ticket a.before a.after (subst (λ (b : Bool). Resizes (wanted c.args.how) c.args.place.ticket b a.before a.after) (cc) a.by)))
+    (undone_twin (new_size c.args.how) c.args.place.ticket a.before a.after (subst (λ (b : Bool). Resizes (new_size c.args.how) c.args.place.ticket b a.before a.after) (cc) a.by)))

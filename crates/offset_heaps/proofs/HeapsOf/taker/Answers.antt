@@ -23,10 +23,10 @@ returns-clause-there g c =
     (taker_there c.self.inside.limits c.args.own (blocks_needed c.args.align) c.args.units c.args.live (c.self.inside.limits.most + c.self.inside.limits.most_larger) c.in_ok-from.from c.self.inside.slots c.taker.result
     c.self.invariant.numbers c.taker.ensures.first)
 
-pub returns-clause-steps : goal.returns-clause-steps
-returns-clause-steps g c bits enough =
+pub returns-clause-accesses : goal.returns-clause-accesses
+returns-clause-accesses g c bits enough =
     let e = ap (λ (h : Heaps). h.accesses) c.self.view_is in
     let n = ap numbers c.self.view_is ∙ ap numbers c.first_fit.ensures.same in
-    let few = c.first_fit.ensures.steps bits enough in
+    let few = c.first_fit.ensures.accesses bits enough in
     let walked = c.taker.ensures.accesses in
     omega (arith, e, n, few, walked)

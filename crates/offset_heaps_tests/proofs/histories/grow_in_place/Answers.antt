@@ -1,6 +1,6 @@
-use Rattle.offset_heaps.specs.Changing.{More}
+use Rattle.offset_heaps.specs.Changing.{Grown}
 use Rattle.offset_heaps_tests.proofs.Steps.{resizes}
 use Rattle.offset_heaps_tests.proofs.histories.grow_in_place.Goals as goal
 
 pub returns : goal.returns
-returns c = resizes c.args.heaps.now c.grow_in_place.new.self (More c.args.size) c.args.place c.grow_in_place.result c.grow_in_place.ensures.gone c.grow_in_place.ensures.step
+returns c = resizes c.args.heaps.now c.grow_in_place.new.self (Grown c.args.size) c.args.place c.grow_in_place.result c.grow_in_place.ensures.gone c.grow_in_place.ensures.step

@@ -1,7 +1,7 @@
 use Rattle.offset_allocator.proofs.{Classes.below_value_up, Sound.Fields, Sound.fields_of, Taken.HasFit}
 use Rattle.offset_allocator.proofs.Moving.RoomsBySteps.{class_few, class_needed, found_by, found_cost, found_none, past_by}
 use Rattle.offset_allocator.proofs.Moving.RoomAdvice.{granted_by}
-use Rattle.offset_allocator.proofs.Common.{◌≡◌, ◌+◌, ◌-◌, ◌∙◌, ℕ, List, Option, Some, None, is_some, true, bin_at, sym, ap, subst, arith, up, value, View, HasRoomFor, blocks_needed, units_needed}
+use Rattle.offset_allocator.proofs.Common.{◌≡◌, ◌+◌, ◌-◌, ◌∙◌, ℕ, List, Option, Some, None, is_some, true, bin_at, sym, ap, subst, arith, up, value, View, AdmitsBlocks, blocks_needed, units_needed}
 use Rattle.offset_allocator.specs.Bins.{IsFoundFrom}
 use Rattle.offset_allocator.specs.Moving.RoomBySteps.{IsLeastCostBy, names_short}
 use Rattle.offset_allocator.proofs.moves.room_by_steps.room_cost_by_counted.Goals as goal
@@ -25,7 +25,7 @@ fit n k v ls (Some c) e o f s = (c, omega (arith, e, f.0), λ q. f.2 (ap (λ (l 
 pub returns-then-is_some-clause-cost : goal.returns-then-is_some-clause-cost
 returns-then-is_some-clause-cost g c =
     let v : View = c.args.allocator.now in
-    let room : HasRoomFor (blocks_needed c.args.align) v = omega (arith, c.if-unused-blocks.true, c.min-blocks.ensures, c.unused_nodes-unused.ensures) in
+    let room : AdmitsBlocks (blocks_needed c.args.align) v = omega (arith, c.if-unused-blocks.true, c.min-blocks.ensures, c.unused_nodes-unused.ensures) in
     let up_is = class_needed c.args.size c.args.align c.uint_to_float_round_up-class.result c.requires.alignment c.uint_to_float_round_up-class.ensures.is in
     found_by c.args.step (blocks_needed c.args.align) (units_needed c.args.size c.args.align) v c.formed.ensures room
     (fit (units_needed c.args.size c.args.align) c.uint_to_float_round_up-class.result v _ c.find_at_or_above.result up_is (ap (λ (u : View). u.bins) c.allocator.view_is)

@@ -1,7 +1,7 @@
 use Rattle.offset_allocator.proofs.{Linking.Ends.Ended, Linking.Ends.ended, Linking.Ends.last_none, Linking.Places.at_place, Moving.Sliding.walked, Reporting.Foremost.name_of}
 use Rattle.offset_allocator.proofs.{Reporting.Foremost.met_used, Reporting.Foremost.met_free}
 use Rattle.offset_allocator.proofs.Common.{◌≡◌, List, [], ◌∷◌, ◌++◌, Some, None, length, refl, sym, ap, ◌∙◌, arith, append-nil, append_assoc, Node, Block, blocks, last_or, units, placed}
-use Rattle.offset_allocator.specs.Reporting.Beside.{first_handle}
+use Rattle.offset_allocator.specs.Reporting.Walking.{first_handle}
 use Rattle.offset_allocator.proofs.reports.walks.first_used.Goals as goal
 use Rattle.offset_allocator.proofs.reports.walks.first_used.Goals.{then-is_used, else-is_used}
 

@@ -1,5 +1,5 @@
 use Rattle.offset_allocator.proofs.Common.{◌≡◌, ◌+◌, ◌-◌, ◌*◌, List, ◌++◌, None, length, Block, blocks, last_or, units, placed}
-use Rattle.offset_allocator.specs.Reporting.Beside.{first_handle}
+use Rattle.offset_allocator.specs.Reporting.Walking.{first_handle}
 use Rattle.offset_allocator.proofs.Reporting.Foremost.{name_of}
 use Rattle.offset_allocator.proofs.reports.walks.first_used.Given as goal
 

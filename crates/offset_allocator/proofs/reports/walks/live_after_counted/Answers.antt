@@ -1,6 +1,6 @@
 use Rattle.offset_allocator.proofs.{Common.sym, Common.ap, Common.◌∙◌, Common.ℕ, Sound.fields_of, Reporting.Nearby.live_place, Reporting.Nearby.last_after, Reporting.Nearby.there_after}
 use Rattle.offset_allocator.proofs.{Reporting.Nearby.said_after}
-use Rattle.offset_allocator.specs.Reporting.Beside.{live_after}
+use Rattle.offset_allocator.specs.Reporting.Walking.{live_after}
 use Rattle.offset_allocator.proofs.reports.walks.live_after_counted.Goals as goal
 
 pub after-requires : goal.after-requires

@@ -1,6 +1,6 @@
 use Rattle.offset_allocator.proofs.{Common.sym, Common.ap, Common.◌∙◌, Common.ℕ, Sound.fields_of, Reporting.Nearby.live_place, Reporting.Nearby.first_before, Reporting.Nearby.there_before}
 use Rattle.offset_allocator.proofs.{Reporting.Nearby.said_before}
-use Rattle.offset_allocator.specs.Reporting.Beside.{live_before}
+use Rattle.offset_allocator.specs.Reporting.Walking.{live_before}
 use Rattle.offset_allocator.proofs.reports.walks.live_before_counted.Goals as goal
 
 pub before-requires : goal.before-requires

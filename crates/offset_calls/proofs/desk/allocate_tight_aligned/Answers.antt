@@ -1,9 +1,0 @@
-use Rattle.offset_calls.proofs.{Common.refl, Tickets.stored}
-use Rattle.offset_calls.proofs.desk.allocate_tight_aligned.Goals as goal
-
-pub returns : goal.returns
-returns g c =
-    let s = stored c.args.size c.args.desk.now.space c.allocate_tight_aligned-granted.new.self c.args.desk.now.tickets.items c.keep.new.tickets.items c.allocate_tight_aligned-granted.result _
-    c.requires.ledger
-    c.allocate_tight_aligned-granted.ensures.grants c.allocate_tight_aligned-granted.ensures.same c.in_ok-keep.ensures in
-    record { takes = (_, _, c.allocate_tight_aligned-granted.ensures.step c.requires.left, s.0, refl); ledger = s.1; grown = s.2; realm = s.3 }

@@ -1,5 +1,0 @@
-use Rattle.offset_calls.proofs.{Common.ap, Common.reply_view, EndServed.first_serves}
-use Rattle.offset_calls.proofs.ending_desk.first_live.Goals as goal
-
-pub returns : goal.returns
-returns g c = first_serves c.args.desk.now.space c.args.desk.now.tickets.items c.requires.ledger c.requires.kept c.first_live.result _ (ap reply_view c.numbered.ensures) c.first_live.ensures

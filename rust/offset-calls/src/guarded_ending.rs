@@ -1,0 +1,90 @@
+// Printed by rust/erase from crates/offset_calls/src/guarded_ending.rt: change it there.
+
+//! The replies of a guarded allocator to calls at the end of a space.
+
+use crate::calls::{LiveRange, Reply};
+use crate::guarded_playing::{TicketPlayer, keep};
+use crate::playing::resized;
+use offset_allocator::Tables;
+use offset_guarded::{GuardedOf, Ticket};
+use offset_script::Answer;
+use crate::memory::AllocError;
+
+// The reply to `Relocate`. The ticket of a grant is kept.
+pub(crate) fn relocate<T: Tables>(
+    player: &mut TicketPlayer<T>,
+    ticket: Option<Ticket>,
+) -> Result<Reply, AllocError> {
+    let Some(ticket) = ticket else {
+        return Ok(Reply::Answer(Answer::Gone));
+    };
+    if !player.space.is_live(ticket) {
+        return Ok(Reply::Answer(Answer::Gone));
+    }
+    let granted = player.space.relocate(ticket);
+    Ok(Reply::Answer(keep(&mut player.tickets, granted)?))
+}
+
+// The reply to `RelocateAligned`. The ticket of a grant is kept.
+pub(crate) fn relocate_aligned<T: Tables>(
+    player: &mut TicketPlayer<T>,
+    ticket: Option<Ticket>,
+    align: u32,
+) -> Result<Reply, AllocError> {
+    let Some(ticket) = ticket else {
+        return Ok(Reply::Answer(Answer::Gone));
+    };
+    if !player.space.is_live(ticket) {
+        return Ok(Reply::Answer(Answer::Gone));
+    }
+    let granted = player.space.relocate_aligned(ticket, align);
+    Ok(Reply::Answer(keep(&mut player.tickets, granted)?))
+}
+
+// The reply to `Retract`.
+pub(crate) fn retract<T: Tables>(space: &mut GuardedOf<T>, less: u32) -> Reply {
+    resized(space.retract(less))
+}
+
+// The range of a live ticket, whose number is its serial, or none.
+fn numbered(found: Option<Ticket>) -> Reply {
+    match found {
+        None => Reply::Found(None),
+        Some(ticket) => Reply::Found(Some(LiveRange {
+            number: ticket.serial,
+            offset: ticket.offset,
+        })),
+    }
+}
+
+// The reply to `First`.
+pub(crate) fn first_live<T: Tables>(player: &TicketPlayer<T>) -> Reply {
+    numbered(player.space.first_live())
+}
+
+// The reply to `Last`.
+pub(crate) fn last_live<T: Tables>(player: &TicketPlayer<T>) -> Reply {
+    numbered(player.space.last_live())
+}
+
+// The reply to `Before`.
+pub(crate) fn live_before<T: Tables>(player: &TicketPlayer<T>, ticket: Option<Ticket>) -> Reply {
+    let Some(ticket) = ticket else {
+        return Reply::Answer(Answer::Gone);
+    };
+    if !player.space.is_live(ticket) {
+        return Reply::Answer(Answer::Gone);
+    }
+    numbered(player.space.live_before(ticket))
+}
+
+// The reply to `After`.
+pub(crate) fn live_after<T: Tables>(player: &TicketPlayer<T>, ticket: Option<Ticket>) -> Reply {
+    let Some(ticket) = ticket else {
+        return Reply::Answer(Answer::Gone);
+    };
+    if !player.space.is_live(ticket) {
+        return Reply::Answer(Answer::Gone);
+    }
+    numbered(player.space.live_after(ticket))
+}
