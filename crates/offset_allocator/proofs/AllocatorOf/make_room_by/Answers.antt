@@ -133,4 +133,3 @@ returns g c =
       granted = d.3;
       accesses = slid_costs f c.self.invariant c.args.step want short r o c.self.view_is c.find_at_or_above-found.ensures.accesses c.cheapest_by.ensures.accesses c.slide_run.ensures.accesses_min e.8;
     }
-
