@@ -5,6 +5,7 @@ use Rattle.offset_allocator.proofs.{Linking.Places.placed, Tallies.tally_append}
 use Rattle.offset_allocator.proofs.{Sound.Fields, Moving.Rooms.apart_few, Views.ViewApart.apart_parts, Common.AreCoalesced, Common.max, Common.◌*◌, Moving.Compacting.live_append, Moving.Stepped.stepped_fewer, Moving.Stepped.stepped_length, Moving.Stepped.stepped_live}
 use Rattle.offset_allocator.proofs.Common.{View, AdmitsBlocks, IsWellFormed, append-nil, free_block, length, length-append, live, starts_free}
 use Rattle.offset_allocator.specs.declared.moves.budget.{Progress.Progress, Reach.Reach}
+use Rattle.offset_allocator.specs.{Accesses.Costs}
 use Rattle.offset_allocator.specs.Moving.{BySteps.given_up, BySteps.stepped}
 use Rattle.offset_allocator.specs.Moving.Budget.{first_from, start_of, IsWithin, IsReached, SlidesWithin, StopsAt}
 
@@ -193,3 +194,17 @@ few_rest u r v w front b rest back is free within =
       | inl alone ↦ omega (arith, n, alone, ap one free)
       | inr few ↦ omega (arith, n, few.1, ap one free)
     ]
+
+-- what the search for the first block and that for the run count
+pub searches_cost : {a k₁ k₂ : ℕ} (u r : ℕ) (bs : List Block) (v : View) → IsWellFormed v → (front : List Block) (b : Block) (rest back after : List Block) → bs ≡ v.blocks → a ≡ v.accesses
+    → bs ≡ front ++ b ∷ after → after ≡ rest ++ back → b.used ≡ false → IsWithin u r rest → Costs 0 (5 * length bs) a k₁ → k₁ ≤ k₂ → k₂ ≤ k₁ + 3 * length rest + 4
+    → (v.accesses ≤ k₂) × (k₂ ≤ v.accesses + (8 * length v.blocks + 4)) × (k₂ ≤ v.accesses + (5 * length v.blocks + 6 * max 1 r + 4))
+searches_cost u r bs v w front b rest back after now old is parts free within first more run =
+    let all = ap (λ (l : List Block). length l) now in
+    let n = ap (λ (l : List Block). length l) is in
+    let m = ap (λ (l : List Block). length l) parts in
+    let few = few_rest u r v w front b rest back (sym now ∙ is ∙ ap (λ (l : List Block). front ++ b ∷ l) parts) free within in (
+      omega (arith, old, first.0, more),
+      omega (arith, old, all, n, m, first.1, run, length-append front (b ∷ after), length-append rest back),
+      omega (arith, old, all, first.1, run, few),
+    )

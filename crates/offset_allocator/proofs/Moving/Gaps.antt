@@ -1,5 +1,5 @@
 -- What the writes leave of a chain without one of its free blocks.
-use Rattle.offset_allocator.proofs.Common.{◌≡◌, ◌≢◌, ℕ, ◌+◌, ◌-◌, ◌<◌, ◌≤◌, ◌^◌, false, Option, None, Some, MatchOption, IfSome, List, [], ◌∷◌, ◌++◌, length, refl, sym, ap, ap₂, subst, ◌∙◌, arith}
+use Rattle.offset_allocator.proofs.Common.{◌≡◌, ◌≢◌, ℕ, Bool, ◌+◌, ◌-◌, ◌<◌, ◌≤◌, ◌^◌, false, Option, None, Some, MatchOption, IfSome, List, [], ◌∷◌, ◌++◌, length, refl, sym, ap, ap₂, subst, ◌∙◌, arith}
 use Rattle.offset_allocator.proofs.{Common.nat_tests, Common.length-append, Common.length-set, Linking.Exchange.node_same, Linking.Nodes.nodes-with_spare, Linking.Nodes.reserved-with_spare}
 use Rattle.offset_allocator.proofs.{Linking.Writes.spare-with_spare, Tallies.one-eq, Tallies.one-other, Tallies.one-same, Tallies.times-append, Tallies.units-append, Linking.Places.placed}
 use Rattle.offset_allocator.proofs.Common.{cases_eq, inl, inr, take, nat_eq, one, times, ChainCells, Node, node, put, with_spare, first_or, last_or, IsRow, HasPlace, Block, Place, units, count_named}
@@ -231,3 +231,27 @@ closed {c} {w} d {e} {m} {last} {last'} {count} {x} fs g cs h wr on back moved =
     ended : (l : List Block) → MatchOption (first_or None l) (last' ≡ x) (λ _. last' ≡ last) → last_or (Some last) l ≡ Some last → last_or (Some x) l ≡ Some last'
     ended [] q r = ap (λ v. Some v) (sym q)
     ended (b ∷ l) q r = r ∙ ap (λ v. Some v) (sym q)
+
+-- what the tables say of the block after the gap, whose name is y
+module _ {A B : Type 0} {max : ℕ} {number : A → ℕ} {gap : Gap A B} {t : ChainCells} {m last count : ℕ} {p : Place} (i : IsGap max number gap t m last count p) {b : Block} {bs : List Block}
+    (e : p.after ≡ b ∷ bs) {y : ℕ} (named : b.name ≡ y) where
+  at_next : HasGap t m last count gap.name (record { before = p.before; block = p.block; after = b ∷ bs })
+  at_next = follows i.there e
+
+  pub met_below : y < length t.nodes
+  met_below = subst (λ k. k < length t.nodes) named (next_below _ _ b bs at_next)
+
+  pub met_short : {j k : ℕ} → j ≡ m → j < k → y < k
+  met_short same few = let below = met_below in let within = i.there.within in omega (arith, below, within)
+
+  pub met_sized : {n : ℕ} → n ≡ (node t y).size → n ≡ b.size
+  met_sized cell = cell ∙ ap (λ k. (node t k).size) (sym named) ∙ next_node _ _ b bs at_next
+
+  pub met_used : {u w : Bool} → u ≡ (node t y).used → u ≡ w → b.used ≡ w
+  met_used cell is = sym (next_used _ _ b bs at_next) ∙ ap (λ k. (node t k).used) named ∙ sym cell ∙ is
+
+  pub met_ends : gap.offset + gap.size < 2 ^ 32
+  met_ends = let fits = next_fits _ _ b bs at_next in let o = i.offset in let s = i.size in omega (arith, fits, o, s)
+
+  pub met_fits : {n : ℕ} → n ≡ (node t y).size → (gap.offset + gap.size) + n ≤ 4294967295
+  met_fits cell = let fits = next_fits _ _ b bs at_next in let o = i.offset in let s = i.size in let n = met_sized cell in omega (arith, fits, o, s, n)

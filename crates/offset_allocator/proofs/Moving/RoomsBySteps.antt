@@ -3,7 +3,9 @@ use Rattle.offset_allocator.proofs.{Advice.free_within, Classes.down_law, Classe
 use Rattle.offset_allocator.proofs.{Moving.Compacting.live_append, Moving.DecidedRooms.ends_some, Moving.Rooms.apart_few, Moving.Runs.few_units, Moving.Runs.run_within, Moving.Runs.want_is}
 use Rattle.offset_allocator.proofs.{Moving.Stepping.emptied_free, Moving.Stepping.given_free, Refusals.total_is, Sound.AreSound, Sound.Fields, Sound.shown, Sound.well_counted, Taken.HasFit, Taken.fitting}
 use Rattle.offset_allocator.proofs.{Tallies.free_sum, Tallies.units-append, Views.ViewApart.apart_parts, Views.ViewApart.ends_free, Views.ViewApart.right_false}
-use Rattle.offset_allocator.proofs.Moving.Stepped.{split_length, stepped_free_units, stepped_live, used_up_length}
+use Rattle.offset_allocator.proofs.{Moving.Packed.live_sizes, Sound.known_sound, Common.Cells, Common.IsBinned, Common.KeepsSizes, Common.bins_in, Common.push, Common.push_all, Common.remove_all}
+use Rattle.offset_allocator.specs.{Accesses.Costs}
+use Rattle.offset_allocator.proofs.Moving.Stepped.{split_few, split_filed, split_steps, split_length, stepped_free_units, stepped_live, used_up_length}
 use Rattle.offset_allocator.proofs.Common.{◌≡◌, ◌≢◌, ℕ, ◌+◌, ◌-◌, ◌*◌, ◌%◌, ◌^◌, ◌<◌, ◌≤◌, false, not, ◌&&◌, Some, None, Option, List, [], ◌∷◌, ◌++◌, refl, sym, ap, ap₂, subst}
 use Rattle.offset_allocator.proofs.Common.{◌∙◌, arith, inl, inr, append_assoc, append-nil, cases_lt, length, length-append, sum, take, true≢false, not-true, common_steps, Block, View, units, used_units}
 use Rattle.offset_allocator.proofs.Common.{free_block, free_sizes, starts_free, ends_used, times, down, up, value, live, replace, FoldsTo, AreCoalesced, AreInBins, IsWellFormed, AdmitsBlocks, CanGrant, SameSpace, HasPlace, blocks, first_or, last_or, drop}
@@ -250,3 +252,76 @@ module _ (f : Fields) (s : AreSound f) (v : View) (e : shown f ≡ v) (w : IsWel
 
     pub found_run : (r : Run) → IsCheapestBy t want short (blocks f.cells.chain f.last) (Some r) → IsOpenedBy t (value (up n)) (names_short k v) (blocks f.cells.chain f.last) r
     found_run r h = opened_by t (value (up n)) (names_short k v) (blocks f.cells.chain f.last) r (asked (Some r) h)
+
+    pub found_both : (r : Run) → IsCheapestBy t want short (blocks f.cells.chain f.last) (Some r)
+        → IsLeastCostBy t (value (up n)) (names_short k v) v.blocks (Some r.cost) × IsOpenedBy t (value (up n)) (names_short k v) (blocks f.cells.chain f.last) r
+    found_both r h = (found_cost r h, found_run r h)
+
+-- ---- the slide of the run that was found
+module _ (f : Fields) (s : AreSound f) (t want short : ℕ) (r : Run) (o : IsOpenedBy t want short (blocks f.cells.chain f.last) r) where
+  pub opened_filed : AreInBins (o.front ++ o.block ∷ (o.rest ++ o.back)) (bins_in f.max f.cells.bins)
+  opened_filed = split_filed f s t o.front (o.block ∷ o.rest) o.back o.is
+
+  pub opened_place : (limit : ℕ) × (front : List Block) × (b : Block) × (rest back : List Block)
+      × HasPlace f.cells.chain limit f.last f.count r.first (record { before = front; block = b; after = rest ++ back }) × (last_or None (b ∷ rest) ≡ Some r.end)
+      × (length (front ++ b ∷ (rest ++ back)) < limit) × AreInBins (front ++ b ∷ (rest ++ back)) (bins_in f.max f.cells.bins)
+  opened_place = (
+    _,
+    o.front,
+    o.block,
+    o.rest,
+    o.back,
+    opened_at f s t want short r o,
+    o.ends,
+    split_few f s t o.front (o.block ∷ o.rest) o.back o.is,
+    opened_filed,
+  )
+
+  -- what is left, in the tables
+  module _ (k : ℕ) (here : short ≡ names_short k (shown f)) {d : Cells} {last count top y : ℕ}
+      (there : HasPlace d.chain f.cells.chain.reserved last count y (record {
+        before = o.front ++ stepped t (o.block ∷ o.rest);
+        block = free_block y (given_up t (o.block ∷ o.rest));
+        after = o.back;
+      })) (binned : IsBinned f.max d.bins top)
+      (lists : bins_in f.max d.bins ≡ push (down (given_up t (o.block ∷ o.rest))) y (push_all (stepped t (o.block ∷ o.rest)) (remove_all (o.block ∷ o.rest) (bins_in f.max f.cells.bins))))
+      (filed : AreInBins ((o.front ++ stepped t (o.block ∷ o.rest)) ++ o.back) (push_all (stepped t (o.block ∷ o.rest)) (remove_all (o.block ∷ o.rest) (bins_in f.max f.cells.bins)))) (j : ℕ) where
+    abbrev new : Fields
+    new = record f { cells = d; last = last; count = count; top = top; accesses = j }
+
+    both : AreSound (record f { cells = d; last = last; count = count; top = top; accesses = j })
+        × SameSpace (replace (shown f) o.front (o.block ∷ o.rest) (stepped t (o.block ∷ o.rest) ++ free_block y (given_up t (o.block ∷ o.rest)) ∷ []) o.back)
+        (shown (record f { cells = d; last = last; count = count; top = top; accesses = j }))
+    both = split_steps f s t o.front (o.block ∷ o.rest) o.back o.is (ap not o.idle) (opened_back f s t want short r o) (opened_few f s t want short r o k here) d last count y there binned lists filed
+
+    pub slid_sound : AreSound (record f { cells = d; last = last; count = count; top = top; accesses = j })
+    slid_sound = both.0
+
+    -- and as a caller sees it
+    pub slid : {F : Type 0} {R : F → Move → F → Type 0} {f₀ g : F} {z : View} {left : List ℕ} (n : ℕ) → want ≡ value (up n) → shown f ≡ z → r.cost.ranges ≢ 0
+        → IsTaken (length (o.front ++ o.block ∷ (o.rest ++ o.back))) (take f.count f.cells.chain.spare) y left → take count d.chain.spare ≡ left ++ names_of (used_up t (o.block ∷ o.rest))
+        → FoldsTo R f₀ (moves_by t (units o.front) (units o.front) (o.block ∷ o.rest)) g
+        → MakesRoomBy R t want short z f₀ (Some r.cost) (shown (record f { cells = d; last = last; count = count; top = top; accesses = j })) g × (live (blocks d.chain last) ≡ live z.blocks)
+        × KeepsSizes z (shown (record f { cells = d; last = last; count = count; top = top; accesses = j }))
+        × CanGrant k n (shown (record f { cells = d; last = last; count = count; top = top; accesses = j }))
+    slid {z = z} n want_is e some taken unused calls =
+        let w : View = shown new in
+        let well = (known_sound new both.0 w refl).0 in
+        let slides = opened_slides f s t want short r o taken unused both.1 in
+        let same = slides_by_live t want short (shown f) w slides.0 in (
+          opened_makes f s t want short r o w slides.0 slides.1 slides.2 calls z e some,
+          same ∙ ap (λ (u : View). live u.blocks) e,
+          subst (λ (u : View). KeepsSizes u w) e (live_sizes (shown f) w (known_sound f s (shown f) refl).0 well same),
+          opened_grants f s t want short r o k here y w well both.1 n want_is,
+        )
+
+  -- what it counts, with the searches before it
+  pub slid_costs : {v : View} {k₁ k₂ k₃ : ℕ} → shown f ≡ v → Costs 1 2 f.accesses k₁ → Costs (4 * length (blocks f.cells.chain f.last)) (7 * length (blocks f.cells.chain f.last)) k₁ k₂ → k₂ ≤ k₃
+      → k₃ ≤ k₂ + 18 * length (o.block ∷ o.rest) + 36 → Costs 0 (7 * length v.blocks + 36 * r.cost.ranges + 60) v.accesses k₃
+  slid_costs e first search more slide =
+      let few = opened_short f s t want short r o in
+      let all = ap (λ (u : View). length u.blocks) e in
+      let old = ap (λ (u : View). u.accesses) e in (
+        omega (arith, old, first.0, search.0, more),
+        omega (arith, few, all, old, slide, first.1, search.1),
+      )

@@ -684,3 +684,103 @@ module _ {s want short : ℕ} {all front₀ bs₀ rest : List Block} {b : Block}
 
     pub turned_less : (start + 2 + 7 * length all) - count' < (start + 2 + 7 * length all) - now
     turned_less = omega (arith, counted, from, to, t.counted, t.grows, turned_lengths.0, turned_lengths.1)
+
+-- so few nodes that a word counts them
+pub few_nodes : {n r m : ℕ} → n ≤ r → r < m → m ≤ 4294967295 → n < 2 ^ 32
+few_nodes a b c = omega arith
+
+-- the run that a span and the block after it are, in numbers
+abbrev pub walked_run : Span → ℕ → Run
+walked_run h x = record { first = h.first; end = x; cost = record { units = h.sums.units; ranges = h.sums.ranges } }
+
+-- a turn of the walk, in what the tables say of the next block, named x
+module _ {c : ChainCells} {last spare : ℕ} (space : IsSpace c last spare) {s want short : ℕ} {h : Span} {known : Option Run} {at : Option ℕ} {start count : ℕ}
+    (i : IsWalking s want short (blocks c last) h known at start count) {x : ℕ} (q : at ≡ Some x) where
+  abbrev b : Block
+  b = (next_block space i.front i.bs i.rest i.is (i.next ∙ q)).0
+
+  abbrev more : List Block
+  more = (next_block space i.front i.bs i.rest i.is (i.next ∙ q)).1
+
+  pub walk_rest : i.rest ≡ b ∷ more
+  walk_rest = (next_block space i.front i.bs i.rest i.is (i.next ∙ q)).2
+
+  named : b.name ≡ x
+  named = (next_block space i.front i.bs i.rest i.is (i.next ∙ q)).3
+
+  there : HasPlace c c.reserved last spare x (record { before = i.front ++ i.bs; block = b; after = more })
+  there = next_there space i.front i.bs i.rest i.is (i.next ∙ q)
+
+  met : blocks c last ≡ (i.front ++ i.bs) ++ (b ∷ more)
+  met = met_whole space i.front i.bs i.rest i.is (i.next ∙ q)
+
+  pub walk_span : IsSpan s h i.bs (b ∷ more)
+  walk_span = subst (IsSpan s h i.bs) walk_rest i.span
+
+  pub walk_size : {size : ℕ} → size ≡ (node c x).size → b.size ≡ size
+  walk_size size_is = sym (size_is ∙ ap (λ (v : Node). v.size) (at_place there))
+
+  pub walk_use : {used : Bool} → used ≡ (node c x).used → b.used ≡ used
+  walk_use used_is = sym (used_is ∙ ap (λ (v : Node). v.used) (at_place there))
+
+  pub walk_below : x < length c.nodes
+  walk_below = there.below
+
+  abbrev pub IsWalked : Span → Option Run → ℕ → ℕ → Type 0
+  IsWalked h' known' count₀ count' = IsTurned s want short i.front i.bs b more h' known' count₀ count'
+
+  -- a used one
+  pub walk_past : {used : Bool} {h' : Span} {known' : Option Run} {count₀ count' : ℕ} → used ≡ (node c x).used → used ≡ true → h' ≡ h → known' ≡ known → count' ≡ count₀ → IsWalked h' known' count₀ count'
+  walk_past used_is live span_is run_is count_is = rw (span_is, run_is, count_is) (turned_used known walk_span i.best i.none (walk_use used_is ∙ live))
+
+  -- a free one
+  module _ {size : ℕ} {used : Bool} (size_is : size ≡ (node c x).size) (used_is : used ≡ (node c x).used) (idle : used ≡ false) where
+    abbrev pub walk_before : IsBefore c last spare s size h
+    walk_before = record {
+      front = i.front;
+      bs = i.bs;
+      free = b;
+      back = more;
+      space = space;
+      is = i.is ∙ ap (λ l. i.front ++ (i.bs ++ l)) walk_rest;
+      span = walk_span;
+      idle = walk_use used_is ∙ idle;
+      sized = walk_size size_is;
+    }
+
+    walk_serves : {h₁ : Span} (l : IsLeft s want short h₁ i.bs b more) → (want ≤ h₁.sums.whole + size) × (short ≤ h₁.sums.names + 1) → Serves s want short (l.left ++ b ∷ [])
+    walk_serves l m = serves_is s want short b (walk_use used_is ∙ idle) l.left (omega (arith, m.0, l.span.sums.whole, walk_size size_is)) (omega (arith, m.1, l.span.sums.names))
+
+    module _ {h₁ h' : Span} {known' : Option Run} {count₀ count₁ count' : ℕ} {v : Bool}
+        (shortened : (l : IsLeft s want short h₁ i.bs b more) × ((l.left ≡ []) ⊎ (Serves s want short (drop 1 l.left ++ b ∷ []) → ⊥)) × (count₁ ≡ count₀ + 3 * length l.gone))
+        (span_is : h' ≡ h₁) (count_is : count' ≡ count₁) where
+      -- which the blocks do not serve with
+      pub walk_few : ((want ≤ h₁.sums.whole + size) × (short ≤ h₁.sums.names + 1) → v ≡ true) → v ≡ false → known' ≡ known → IsWalked h' known' count₀ count'
+      walk_few tested failed run_is = rw (span_is, run_is, count_is) (turned_few known walk_span i.best i.none (walk_use used_is ∙ idle) shortened.0 shortened.2
+          (λ k. let n = serves_in s want short b (walk_use used_is ∙ idle) shortened.0.left k in
+          absurd (true≢false (sym (tested (omega (arith, n.0, shortened.0.span.sums.whole, walk_size size_is), omega (arith, n.1, shortened.0.span.sums.names))) ∙ failed))))
+
+      -- which the blocks serve with
+      module _ (tested : v ≡ true → (want ≤ h₁.sums.whole + size) × (short ≤ h₁.sums.names + 1)) (passed : v ≡ true) where
+        pub walk_first : known ≡ None → known' ≡ Some (walked_run h₁ x) → IsWalked h' known' count₀ count'
+        walk_first none run_is = rw (span_is, run_is, count_is) (turned_found None walk_span (subst (IsBest s want short i.front i.bs) none i.best) i.none (walk_use used_is ∙ idle) shortened.0 shortened.2
+            shortened.1 (walk_serves shortened.0 (tested passed)) (walked_run h₁ x) (walked_run h₁ x) (named_end b named) refl)
+
+        pub walk_found : {k r : Run} → known ≡ Some k → ((r ≡ k) × IsLess k.cost (walked_run h₁ x).cost) ⊎ (Some (walked_run h₁ x) ≡ Some r) → IsAtMost r.cost k.cost → known' ≡ Some r → IsWalked h' known' count₀ count'
+        walk_found {k} {r} some one most run_is = rw (span_is, run_is, count_is) (turned_found (Some k) walk_span (subst (IsBest s want short i.front i.bs) some i.best) i.none (walk_use used_is ∙ idle) shortened.0 shortened.2
+            shortened.1 (walk_serves shortened.0 (tested passed)) (walked_run h₁ x) r (named_end b named) (cheaper_of one most))
+
+  -- after the turn
+  module _ {h' : Span} {known' : Option Run} {count₀ count' : ℕ} (t : IsWalked h' known' count₀ count') where
+    pub walk_fits : {size : ℕ} → size ≡ (node c x).size → length c.nodes < 2 ^ 32 → (bs : List Block) × AreSums s h'.sums bs × (units bs + size < 2 ^ 32) × (length bs + 1 < 2 ^ 32)
+    walk_fits size_is few = turned_fits t met (walk_size size_is) space.fits (omega (arith, few, space.full))
+
+    pub walk_on : {size : ℕ} {used : Bool} {n : Sums} {at' : Option ℕ} {count₁ count₂ : ℕ} → size ≡ (node c x).size → used ≡ (node c x).used → count₁ ≡ count + 1 → count₀ ≡ count₁ + 1 → count₂ ≡ count' + 1
+        → ((bs : List Block) (d : Block) → d.size ≡ size → d.used ≡ used → AreSums s h'.sums bs → AreSums s n (bs ++ d ∷ [])) → at' ≡ (node c x).after
+        → IsWalking s want short (blocks c last) (record h' { sums = n }) known' at' start count₂
+    walk_on size_is used_is from₁ from₂ to sums after_is = turned_on t met start i.counted (omega (arith, from₁, from₂)) to (λ bs k. sums bs b (walk_size size_is) (walk_use used_is) k)
+        (sym (after_is ∙ ap (λ (v : Node). v.after) (at_place there)))
+
+    pub walk_less : {count₁ count₂ : ℕ} → count₁ ≡ count + 1 → count₀ ≡ count₁ + 1 → count₂ ≡ count' + 1
+        → (start + 2 + 7 * length (blocks c last)) - count₂ < (start + 2 + 7 * length (blocks c last)) - count
+    walk_less from₁ from₂ to = turned_less t met start i.counted (omega (arith, from₁, from₂)) to

@@ -1,12 +1,14 @@
 -- A slide by whole steps: what is found first, and how far it has come.
 use Rattle.offset_allocator.proofs.{Linking.Rows.times-end, Linking.Parts.some_part, Filing.Filed.filed_in, Filing.Filed.filed_out, Filing.Filed.share, Moving.Gaps.follows}
+use Rattle.offset_allocator.proofs.{Moving.Gaps.before_below, Moving.Gaps.kept_gap, Moving.Gaps.met_below, Moving.Gaps.met_ends, Moving.Gaps.met_fits, Moving.Gaps.met_short, Moving.Gaps.met_sized, Moving.Gaps.met_used}
+use Rattle.offset_allocator.proofs.{Linking.Exchange.each-le, Linking.Rows.IsRow-back, Linking.Rows.last_or-append, Common.Node, Common.Place, Common.◌^◌}
 use Rattle.offset_allocator.proofs.{Moving.Gaps.next_after, Moving.Gaps.seen, Moving.Sliding.folds_append, Tallies.listed_named, Tallies.one-same, Tallies.tally_append, Tallies.times-append, Tallies.units-append}
 use Rattle.offset_allocator.proofs.{Views.ViewBins.hit, Views.ViewBins.length_remove, Views.ViewBins.times_put, Classes.down_small}
 use Rattle.offset_allocator.proofs.Common.{◌≡◌, ◌≢◌, ℕ, ◌+◌, ◌-◌, ◌*◌, ◌<◌, ◌≤◌, Bool, true, false, not, ◌&&◌, nat_le, nat_eq, Some, None, Option, List, [], ◌∷◌, ◌++◌, if◌then◌else◌, refl, sym}
 use Rattle.offset_allocator.proofs.Common.{ap, ap₂, subst, ◌∙◌, arith, append_assoc, append-nil, length, length-append, FoldsTo, ChainCells, node, Block, free_block, free_part, units, first_or, Move, move_of, HasPlace}
 use Rattle.offset_allocator.proofs.Common.{AreInBins, IsAmong, IsUnlisted, ne_eqb, eq-eqb, bin_at, last_or, down, remove, push, push_all, count_named, one}
 use Rattle.offset_allocator.specs.Moving.BySteps.{first_whole, kept, stepped, given_up, used_up, moves_by}
-use Rattle.offset_allocator.specs.{Moving.Gaps.HasGap, Moving.Gaps.IsGap, Names.names_of}
+use Rattle.offset_allocator.specs.{Accesses.Costs, Moving.Gaps.HasGap, Moving.Gaps.IsGap, Names.names_of}
 use Rattle.offset_allocator.specs.declared.moves.gap.Gap.{Gap}
 
 -- each free one leaves its bin, and what it keeps is then the newest of its own
@@ -326,3 +328,155 @@ module _ {F A B : Type 0} {R : F → Move → F → Type 0} {s : ℕ} {front run
         i.unused ∙ ap (λ l. u₀ ++ l) (sym (append-nil i.put) ∙ ap (λ l. i.put ++ names_of (used_up s l)) (sym none) ∙ i.names),
         omega (arith, i.bounded, ap (λ (l : List Block). length l) none),
       )
+
+-- a block comes once among those of a run
+pub run_once : {c : ChainCells} {m last count x y : ℕ} (front run back : List Block) → HasPlace c m last count x (record { before = front; block = free_block y 0; after = run ++ back }) → (k : ℕ)
+    → count_named k run ≤ 1
+run_once {y = y} front run back h k = omega (
+  arith,
+  each-le _ _ _ _ _ h.chain k,
+  times-append k front (free_block y 0 ∷ (run ++ back)),
+  times-append k run back,
+)
+
+-- a turn of the slide, which reads three cells first, makes some accesses, and at most 18
+abbrev pub IsTurn : ℕ → ℕ → Type 0
+IsTurn old new = (old < new) × (new ≤ old + 18)
+
+pub turn_of_pass : {k₀ k₁ k₂ k₃ k₄ : ℕ} → k₁ ≡ k₀ + 1 → k₂ ≡ k₁ + 1 → k₃ ≡ k₂ + 1 → Costs 3 4 k₃ k₄ → IsTurn k₀ k₄
+turn_of_pass a b c d = (omega arith, omega arith)
+
+pub turn_of_into : {k₀ k₁ k₂ k₃ k₄ k₅ : ℕ} → k₁ ≡ k₀ + 1 → k₂ ≡ k₁ + 1 → k₃ ≡ k₂ + 1 → Costs 3 5 k₃ k₄ → k₅ ≡ k₄ + 1 → IsTurn k₀ k₅
+turn_of_into a b c d e = (omega arith, omega arith)
+
+pub turn_of_part : {k₀ k₁ k₂ k₃ k₄ k₅ k₆ : ℕ} → k₁ ≡ k₀ + 1 → k₂ ≡ k₁ + 1 → k₃ ≡ k₂ + 1 → Costs 3 5 k₃ k₄ → Costs 3 4 k₄ k₅ → Costs 5 6 k₅ k₆ → IsTurn k₀ k₆
+turn_of_part a b c d e f = (omega arith, omega arith)
+
+pub turn_grows : {j k l : ℕ} → j ≤ k → IsTurn k l → j ≤ l
+turn_grows a b = omega arith
+
+-- a turn of the slide, in what the tables say of the next block, named y
+module _ {F A B : Type 0} {R : F → Move → F → Type 0} {s : ℕ} {front run back : List Block} {end : ℕ} {f : F} {accesses : ℕ} {max : ℕ} {number : A → ℕ} {t : ChainCells} {m last count : ℕ}
+    {gap : Gap A B} {at link : Option ℕ} {g : F} {used : ℕ} {ls₀ ls : List (List ℕ)} {u₀ u : List ℕ}
+    (i : IsStepping R s front run back end f accesses max number t m last count gap at link g used ls₀ ls u₀ u) {y : ℕ} (q : at ≡ Some y) where
+  abbrev b : Block
+  b = (stepping_next i q).0
+
+  abbrev bs : List Block
+  bs = (stepping_next i q).1
+
+  is : i.rest ≡ b ∷ bs
+  is = (stepping_next i q).2
+
+  named : b.name ≡ y
+  named = (stepping_next i q).3
+
+  after : i.rest ++ back ≡ b ∷ (bs ++ back)
+  after = gap_after i b bs is
+
+  pub turn_below : y < length t.nodes
+  turn_below = met_below i.there after named
+
+  pub turn_short : {j k : ℕ} → j ≡ m → j < k → y < k
+  turn_short = met_short i.there after named
+
+  pub turn_ends : gap.offset + gap.size < 2 ^ 32
+  turn_ends = met_ends i.there after named
+
+  pub turn_fits : {n : ℕ} → n ≡ (node t y).size → (gap.offset + gap.size) + n ≤ 4294967295
+  turn_fits = met_fits i.there after named
+
+  -- the gap before it, also once a change of the bins has left the chain as it was
+  pub turn_place : {d : ChainCells} {last' count' : ℕ} → (d ≡ t) × (last' ≡ last) × (count' ≡ count)
+      → (l : ℕ) × (p : Place) × (c : Block) × (cs : List Block) × IsGap max number gap d l last' count' p × (p.after ≡ c ∷ cs) × (c.name ≡ y)
+  turn_place k = (m, _, b, _, kept_gap k i.there, after, named)
+
+  pub turn_idle : {d : ChainCells} {last' count' : ℕ} {w : Bool} → (d ≡ t) × (last' ≡ last) × (count' ≡ count) → w ≡ (node t y).used → w ≡ false
+      → (l : ℕ) × (p : Place) × (c : Block) × (cs : List Block) × IsGap max number gap d l last' count' p × (p.after ≡ c ∷ cs) × (c.name ≡ y) × (c.used ≡ false)
+  turn_idle k cell free = (m, _, b, _, kept_gap k i.there, after, named, met_used i.there after named cell free)
+
+  pub turn_listed : {n : ℕ} {w : Bool} → n ≡ (node t y).size → w ≡ (node t y).used → w ≡ false → IsAmong y (bin_at ls (down n))
+  turn_listed {n} sized cell free = subst (λ k. IsAmong k (bin_at ls (down n))) named
+      (subst (λ k. IsAmong b.name (bin_at ls (down k))) (sym (met_sized i.there after named sized)) (next_filed i b bs is (met_used i.there after named cell free)))
+
+  -- each turn counts, and there are at most as many as nodes
+  pub turn_less : {c : ChainCells} {last₀ count₀ x k : ℕ} {d : Block} → HasPlace c m last₀ count₀ x (record { before = front; block = d; after = run ++ back }) → IsTurn used k
+      → (accesses + 18 * length c.nodes) - k < (accesses + 18 * length c.nodes) - used
+  turn_less h more = let few = stepping_within i h in let all = ap (λ (l : List Block). length l) is in let bounded = i.bounded in omega (arith, few, all, bounded, more.0)
+
+  -- a used block passes the gap
+  pub turn_past : {t' : ChainCells} {last' count' : ℕ} {gap' : Gap A B} {at' link' linked : Option ℕ} {g' : F} {used' n : ℕ} {ls' : List (List ℕ)} {u' : List ℕ} {w : Bool}
+      → n ≡ (node t y).size → w ≡ (node t y).used → w ≡ true → at' ≡ (if nat_eq y end then None else linked) → linked ≡ link' → link' ≡ (node t y).after
+      → ((p : Place) (c : Block) (cs : List Block) → IsGap max number gap t m last count p → p.after ≡ c ∷ cs → c.name ≡ y
+      → IsGap max number gap' t' m last' count' (record { before = p.before ++ c ∷ []; block = p.block; after = cs }))
+      → ((v : Bool) → FoldsTo R g (move_of (gap.offset + gap.size) gap.offset (record { name = y; size = n; used = v })) g') → IsTurn used used' → ls' ≡ ls → u' ≡ u
+      → IsStepping R s front run back end f accesses max number t' m last' count' gap' at' link' g' used' ls₀ ls' u₀ u'
+  turn_past {g' = g'} sized cell live within linked next passed called more same_bins same_names =
+      step_past i b bs is (met_used i.there after named cell live) (passed _ b _ i.there after named)
+      (within ∙ ap₂ (λ (k : ℕ) (o : Option ℕ). if nat_eq k end then None else o) (sym named) linked) (next ∙ ap (λ k. (node t k).after) (sym named))
+      (subst (λ (l : List Move). FoldsTo R g l g')
+      (ap₂ (λ k j. move_of (gap.offset + gap.size) gap.offset (record { name = k; size = j; used = b.used })) (sym named) (met_sized i.there after named sized)) (called b.used))
+      more.1 same_bins same_names
+
+  -- what it keeps
+  kept_is : {at' linked link' : Option ℕ} {n keep : ℕ} → n ≡ b.size → at' ≡ (if nat_eq y end then None else linked) → linked ≡ link' → link' ≡ (node t y).after
+      → ((cs : List Block) → at' ≡ first_or None cs → keep ≡ kept s n cs) → keep ≡ kept s b.size bs
+  kept_is size within linked next keeps = keeps bs (next_within i b bs is (within ∙ ap₂ (λ (k : ℕ) (o : Option ℕ). if nat_eq k end then None else o) (sym named) linked)
+      (next ∙ ap (λ k. (node t k).after) (sym named) ∙ next_after _ _ b (bs ++ back) (gap_here i b bs is))) ∙ ap (λ n. kept s n bs) size
+
+  -- a free block goes into the gap
+  pub turn_into : {t₁ t' : ChainCells} {last₁ count₁ last' count' : ℕ} {gap' : Gap A B} {at' link' linked : Option ℕ} {used' n keep : ℕ} {ls₁ ls' : List (List ℕ)} {u₁ u' : List ℕ} {w : Bool}
+      → n ≡ (node t y).size → w ≡ (node t y).used → w ≡ false → at' ≡ (if nat_eq y end then None else linked) → linked ≡ link' → link' ≡ (node t y).after
+      → ((cs : List Block) → at' ≡ first_or None cs → keep ≡ kept s n cs) → keep ≡ 0 → length ls ≡ 256 → (t₁ ≡ t) × (last₁ ≡ last) × (count₁ ≡ count)
+      → ((p : Place) (c : Block) (cs : List Block) → IsGap max number gap t₁ m last₁ count₁ p → p.after ≡ c ∷ cs → c.name ≡ y → c.used ≡ false
+      → IsGap max number gap' t' m last' count' (record { before = p.before; block = record p.block { size = p.block.size + c.size }; after = cs }))
+      → IsTurn used used' → ls₁ ≡ remove (down n) y ls → ls' ≡ ls₁ → u₁ ≡ u → u' ≡ u₁ ++ y ∷ []
+      → IsStepping R s front run back end f accesses max number t' m last' count' gap' at' link' g used' ls₀ ls' u₀ u'
+  turn_into sized cell idle within linked next keeps none long same gathered more removed same_bins same_names one_more =
+      let free = met_used i.there after named cell idle in
+      let size = met_sized i.there after named sized in
+      step_into i b bs is free (sym none ∙ kept_is size within linked next keeps) long (gathered _ b _ (kept_gap same i.there) after named free)
+      (within ∙ ap₂ (λ (k : ℕ) (o : Option ℕ). if nat_eq k end then None else o) (sym named) linked) (next ∙ ap (λ k. (node t k).after) (sym named)) more.1
+      (same_bins ∙ removed ∙ ap₂ (λ j k. remove (down j) k ls) size (sym named)) (one_more ∙ ap₂ (λ (l : List ℕ) (k : ℕ). l ++ k ∷ []) same_names (sym named))
+
+  -- a part of a free block has passed the gap
+  module _ {t₁ t₂ : ChainCells} {last₁ count₁ last₂ count₂ : ℕ} {gap' : Gap A B} {n keep : ℕ} {w : Bool} (sized : n ≡ (node t y).size) (cell : w ≡ (node t y).used) (idle : w ≡ false)
+      (same : (t₁ ≡ t) × (last₁ ≡ last) × (count₁ ≡ count))
+      (passed : (p : Place) (c : Block) (cs : List Block) → IsGap max number gap t₁ m last₁ count₁ p → p.after ≡ c ∷ cs → c.name ≡ y → IsGap max number gap' t₂ m last₂ count₂ (record {
+        before = p.before ++ record c { size = keep } ∷ [];
+        block = record p.block { size = p.block.size + (c.size - keep) };
+        after = cs;
+      })) where
+    abbrev d : Block
+    d = record b { size = keep }
+
+    part : IsGap max number gap' t₂ m last₂ count₂ (record {
+      before = (front ++ i.left) ++ d ∷ [];
+      block = record (free_block gap.name gap.size) { size = gap.size + (b.size - keep) };
+      after = bs ++ back;
+    })
+    part = passed _ b _ (kept_gap same i.there) after named
+
+    pub part_below : y < length t₂.nodes
+    part_below = subst (λ k. k < length t₂.nodes) named (before_below _ _ _ part.there b.name (last_or-append None (front ++ i.left) (d ∷ [])))
+
+    pub part_idle : (node t₂ y).used ≡ false
+    part_idle =
+        let row = IsRow-back _ None 0 (front ++ i.left) (d ∷ []) _ part.there.front.1 in
+        sym (ap (λ k. (node t₂ k).used) named) ∙ ap (λ (v : Node). v.used) row.0 ∙ met_used i.there after named cell idle
+
+    pub part_unlisted : {ls₁ ls₂ : List (List ℕ)} → length ls ≡ 256 → ls₁ ≡ remove (down n) y ls → ls₂ ≡ ls₁ → IsUnlisted y ls₂
+    part_unlisted {ls₁} {ls₂} long removed same_bins =
+        let lists = same_bins ∙ removed ∙ ap₂ (λ j k. remove (down j) k ls) (met_sized i.there after named sized) (sym named) in
+        subst (λ k. IsUnlisted k ls₂) named (subst (λ l. IsUnlisted b.name l) (sym lists) (next_unlisted i b bs is (met_used i.there after named cell idle) long))
+
+    pub turn_part : {t' : ChainCells} {last' count' : ℕ} {at' link' linked : Option ℕ} {used' class : ℕ} {ls₁ ls₂ ls' : List (List ℕ)} {u₁ u₂ u' : List ℕ}
+        → at' ≡ (if nat_eq y end then None else linked) → linked ≡ link' → link' ≡ (node t y).after → ((cs : List Block) → at' ≡ first_or None cs → keep ≡ kept s n cs) → keep ≢ 0 → keep ≤ n
+        → length ls ≡ 256 → (t' ≡ t₂) × (last' ≡ last₂) × (count' ≡ count₂) → IsTurn used used' → ls₁ ≡ remove (down n) y ls → ls₂ ≡ ls₁ → class ≡ down keep → ls' ≡ push class y ls₂
+        → u₁ ≡ u → u₂ ≡ u₁ → u' ≡ u₂ → IsStepping R s front run back end f accesses max number t' m last' count' gap' at' link' g used' ls₀ ls' u₀ u'
+    turn_part within linked next keeps some whole long pushed more removed same_bins classed put same_names₁ same_names₂ same_names₃ =
+        let free = met_used i.there after named cell idle in
+        let size = met_sized i.there after named sized in
+        step_part i b bs is keep free (kept_is size within linked next keeps) (omega (arith, some)) (omega (arith, size, whole)) long (kept_gap pushed part)
+        (within ∙ ap₂ (λ (k : ℕ) (o : Option ℕ). if nat_eq k end then None else o) (sym named) linked) (next ∙ ap (λ k. (node t k).after) (sym named)) more.1
+        (put ∙ ap₂ (λ k l. push k y l) classed (same_bins ∙ removed) ∙ ap₂ (λ j k. push (down keep) k (remove (down j) k ls)) size (sym named)) (same_names₃ ∙ same_names₂ ∙ same_names₁)

@@ -7,7 +7,9 @@ use Rattle.offset_allocator.proofs.Common.{◌≡◌, ℕ, ◌+◌, ◌*◌, ◌
 use Rattle.offset_allocator.proofs.Common.{length-append, FoldsTo, true≢false, ChainCells, node, Block, Place, free_block, units, HasPlace, last_or, Move, live, moves, move_of, remove_all, remove}
 use Rattle.offset_allocator.proofs.Common.{down, first_or, Option, IsAmong, bin_at, ends_used, sum, free_sizes, AreInBins, count_named, not, if◌then◌else◌}
 use Rattle.offset_allocator.proofs.Moving.Sliding.{folds_append, live_used, live_idle, moves_used, moves_idle}
-use Rattle.offset_allocator.specs.{Moving.Gaps.HasGap, Moving.Gaps.IsGap, Names.free_blocks, Names.names_of}
+use Rattle.offset_allocator.proofs.{Moving.Gaps.kept_gap, Moving.Gaps.met_below, Moving.Gaps.met_ends, Moving.Gaps.met_fits, Moving.Gaps.met_short, Moving.Gaps.met_sized, Moving.Gaps.met_used}
+use Rattle.offset_allocator.proofs.Common.{◌-◌, ◌^◌}
+use Rattle.offset_allocator.specs.{Accesses.Costs, Moving.Gaps.HasGap, Moving.Gaps.IsGap, Names.free_blocks, Names.names_of}
 use Rattle.std.proofs.lemmas.List.Elements.{filter-append}
 use Rattle.offset_allocator.specs.declared.moves.gap.Gap.{Gap}
 
@@ -262,3 +264,172 @@ put_into u done b free is more h =
     let one_more : free_blocks (done ++ b ∷ []) ≡ free_blocks done ++ b ∷ [] = filter-append _ done (b ∷ []) ∙ ap (λ (t : Bool). free_blocks done ++ (if not t then b ∷ [] else [])) free in
     more ∙ ap₂ (λ (l : List ℕ) (i : ℕ). l ++ i ∷ []) h (sym is) ∙ append_assoc u (names_of (free_blocks done)) (b.name ∷ [])
     ∙ ap (λ (l : List ℕ). u ++ l) (sym (ap names_of one_more ∙ names-append (free_blocks done) (b ∷ [])))
+
+-- a turn, which reads three cells first, makes at least 4 accesses
+pub record HasTurned (at_most old new : ℕ) : Type 0 where
+  pub least : old + 4 ≤ new
+  pub most : new ≤ old + at_most
+
+pub way_of_pass : {k₀ k₁ k₂ k₃ k₄ : ℕ} → k₁ ≡ k₀ + 1 → k₂ ≡ k₁ + 1 → k₃ ≡ k₂ + 1 → Costs 3 4 k₃ k₄ → HasTurned 7 k₀ k₄
+way_of_pass a b c d = record { least = omega arith; most = omega arith }
+
+pub way_of_gather : {k₀ k₁ k₂ k₃ k₄ : ℕ} → k₁ ≡ k₀ + 1 → k₂ ≡ k₁ + 1 → k₃ ≡ k₂ + 1 → k₄ ≡ k₃ + 1 → HasTurned 7 k₀ k₄
+way_of_gather a b c d = record { least = omega arith; most = omega arith }
+
+pub way_of_into : {k₀ k₁ k₂ k₃ k₄ k₅ : ℕ} → k₁ ≡ k₀ + 1 → k₂ ≡ k₁ + 1 → k₃ ≡ k₂ + 1 → Costs 3 5 k₃ k₄ → k₅ ≡ k₄ + 1 → HasTurned 15 k₀ k₅
+way_of_into a b c d e = record { least = omega arith; most = omega arith }
+
+pub wide_way : {j k : ℕ} → HasTurned 7 j k → HasTurned 15 j k
+wide_way a = record { least = omega arith; most = omega arith }
+
+pub way_grows : {i j k n : ℕ} → i ≤ j → HasTurned n j k → i ≤ k
+way_grows a b = omega arith
+
+pub by_7 : {j k : ℕ} → HasTurned 7 j k → (n : ℕ) → k + 7 * n ≤ j + 7 * (n + 1)
+by_7 a n = omega arith
+
+pub by_15 : {j k : ℕ} → HasTurned 15 j k → (n : ℕ) → k + 15 * n ≤ j + 15 * (n + 1)
+by_15 a n = omega arith
+
+pub more_by_7 : (j k : ℕ) → j < k → 7 * j < 7 * k
+more_by_7 j k l = omega arith
+
+pub more_by_15 : (j k : ℕ) → j < k → 15 * j < 15 * k
+more_by_15 j k l = omega arith
+
+-- a turn of the slide, in what the tables say of the next block, named y
+module _ {F A B : Type 0} {R : F → Move → F → Type 0} {p : Place} {run back : List Block} {f : F} {accesses : ℕ} {cost : ℕ → ℕ} {max : ℕ} {number : A → ℕ} {t : ChainCells} {m last count : ℕ}
+    {gap : Gap A B} {at : Option ℕ} {g : F} {used : ℕ} (s : IsOnTheWay R p run back f accesses cost max number t m last count gap at g used) (some : s.rest ≡ [] → ⊥) {y : ℕ} (q : at ≡ Some y) where
+  abbrev b : Block
+  b = (first_part s.rest some).0
+
+  abbrev bs : List Block
+  bs = (first_part s.rest some).1
+
+  is : s.rest ≡ b ∷ bs
+  is = (first_part s.rest some).2
+
+  its : b.name ≡ y
+  its = named s b bs is q
+
+  after : s.rest ++ back ≡ b ∷ (bs ++ back)
+  after = after_is s b bs is
+
+  pub way_below : y < length t.nodes
+  way_below = met_below s.there after its
+
+  pub way_short : {j k : ℕ} → j ≡ m → j < k → y < k
+  way_short = met_short s.there after its
+
+  pub way_ends : gap.offset + gap.size < 2 ^ 32
+  way_ends = met_ends s.there after its
+
+  pub way_fits : {n : ℕ} → n ≡ (node t y).size → (gap.offset + gap.size) + n ≤ 4294967295
+  way_fits = met_fits s.there after its
+
+  -- the gap before it, also once a change of the bins has left the chain as it was
+  pub way_place : (l : ℕ) × (p : Place) × (c : Block) × (cs : List Block) × IsGap max number gap t l last count p × (p.after ≡ c ∷ cs) × (c.name ≡ y)
+  way_place = (m, _, b, _, s.there, after, its)
+
+  pub way_idle : {d : ChainCells} {last' count' : ℕ} {w : Bool} → (d ≡ t) × (last' ≡ last) × (count' ≡ count) → w ≡ (node t y).used → w ≡ false
+      → (l : ℕ) × (p : Place) × (c : Block) × (cs : List Block) × IsGap max number gap d l last' count' p × (p.after ≡ c ∷ cs) × (c.name ≡ y) × (c.used ≡ false)
+  way_idle k cell free = (m, _, b, _, kept_gap k s.there, after, its, met_used s.there after its cell free)
+
+  pub way_listed : (lists : List (List ℕ)) {n : ℕ} {w : Bool} → n ≡ (node t y).size → w ≡ (node t y).used → w ≡ false → AreInBins ((p.before ++ live s.done) ++ (s.rest ++ back)) lists
+      → IsAmong y (bin_at lists (down n))
+  way_listed lists {n} sized cell free filed = subst (λ k. IsAmong k (bin_at lists (down n))) its
+      (subst (λ k. IsAmong b.name (bin_at lists (down k))) (sym (met_sized s.there after its sized)) (filed_next s b bs is lists (met_used s.there after its cell free) filed))
+
+  -- each turn counts, and there are at most as many as nodes
+  pub way_less : {c : ChainCells} {last₀ count₀ x k n : ℕ} → ((j k : ℕ) → j < k → cost j < cost k) → HasPlace c m last₀ count₀ x p → p.after ≡ run ++ back → HasTurned n used k
+      → (accesses + cost (length c.nodes)) - k < (accesses + cost (length c.nodes)) - used
+  way_less {c} grows h e more = let least = more.least in let few = grows _ _ (way_within s some h e) in let bounded = s.bounded in omega (arith, few, bounded, least)
+
+  -- a used block passes the gap
+  module _ {t' : ChainCells} {last' count' : ℕ} {gap' : Gap A B} {at' : Option ℕ} {g' : F} {used' n : ℕ} {w : Bool} (sized : n ≡ (node t y).size) (cell : w ≡ (node t y).used) (live_one : w ≡ true)
+      (next : at' ≡ (node t y).after)
+      (passed : (p : Place) (c : Block) (cs : List Block) → IsGap max number gap t m last count p → p.after ≡ c ∷ cs → c.name ≡ y
+      → IsGap max number gap' t' m last' count' (record { before = p.before ++ c ∷ []; block = p.block; after = cs }))
+      (called : (v : Bool) → FoldsTo R g (move_of (gap.offset + gap.size) gap.offset (record { name = y; size = n; used = v })) g') (least : used + 4 ≤ used')
+      (most : (j : ℕ) → used' + cost j ≤ used + cost (j + 1)) where
+    abbrev passed_by : IsOnTheWay R p run back f accesses cost max number t' m last' count' gap' at' g' used'
+    passed_by = way_past s b bs is (met_used s.there after its cell live_one) (passed _ b _ s.there after its) (next ∙ ap (λ k. (node t k).after) (sym its))
+        (subst (λ (l : List Move). FoldsTo R g l g')
+        (ap₂ (λ k j. move_of (gap.offset + gap.size) gap.offset (record { name = k; size = j; used = b.used })) (sym its) (met_sized s.there after its sized)) (called b.used))
+        (most _) least
+
+    pub pass_put : (u₀ : List ℕ) {u u' : List ℕ} → u' ≡ u → HasPut u₀ s.done u → (x : IsOnTheWay R p run back f accesses cost max number t' m last' count' gap' at' g' used') × HasPut u₀ x.done u'
+    pass_put u₀ same put = (passed_by, put_past u₀ s.done b (met_used s.there after its cell live_one) same put)
+
+    pub pass_filed : (ls₀ : List (List ℕ)) {ls ls' : List (List ℕ)} (u₀ : List ℕ) {u u' : List ℕ} → ls' ≡ ls → u' ≡ u → ends_used run ≡ false → ls ≡ remove_all s.done ls₀
+        → AreInBins ((p.before ++ live s.done) ++ (s.rest ++ back)) ls → HasPut u₀ s.done u
+        → (x : IsOnTheWay R p run back f accesses cost max number t' m last' count' gap' at' g' used') × (ls' ≡ remove_all x.done ls₀)
+        × AreInBins ((p.before ++ live x.done) ++ (x.rest ++ back)) ls' × (x.rest ≡ [] → ⊥) × HasPut u₀ x.done u'
+    pass_filed ls₀ {ls} {ls'} u₀ same_bins same_names free out filed put = (
+      passed_by,
+      out_past s b bs is ls₀ ls' (met_used s.there after its cell live_one) (same_bins ∙ out),
+      rw same_bins (filed_past s b bs is ls (met_used s.there after its cell live_one) filed),
+      goes_on s b bs is free (met_used s.there after its cell live_one),
+      put_past u₀ s.done b (met_used s.there after its cell live_one) same_names put,
+    )
+
+  -- a free block goes into the gap
+  module _ {t₁ t' : ChainCells} {last₁ count₁ last' count' : ℕ} {gap' : Gap A B} {at' : Option ℕ} {used' : ℕ} {w : Bool} (cell : w ≡ (node t y).used) (idle_one : w ≡ false)
+      (next : at' ≡ (node t y).after) (same : (t₁ ≡ t) × (last₁ ≡ last) × (count₁ ≡ count))
+      (gathered : (p : Place) (c : Block) (cs : List Block) → IsGap max number gap t₁ m last₁ count₁ p → p.after ≡ c ∷ cs → c.name ≡ y → c.used ≡ false
+      → IsGap max number gap' t' m last' count' (record { before = p.before; block = record p.block { size = p.block.size + c.size }; after = cs })) (least : used + 4 ≤ used')
+      (most : (j : ℕ) → used' + cost j ≤ used + cost (j + 1)) where
+    idle : b.used ≡ false
+    idle = met_used s.there after its cell idle_one
+
+    abbrev gone_in : IsOnTheWay R p run back f accesses cost max number t' m last' count' gap' at' g used'
+    gone_in = way_into s b bs is idle (gathered _ b _ (kept_gap same s.there) after its idle) (next ∙ ap (λ k. (node t k).after) (sym its)) (most _) least
+
+    pub into_put : (u₀ : List ℕ) {u u' : List ℕ} → u' ≡ u ++ y ∷ [] → HasPut u₀ s.done u → (x : IsOnTheWay R p run back f accesses cost max number t' m last' count' gap' at' g used') × HasPut u₀ x.done u'
+    into_put u₀ more put = (gone_in, put_into u₀ s.done b idle its more put)
+
+    pub into_place : (l : ℕ) × (p : Place) × IsGap max number gap' t' l last' count' p × (at' ≡ first_or None p.after)
+    into_place = (m, _, gone_in.there, gone_in.next)
+
+    gone : {n : ℕ} (ls : List (List ℕ)) {ls₁ ls' : List (List ℕ)} → n ≡ (node t y).size → ls₁ ≡ remove (down n) y ls → ls' ≡ ls₁ → ls' ≡ remove (down b.size) b.name ls
+    gone ls sized removed same_bins = same_bins ∙ removed ∙ ap₂ (λ j k. remove (down j) k ls) (met_sized s.there after its sized) (sym its)
+
+    -- others of the run are left
+    pub into_filed : {n end : ℕ} (ls₀ : List (List ℕ)) {ls ls₁ ls' : List (List ℕ)} (u₀ : List ℕ) {u u₁ u' : List ℕ} → n ≡ (node t y).size → ls₁ ≡ remove (down n) y ls → ls' ≡ ls₁ → u₁ ≡ u → u' ≡ u₁ ++ y ∷ [] → length ls ≡ 256
+        → last_or None run ≡ Some end → (y ≡ end → ⊥) → ls ≡ remove_all s.done ls₀ → AreInBins ((p.before ++ live s.done) ++ (s.rest ++ back)) ls → HasPut u₀ s.done u
+        → (x : IsOnTheWay R p run back f accesses cost max number t' m last' count' gap' at' g used') × (ls' ≡ remove_all x.done ls₀)
+        × AreInBins ((p.before ++ live x.done) ++ (x.rest ++ back)) ls' × (x.rest ≡ [] → ⊥) × HasPut u₀ x.done u'
+    into_filed {end = end} ls₀ {ls} {ls₁} {ls'} u₀ sized removed same_bins same_names more long ends other out filed put =
+        let left = gone ls sized removed same_bins in (
+          gone_in,
+          out_into s b bs is ls₀ ls ls' idle left out,
+          rw left (filed_into s b bs is ls idle long filed),
+          not_last s b bs is end ends (λ e. other (sym its ∙ e)),
+          put_into u₀ s.done b idle its (more ∙ ap (λ (l : List ℕ). l ++ y ∷ []) same_names) put,
+        )
+
+    -- it is the last one of the run
+    module _ {end : ℕ} (ends : last_or None run ≡ Some end) (this : y ≡ end) where
+      none : bs ≡ []
+      none = is_last s b bs is end ends (its ∙ this)
+
+      pub last_done : IsGap max number gap' t' m last' count' (record { before = p.before ++ live run; block = free_block gap'.name gap'.size; after = back })
+          × (at' ≡ first_or None back) × (gap'.size ≡ p.block.size + sum (free_sizes run)) × FoldsTo R f (moves (units p.before + p.block.size) (units p.before) run) g
+          × (used' ≤ accesses + cost (length run)) × (accesses + 4 * length run ≤ used') × (s.done ++ b ∷ [] ≡ run)
+      last_done = way_done gone_in none
+
+      all : s.done ++ b ∷ [] ≡ run
+      all = last_done.6
+
+      pub last_out : {n : ℕ} (ls₀ : List (List ℕ)) {ls ls₁ ls' : List (List ℕ)} → n ≡ (node t y).size → ls₁ ≡ remove (down n) y ls → ls' ≡ ls₁ → ls ≡ remove_all s.done ls₀ → ls' ≡ remove_all run ls₀
+      last_out ls₀ {ls} {ls₁} {ls'} sized removed same_bins out = out_into s b bs is ls₀ ls ls' idle (gone ls sized removed same_bins) out ∙ ap (λ l. remove_all l ls₀) all
+
+      pub last_filed : {n : ℕ} (ls : List (List ℕ)) {ls₁ ls' : List (List ℕ)} → n ≡ (node t y).size → ls₁ ≡ remove (down n) y ls → ls' ≡ ls₁ → length ls ≡ 256
+          → AreInBins ((p.before ++ live s.done) ++ (s.rest ++ back)) ls → AreInBins ((p.before ++ live run) ++ back) ls'
+      last_filed ls {ls₁} {ls'} sized removed same_bins long filed =
+          let left = remove (down b.size) b.name ls in
+          rw (gone ls sized removed same_bins) (subst (λ l. AreInBins ((p.before ++ live l) ++ back) left) all
+          (subst (λ l. AreInBins ((p.before ++ live (s.done ++ b ∷ [])) ++ (l ++ back)) left) none (filed_into s b bs is ls idle long filed)))
+
+      pub last_put : (u₀ : List ℕ) {u u₁ u' : List ℕ} → u₁ ≡ u → u' ≡ u₁ ++ y ∷ [] → HasPut u₀ s.done u → HasPut u₀ run u'
+      last_put u₀ same_names more put = put_into u₀ s.done b idle its (more ∙ ap (λ (l : List ℕ). l ++ y ∷ []) same_names) put ∙ ap (λ (l : List Block). u₀ ++ names_of (free_blocks l)) all

@@ -1,7 +1,7 @@
 use Rattle.offset_allocator.proofs.{Moving.Packed.live_sizes, Sound.AreSound, Sound.Fields, Sound.shown, Sound.fields_of, Sound.known_sound, Linking.Places.placed}
 use Rattle.offset_allocator.proofs.Moving.Stepped.{split_filed, split_few, split_steps}
-use Rattle.offset_allocator.proofs.Moving.Budgeted.{IsBegun, Run, begun, slides_live, few_left, few_rest, stops_apart}
-use Rattle.offset_allocator.proofs.Common.{◌≡◌, ℕ, ◌+◌, ◌*◌, ◌≤◌, ◌⊎◌, true, false, List, [], ◌∷◌, ◌++◌, Some, length, refl, sym, ap, subst, ◌∙◌, arith, inl, inr, length-append, not, Block, View, blocks, units, ends_used, AdmitsBlocks, IsChain, IsCalledWith, true≢false}
+use Rattle.offset_allocator.proofs.Moving.Budgeted.{IsBegun, Run, begun, slides_live, searches_cost, few_left, few_rest, stops_apart}
+use Rattle.offset_allocator.proofs.Common.{◌≡◌, ℕ, ◌+◌, ◌*◌, ◌≤◌, ◌⊎◌, true, false, List, [], ◌∷◌, ◌++◌, Some, length, refl, sym, ap, subst, ◌∙◌, arith, inl, inr, length-append, not, Block, View, blocks, units, ends_used, HasRoomFor, IsChain, IsCalledWith, true≢false}
 use Rattle.offset_allocator.proofs.Common.{max, free_block, replace, take, SameSpace}
 use Rattle.std.specs.List.{FoldsTo}
 use Rattle.offset_allocator.specs.Names.{IsTaken}
@@ -48,17 +48,8 @@ counted : (g : Over) (c : After-run_from-reach g)
 counted g c =
     let o : IsBegun (blocks (g.T.Tables.cells c.self.inside.store.tables).chain c.self.inside.store.last) c.in-Some.first = begun c.args.step c.args.from 0 _ _ (sym c.first_from.ensures.first ∙ c.in-Some.is) in
     let e = c.run_from-reach.ensures.place _ _ o.front o.first o.rest c.self.invariant.space o.is o.name o.free in
-    let now = ap (λ (v : View). v.blocks) c.self.view_is in
-    let is = o.is ∙ ap (λ (l : List Block). o.front ++ o.first ∷ l) e.2 in
-    let old = ap (λ (u : View). u.accesses) c.self.view_is in
-    let all = ap (λ (u : View). length u.blocks) c.self.view_is in
-    let n = ap (λ (l : List Block). length l) o.is in
-    let m = ap (λ (l : List Block). length l) e.2 in
-    let few = few_rest c.args.most_units c.args.most_ranges c.args.self.now c.formed.ensures o.front o.first e.0 e.1 (sym now ∙ is) o.free e.3 in (
-      omega (arith, old, c.first_from.ensures.accesses.0, e.8),
-      omega (arith, old, all, n, m, c.first_from.ensures.accesses.1, e.9, length-append o.front (o.first ∷ o.rest), length-append e.0 e.1),
-      omega (arith, old, all, c.first_from.ensures.accesses.1, e.9, few),
-    )
+    searches_cost c.args.most_units c.args.most_ranges _ c.args.self.now c.formed.ensures o.front o.first e.0 e.1 o.rest (ap (λ (v : View). v.blocks) c.self.view_is)
+    (ap (λ (u : View). u.accesses) c.self.view_is) o.is e.2 o.free e.3 c.first_from.ensures.accesses e.8 e.9
 
 pub returns-then-not-can_follow-clause-accesses : goal.returns-then-not-can_follow-clause-accesses
 returns-then-not-can_follow-clause-accesses g c =
@@ -81,7 +72,7 @@ returns-then-not-can_follow-clause-step g c =
         r.back,
         r.reached,
         λ can. elim can [
-          | inl room ↦ absurd (no (c.can_follow.ensures.is.1 (inl (subst (AdmitsBlocks 1) (sym c.self.view_is) room))))
+          | inl room ↦ absurd (no (c.can_follow.ensures.is.1 (inl (subst (HasRoomFor 1) (sym c.self.view_is) room))))
           | inr free ↦ absurd (no (c.can_follow.ensures.is.1 (inr (sym r.end_used ∙ free))))
         ],
       ),
@@ -122,7 +113,7 @@ done g c r k f is =
     let t = c.args.step in
     let run : List Block = r.first ∷ r.rest in
     let e = c.slide_run.ensures.place _ r.front r.first r.rest r.back r.place r.end (split_filed old c.self.invariant t r.front run r.back r.is) in
-    let can : AdmitsBlocks 1 (shown old) ⊎ (ends_used run ≡ false) = elim (c.can_follow.ensures.is.0 c.if-not-can_follow.false) [ inl room ↦ inl room | inr free ↦ inr (r.end_used ∙ free) ] in
+    let can : HasRoomFor 1 (shown old) ⊎ (ends_used run ≡ false) = elim (c.can_follow.ensures.is.0 c.if-not-can_follow.false) [ inl room ↦ inl room | inr free ↦ inr (r.end_used ∙ free) ] in
     let few = few_left t old.limit (shown old) (known_sound old c.self.invariant (shown old) refl).0 refl r.front run r.back r.is (λ q. absurd (cc)) can in
     let s = split_steps old c.self.invariant t r.front run r.back r.is (ap not r.free) (stops_apart c.args.most_units c.args.most_ranges r.rest r.back r.reached.stops) few (g.T.Tables.cells c.slide_run.new.store.tables)
     c.slide_run.new.store.last c.slide_run.new.store.spare_count e.0 e.3 {accesses = k} c.slide_run.ensures.binned e.5 e.6 in

@@ -3,8 +3,19 @@ use Rattle.offset_allocator.proofs.Linking.Places.{at_place, next_place, previou
 use Rattle.offset_allocator.proofs.{Classes.down_small, Filing.Filed.unlisted, Filing.Filed.previous_filed, Filing.Filed.next_filed, Filing.Filed.filed_before, Filing.Filed.next_same}
 use Rattle.offset_allocator.proofs.Linking.Names.{kept_unused, name_after, name_before, names-append}
 use Rattle.offset_allocator.specs.{Names.names_of, Store.unused_of}
+use Rattle.offset_allocator.proofs.Common.{ChainCells, HasPlace, Place, units, coalesced_after, coalesced_before}
 use Rattle.offset_allocator.proofs.neighbours.coalesce.Goals as goal
 use Rattle.offset_allocator.proofs.neighbours.coalesce.Goals.{in-Some, in_default+in-Some-free_before}
+
+-- the units of a block and of the free block after it are those of the whole
+whole_after : {c d : ChainCells} {m last count last' count' x a b n : ℕ} {p : Place} → HasPlace c m last count x p → HasPlace d m last' count' x (coalesced_after p)
+    → units (free_start p.after) ≡ n → a ≡ (node c x).size → b ≡ n → a + b ≡ (node d x).size
+whole_after h k gone first more = omega (arith, gone, first, more, ap (λ (v : Node). v.size) (at_place h), ap (λ (v : Node). v.size) (at_place k))
+
+-- and those of the free block before it and of a block
+whole_before : {c d : ChainCells} {m last count last' count' x a b n : ℕ} {p : Place} → HasPlace c m last count x p → HasPlace d m last' count' x (coalesced_before p)
+    → units (free_end p.before) ≡ n → a ≡ n → b ≡ (node c x).size → a + b ≡ (node d x).size
+whole_before h k gone more first = omega (arith, gone, more, first, ap (λ (v : Node). v.size) (at_place h), ap (λ (v : Node). v.size) (at_place k))
 
 -- a free block after it
 pub size-more-requires : goal.size-more-requires
@@ -108,7 +119,7 @@ returns-clause-lists g c m p h = elim c.match-next.branch [
       let gone = free_after merged same.0 (same.1 ∙ w.in-Some.ensures.free.1) in
       let left = w.coalesce_after.ensures.place _ _ merged in
       let whole : w.with_before-size.result + w.size-more.result ≡ (node (g.T.Tables.cells w.coalesce_after.new.store.tables).chain c.args.name).size =
-      omega (arith, w.size-more.ensures.cell, w.with_before-size.ensures.size, gone.0, ap (λ (v : Node). v.size) (at_place left), ap (λ (v : Node). v.size) (at_place merged)) in
+      whole_after merged left gone.0 w.with_before-size.ensures.size w.size-more.ensures.cell in
       rw (
         c.exchange.ensures.chain.0,
         c.exchange.ensures.lists,
@@ -125,7 +136,7 @@ returns-clause-lists g c m p h = elim c.match-next.branch [
       let gone = free_before h before.0 before.1 in
       let left = w.coalesce_before.ensures.place _ _ h in
       let whole : w.size-more-in-Some-free_before.result + c.args.size ≡ (node (g.T.Tables.cells w.coalesce_before.new.store.tables).chain c.args.name).size =
-      omega (arith, w.size-more-in-Some-free_before.ensures.cell, c.requires.size, gone.0, ap (λ (v : Node). v.size) (at_place left), ap (λ (v : Node). v.size) (at_place h)) in
+      whole_before h left gone.0 w.size-more-in-Some-free_before.ensures.cell c.requires.size in
       rw (
         c.exchange.ensures.chain.0,
         c.exchange.ensures.lists,
@@ -149,7 +160,10 @@ pub returns-clause-binned : goal.returns-clause-binned
 returns-clause-binned g c = c.exchange.ensures.binned
 
 pub exchange-requires-clause-binned : goal.exchange-requires-clause-binned
-exchange-requires-clause-binned g c = grind (arith, in-Some, in_default+in-Some-free_before)
+exchange-requires-clause-binned g c = elim c.match-next.branch [
+  | in-Some w ↦ rw (w.store-is, w.coalesce_after.ensures.bins.0, w.coalesce_after.ensures.bins.1) w.with_before-size.ensures.binned
+  | in_default+in-Some-free_before w ↦ rw (w.store-is, w.coalesce_before.ensures.bins.0, w.coalesce_before.ensures.bins.1) c.requires.binned
+]
 
 pub returns-in_default-free_before-clause-unused : goal.returns-in_default-free_before-clause-unused
 returns-in_default-free_before-clause-unused g c m p h =

@@ -1,9 +1,8 @@
-use Rattle.offset_allocator.proofs.{Linking.Places.at_place, Linking.Names.kept_unused, Moving.Gaps.next_node, Moving.Gaps.next_used, Moving.Gaps.next_after, Moving.Gaps.before_below, Linking.Rows.last_or-append, Linking.Rows.IsRow-back, Moving.Gaps.next_below, Moving.Gaps.next_fits, Moving.Gaps.kept_gap}
-use Rattle.offset_allocator.proofs.Common.{ℕ, Option, nat_eq, if◌then◌else◌, None, IsAmong, IsUnlisted, bin_at, ◌∷◌, [], ◌≡◌, ◌+◌, ◌++◌, true, false, List, refl, sym, ap, ap₂, subst, ◌∙◌, arith, length, FoldsTo, Node, node, Block, Move, move_of, IsCalledWith, bins_in, remove, push, down}
-use Rattle.offset_allocator.proofs.Moving.Stepping.{stepping_start, stepping_next, stepping_end, stepping_within, stepping_done, gap_here, gap_after, next_within, next_filed, next_unlisted, step_past, step_part, step_into}
-use Rattle.offset_allocator.proofs.{Classes.down_small, Linking.Exchange.each-le, Moving.Refiled.rebinned_is, Tallies.times-append, Common.count_named, Common.◌≤◌, Common.free_block}
+use Rattle.offset_allocator.proofs.{Linking.Places.at_place, Linking.Names.kept_unused}
+use Rattle.offset_allocator.proofs.Common.{true, false, refl, sym, ap, ◌∙◌, arith, Node, bins_in, remove, push}
+use Rattle.offset_allocator.proofs.Moving.Stepping.{turn_below, turn_short, turn_ends, turn_fits, turn_place, turn_idle, turn_listed, turn_less, turn_past, turn_into, turn_part, turn_grows, turn_of_pass, turn_of_into, turn_of_part, part_below, part_idle, part_unlisted, run_once, stepping_start, stepping_end, stepping_done}
+use Rattle.offset_allocator.proofs.{Classes.down_small, Moving.Refiled.rebinned_is}
 use Rattle.offset_allocator.specs.Moving.BySteps.{kept}
-use Rattle.offset_allocator.specs.{Store.unused_of}
 use Rattle.offset_allocator.proofs.moves.by_steps.slide_by.Goals as goal
 
 pub open-gap-requires-clause-size : goal.open-gap-requires-clause-size
@@ -23,180 +22,99 @@ loop-at-init g c =
 pub size-more-requires : goal.size-more-requires
 size-more-requires g c =
     let r = c.requires.place in
-    let i = c.loop-at.invariant.at r.0 r.1 r.2 r.3 r.4 r.5 r.6 r.7 in
-    let f = stepping_next i c.in-Some.is in
-    omega (arith, f.3, next_below _ _ f.0 _ (gap_here i f.0 f.1 f.2))
+    turn_below (c.loop-at.invariant.at r.0 r.1 r.2 r.3 r.4 r.5 r.6 r.7) c.in-Some.is
 
 pub after-after-requires-in-Some : goal.after-after-requires-in-Some
 after-after-requires-in-Some g c =
     let r = c.requires.place in
-    let i = c.loop-at.invariant.at r.0 r.1 r.2 r.3 r.4 r.5 r.6 r.7 in
-    let f = stepping_next i c.in-Some.is in
-    omega (arith, f.3, next_below _ _ f.0 _ (gap_here i f.0 f.1 f.2))
+    turn_below (c.loop-at.invariant.at r.0 r.1 r.2 r.3 r.4 r.5 r.6 r.7) c.in-Some.is
 
 pub is_used-requires : goal.is_used-requires
 is_used-requires g c =
     let r = c.requires.place in
-    let i = c.loop-at.invariant.at r.0 r.1 r.2 r.3 r.4 r.5 r.6 r.7 in
-    let f = stepping_next i c.in-Some.is in
-    omega (arith, f.3, next_below _ _ f.0 _ (gap_here i f.0 f.1 f.2))
+    turn_below (c.loop-at.invariant.at r.0 r.1 r.2 r.3 r.4 r.5 r.6 r.7) c.in-Some.is
 
 pub overflow_add-gap : goal.overflow_add-gap
 overflow_add-gap g c =
     let r = c.requires.place in
-    let i = c.loop-at.invariant.at r.0 r.1 r.2 r.3 r.4 r.5 r.6 r.7 in
-    let f = stepping_next i c.in-Some.is in
-    omega (arith, i.there.offset, next_fits _ _ f.0 _ (gap_here i f.0 f.1 f.2))
+    record { fits = turn_ends (c.loop-at.invariant.at r.0 r.1 r.2 r.3 r.4 r.5 r.6 r.7) c.in-Some.is }
 
 pub report-requires-clause-named : goal.report-requires-clause-named
 report-requires-clause-named g c =
     let r = c.requires.place in
-    let i = c.loop-at.invariant.at r.0 r.1 r.2 r.3 r.4 r.5 r.6 r.7 in
-    let f = stepping_next i c.in-Some.is in
-    omega (arith, f.3, next_below _ _ f.0 _ (gap_here i f.0 f.1 f.2), i.there.there.within, r.5.chain.memory, c.shape.ensures.limit)
+    turn_short (c.loop-at.invariant.at r.0 r.1 r.2 r.3 r.4 r.5 r.6 r.7) c.in-Some.is r.5.chain.memory c.shape.ensures.limit
 
 pub report-requires-clause-within : goal.report-requires-clause-within
 report-requires-clause-within g c =
     let r = c.requires.place in
-    let i = c.loop-at.invariant.at r.0 r.1 r.2 r.3 r.4 r.5 r.6 r.7 in
-    let f = stepping_next i c.in-Some.is in
-    let t = (g.T.Tables.cells c.loop-at.store.tables).chain in
-    let held = gap_here i f.0 f.1 f.2 in
-    let size : c.size-more.result ≡ f.0.size = c.size-more.ensures.cell ∙ ap (λ k. (node t k).size) (sym f.3) ∙ next_node _ _ f.0 _ held in
-    omega (arith, size, i.there.offset, i.there.size, next_fits _ _ f.0 _ held)
+    turn_fits (c.loop-at.invariant.at r.0 r.1 r.2 r.3 r.4 r.5 r.6 r.7) c.in-Some.is c.size-more.ensures.cell
 
 pub pass-requires-clause-place : goal.pass-requires-clause-place
 pass-requires-clause-place g c =
     let r = c.requires.place in
-    let i = c.loop-at.invariant.at r.0 r.1 r.2 r.3 r.4 r.5 r.6 r.7 in
-    let f = stepping_next i c.in-Some.is in
-    (r.0, _, f.0, _, i.there, gap_after i f.0 f.1 f.2, f.3)
+    turn_place (c.loop-at.invariant.at r.0 r.1 r.2 r.3 r.4 r.5 r.6 r.7) c.in-Some.is (refl, refl, refl)
 
 pub loop-at-smaller-then-is_used : goal.loop-at-smaller-then-is_used
 loop-at-smaller-then-is_used g c =
     let r = c.requires.place in
-    let i = c.loop-at.invariant.at r.0 r.1 r.2 r.3 r.4 r.5 r.6 r.7 in
-    let f = stepping_next i c.in-Some.is in
-    omega (arith, i.bounded, stepping_within i r.5, ap (λ (l : List Block). length l) f.2, c.size-more.ensures.accesses, c.after-after-in-Some.ensures.accesses, c.is_used.ensures.accesses, c.pass.ensures.accesses.0)
+    turn_less (c.loop-at.invariant.at r.0 r.1 r.2 r.3 r.4 r.5 r.6 r.7) c.in-Some.is r.5 (turn_of_pass c.size-more.ensures.accesses c.after-after-in-Some.ensures.accesses c.is_used.ensures.accesses c.pass.ensures.accesses)
 
 pub loop-at-preserved-then-is_used : goal.loop-at-preserved-then-is_used
 loop-at-preserved-then-is_used g c =
+    let turn = turn_of_pass c.size-more.ensures.accesses c.after-after-in-Some.ensures.accesses c.is_used.ensures.accesses c.pass.ensures.accesses in
     record {
       callable = c.report.ensures.callable;
       binned = rw (c.pass.ensures.bins.0, c.pass.ensures.bins.1) c.loop-at.invariant.binned;
-      grows = omega (arith, c.loop-at.invariant.grows, c.size-more.ensures.accesses, c.after-after-in-Some.ensures.accesses, c.is_used.ensures.accesses, c.pass.ensures.accesses.0);
-      at = λ m x front run back h nd fl.
-          let i = c.loop-at.invariant.at m x front run back h nd fl in
-          let f = stepping_next i c.in-Some.is in
-          let t = (g.T.Tables.cells c.loop-at.store.tables).chain in
-          let held = gap_here i f.0 f.1 f.2 in
-          let used : f.0.used ≡ true = sym (next_used _ _ f.0 _ held) ∙ ap (λ k. (node t k).used) f.3 ∙ sym c.is_used.ensures.cell ∙ c.if-is_used.true in
-          let size : c.size-more.result ≡ f.0.size = c.size-more.ensures.cell ∙ ap (λ k. (node t k).size) (sym f.3) ∙ next_node _ _ f.0 _ held in
-          let within = c.within-at.ensures ∙ ap₂ (λ (k : ℕ) (l : Option ℕ). if nat_eq k c.args.end then None else l) (sym f.3) c.linked.ensures in
-          step_past i f.0 f.1 f.2 used (c.pass.ensures.gap _ _ f.0 _ i.there (gap_after i f.0 f.1 f.2) f.3) within (c.after-after-in-Some.ensures.cell ∙ ap (λ k. (node t k).after) (sym f.3))
-          (subst (λ (l : List Move). FoldsTo (IsCalledWith g.T.Index.NonMax.NodeIndexNonMax.number (λ f range h. goal.F-step g f range tt h)) c.loop-at.moved l c.report.new.moved)
-          (ap₂ (λ k j. move_of (c.loop-at.gap.offset + c.loop-at.gap.size) c.loop-at.gap.offset (record { name = k; size = j; used = f.0.used })) (sym f.3) size)
-          (c.report.ensures.called f.0.used))
-          (omega (arith, c.size-more.ensures.accesses, c.after-after-in-Some.ensures.accesses, c.is_used.ensures.accesses, c.pass.ensures.accesses.1))
-          (ap (bins_in g.T.Index.NodeIndex.MAX) c.pass.ensures.bins.0) c.pass.ensures.unused;
+      grows = turn_grows c.loop-at.invariant.grows turn;
+      at = λ m x front run back h nd fl. turn_past (c.loop-at.invariant.at m x front run back h nd fl) c.in-Some.is
+          c.size-more.ensures.cell c.is_used.ensures.cell c.if-is_used.true c.within-at.ensures c.linked.ensures c.after-after-in-Some.ensures.cell
+          (c.pass.ensures.gap m) c.report.ensures.called turn (ap (bins_in g.T.Index.NodeIndex.MAX) c.pass.ensures.bins.0) c.pass.ensures.unused;
       name = c.pass.ensures.name ∙ c.loop-at.invariant.name;
     }
 
 pub remove-requires-clause-listed : goal.remove-requires-clause-listed
 remove-requires-clause-listed g c =
     let r = c.requires.place in
-    let i = c.loop-at.invariant.at r.0 r.1 r.2 r.3 r.4 r.5 r.6 r.7 in
-    let f = stepping_next i c.in-Some.is in
-    let t = (g.T.Tables.cells c.loop-at.store.tables).chain in
-    let held = gap_here i f.0 f.1 f.2 in
-    let free : f.0.used ≡ false = sym (next_used _ _ f.0 _ held) ∙ ap (λ k. (node t k).used) f.3 ∙ sym c.is_used.ensures.cell ∙ c.if-is_used.false in
-    let size : c.size-more.result ≡ f.0.size = c.size-more.ensures.cell ∙ ap (λ k. (node t k).size) (sym f.3) ∙ next_node _ _ f.0 _ held in
-    subst (λ k. IsAmong k (bin_at (bins_in g.T.Index.NodeIndex.MAX (g.T.Tables.cells c.loop-at.store.tables).bins) (down c.size-more.result))) f.3
-    (subst (λ k. IsAmong f.0.name (bin_at (bins_in g.T.Index.NodeIndex.MAX (g.T.Tables.cells c.loop-at.store.tables).bins) (down k))) (sym size) (next_filed i f.0 f.1 f.2 free))
+    turn_listed (c.loop-at.invariant.at r.0 r.1 r.2 r.3 r.4 r.5 r.6 r.7) c.in-Some.is c.size-more.ensures.cell c.is_used.ensures.cell c.if-is_used.false
 
 pub gather-requires-clause-place : goal.gather-requires-clause-place
 gather-requires-clause-place g c =
     let r = c.requires.place in
-    let i = c.loop-at.invariant.at r.0 r.1 r.2 r.3 r.4 r.5 r.6 r.7 in
-    let f = stepping_next i c.in-Some.is in
-    let t = (g.T.Tables.cells c.loop-at.store.tables).chain in
-    let held = gap_here i f.0 f.1 f.2 in
-    let free : f.0.used ≡ false = sym (next_used _ _ f.0 _ held) ∙ ap (λ k. (node t k).used) f.3 ∙ sym c.is_used.ensures.cell ∙ c.if-is_used.false in
-    let size : c.size-more.result ≡ f.0.size = c.size-more.ensures.cell ∙ ap (λ k. (node t k).size) (sym f.3) ∙ next_node _ _ f.0 _ held in
-    (r.0, _, f.0, _, kept_gap c.remove.ensures.chain i.there, gap_after i f.0 f.1 f.2, f.3, free)
+    turn_idle (c.loop-at.invariant.at r.0 r.1 r.2 r.3 r.4 r.5 r.6 r.7) c.in-Some.is c.remove.ensures.chain c.is_used.ensures.cell c.if-is_used.false
 
 pub pass_part-requires-clause-place : goal.pass_part-requires-clause-place
 pass_part-requires-clause-place g c =
     let r = c.requires.place in
-    let i = c.loop-at.invariant.at r.0 r.1 r.2 r.3 r.4 r.5 r.6 r.7 in
-    let f = stepping_next i c.in-Some.is in
-    let t = (g.T.Tables.cells c.loop-at.store.tables).chain in
-    let held = gap_here i f.0 f.1 f.2 in
-    let free : f.0.used ≡ false = sym (next_used _ _ f.0 _ held) ∙ ap (λ k. (node t k).used) f.3 ∙ sym c.is_used.ensures.cell ∙ c.if-is_used.false in
-    let size : c.size-more.result ≡ f.0.size = c.size-more.ensures.cell ∙ ap (λ k. (node t k).size) (sym f.3) ∙ next_node _ _ f.0 _ held in
-    (r.0, _, f.0, _, kept_gap c.remove.ensures.chain i.there, gap_after i f.0 f.1 f.2, f.3)
+    turn_place (c.loop-at.invariant.at r.0 r.1 r.2 r.3 r.4 r.5 r.6 r.7) c.in-Some.is c.remove.ensures.chain
 
 pub loop-at-smaller-then-keep-eq0 : goal.loop-at-smaller-then-keep-eq0
 loop-at-smaller-then-keep-eq0 g c =
     let r = c.requires.place in
-    let i = c.loop-at.invariant.at r.0 r.1 r.2 r.3 r.4 r.5 r.6 r.7 in
-    let f = stepping_next i c.in-Some.is in
-    omega (arith, i.bounded, stepping_within i r.5, ap (λ (l : List Block). length l) f.2, c.size-more.ensures.accesses, c.after-after-in-Some.ensures.accesses, c.is_used.ensures.accesses, c.remove.ensures.accesses.0, c.gather.ensures.accesses)
+    turn_less (c.loop-at.invariant.at r.0 r.1 r.2 r.3 r.4 r.5 r.6 r.7) c.in-Some.is r.5 (turn_of_into c.size-more.ensures.accesses c.after-after-in-Some.ensures.accesses c.is_used.ensures.accesses c.remove.ensures.accesses c.gather.ensures.accesses)
 
 pub loop-at-preserved-then-keep-eq0 : goal.loop-at-preserved-then-keep-eq0
 loop-at-preserved-then-keep-eq0 g c =
+    let turn = turn_of_into c.size-more.ensures.accesses c.after-after-in-Some.ensures.accesses c.is_used.ensures.accesses c.remove.ensures.accesses c.gather.ensures.accesses in
     record {
       callable = c.loop-at.invariant.callable;
       binned = rw (c.gather.ensures.bins.0, c.gather.ensures.bins.1) c.remove.ensures.binned;
-      grows = omega (arith, c.loop-at.invariant.grows, c.size-more.ensures.accesses, c.after-after-in-Some.ensures.accesses, c.is_used.ensures.accesses, c.remove.ensures.accesses.0, c.gather.ensures.accesses);
-      at = λ m x front run back h nd fl.
-          let i = c.loop-at.invariant.at m x front run back h nd fl in
-          let f = stepping_next i c.in-Some.is in
-          let t = (g.T.Tables.cells c.loop-at.store.tables).chain in
-          let held = gap_here i f.0 f.1 f.2 in
-          let free : f.0.used ≡ false = sym (next_used _ _ f.0 _ held) ∙ ap (λ k. (node t k).used) f.3 ∙ sym c.is_used.ensures.cell ∙ c.if-is_used.false in
-          let size : c.size-more.result ≡ f.0.size = c.size-more.ensures.cell ∙ ap (λ k. (node t k).size) (sym f.3) ∙ next_node _ _ f.0 _ held in
-          let within = c.within-at.ensures ∙ ap₂ (λ (k : ℕ) (l : Option ℕ). if nat_eq k c.args.end then None else l) (sym f.3) c.linked.ensures in
-          let keep : c.kept-keep.result ≡ kept c.args.step f.0.size f.1 =
-          c.kept-keep.ensures.kept f.1 (next_within i f.0 f.1 f.2 within (c.after-after-in-Some.ensures.cell ∙ ap (λ k. (node t k).after) (sym f.3) ∙ next_after _ _ f.0 _ held))
-          ∙ ap (λ n. kept c.args.step n f.1) size in
-          step_into i f.0 f.1 f.2 free (sym c.if-keep-eq0.true ∙ keep) c.loop-at.invariant.binned.linked.lists_len
-          (c.gather.ensures.gap _ _ f.0 _ (kept_gap c.remove.ensures.chain i.there) (gap_after i f.0 f.1 f.2) f.3 free)
-          within (c.after-after-in-Some.ensures.cell ∙ ap (λ k. (node t k).after) (sym f.3))
-          (omega (arith, c.size-more.ensures.accesses, c.after-after-in-Some.ensures.accesses, c.is_used.ensures.accesses, c.remove.ensures.accesses.1, c.gather.ensures.accesses))
-          (ap (bins_in g.T.Index.NodeIndex.MAX) c.gather.ensures.bins.0 ∙ c.remove.ensures.lists
-          ∙ ap₂ (λ j k. remove (down j) k (bins_in g.T.Index.NodeIndex.MAX (g.T.Tables.cells c.loop-at.store.tables).bins)) size (sym f.3))
-          (c.gather.ensures.unused ∙ ap (λ (u : List ℕ). u ++ c.in-Some.next ∷ []) (kept_unused c.remove.ensures.chain)
-          ∙ ap (λ k. unused_of g.T.Tables.cells c.loop-at.store ++ k ∷ []) (sym f.3));
+      grows = turn_grows c.loop-at.invariant.grows turn;
+      at = λ m x front run back h nd fl. turn_into (c.loop-at.invariant.at m x front run back h nd fl) c.in-Some.is
+          c.size-more.ensures.cell c.is_used.ensures.cell c.if-is_used.false c.within-at.ensures c.linked.ensures c.after-after-in-Some.ensures.cell
+          c.kept-keep.ensures.kept c.if-keep-eq0.true c.loop-at.invariant.binned.linked.lists_len c.remove.ensures.chain (c.gather.ensures.gap m) turn
+          c.remove.ensures.lists (ap (bins_in g.T.Index.NodeIndex.MAX) c.gather.ensures.bins.0) (kept_unused c.remove.ensures.chain) c.gather.ensures.unused;
       name = c.gather.ensures.name ∙ c.loop-at.invariant.name;
     }
 
 pub push-requires-clause-named : goal.push-requires-clause-named
 push-requires-clause-named g c =
     let r = c.requires.place in
-    let i = c.loop-at.invariant.at r.0 r.1 r.2 r.3 r.4 r.5 r.6 r.7 in
-    let f = stepping_next i c.in-Some.is in
-    let t = (g.T.Tables.cells c.loop-at.store.tables).chain in
-    let held = gap_here i f.0 f.1 f.2 in
-    let free : f.0.used ≡ false = sym (next_used _ _ f.0 _ held) ∙ ap (λ k. (node t k).used) f.3 ∙ sym c.is_used.ensures.cell ∙ c.if-is_used.false in
-    let size : c.size-more.result ≡ f.0.size = c.size-more.ensures.cell ∙ ap (λ k. (node t k).size) (sym f.3) ∙ next_node _ _ f.0 _ held in
-    let d = c.pass_part.ensures.gap _ _ f.0 _ (kept_gap c.remove.ensures.chain i.there) (gap_after i f.0 f.1 f.2) f.3 in
-    let b : Block = record f.0 { size = c.kept-keep.result } in
-    omega (arith, f.3, before_below _ _ _ d.there f.0.name (last_or-append None (r.2 ++ i.left) (b ∷ [])))
+    part_below (c.loop-at.invariant.at r.0 r.1 r.2 r.3 r.4 r.5 r.6 r.7) c.in-Some.is c.size-more.ensures.cell c.is_used.ensures.cell c.if-is_used.false c.remove.ensures.chain (c.pass_part.ensures.gap r.0)
 
 pub push-requires-clause-idle : goal.push-requires-clause-idle
 push-requires-clause-idle g c =
     let r = c.requires.place in
-    let i = c.loop-at.invariant.at r.0 r.1 r.2 r.3 r.4 r.5 r.6 r.7 in
-    let f = stepping_next i c.in-Some.is in
-    let t = (g.T.Tables.cells c.loop-at.store.tables).chain in
-    let held = gap_here i f.0 f.1 f.2 in
-    let free : f.0.used ≡ false = sym (next_used _ _ f.0 _ held) ∙ ap (λ k. (node t k).used) f.3 ∙ sym c.is_used.ensures.cell ∙ c.if-is_used.false in
-    let size : c.size-more.result ≡ f.0.size = c.size-more.ensures.cell ∙ ap (λ k. (node t k).size) (sym f.3) ∙ next_node _ _ f.0 _ held in
-    let d = c.pass_part.ensures.gap _ _ f.0 _ (kept_gap c.remove.ensures.chain i.there) (gap_after i f.0 f.1 f.2) f.3 in
-    let b : Block = record f.0 { size = c.kept-keep.result } in
-    let row = IsRow-back _ None 0 (r.2 ++ i.left) (b ∷ []) _ d.there.front.1 in
-    sym (ap (λ k. (node (g.T.Tables.cells c.pass_part.new.store.tables).chain k).used) f.3) ∙ ap (λ (v : Node). v.used) row.0 ∙ free
+    part_idle (c.loop-at.invariant.at r.0 r.1 r.2 r.3 r.4 r.5 r.6 r.7) c.in-Some.is c.size-more.ensures.cell c.is_used.ensures.cell c.if-is_used.false c.remove.ensures.chain (c.pass_part.ensures.gap r.0)
 
 pub push-requires-clause-classed : goal.push-requires-clause-classed
 push-requires-clause-classed g c =
@@ -205,49 +123,26 @@ push-requires-clause-classed g c =
 pub push-requires-clause-unlisted : goal.push-requires-clause-unlisted
 push-requires-clause-unlisted g c =
     let r = c.requires.place in
-    let i = c.loop-at.invariant.at r.0 r.1 r.2 r.3 r.4 r.5 r.6 r.7 in
-    let f = stepping_next i c.in-Some.is in
-    let t = (g.T.Tables.cells c.loop-at.store.tables).chain in
-    let held = gap_here i f.0 f.1 f.2 in
-    let free : f.0.used ≡ false = sym (next_used _ _ f.0 _ held) ∙ ap (λ k. (node t k).used) f.3 ∙ sym c.is_used.ensures.cell ∙ c.if-is_used.false in
-    let size : c.size-more.result ≡ f.0.size = c.size-more.ensures.cell ∙ ap (λ k. (node t k).size) (sym f.3) ∙ next_node _ _ f.0 _ held in
-    let lists = ap (bins_in g.T.Index.NodeIndex.MAX) c.pass_part.ensures.bins.0 ∙ c.remove.ensures.lists
-    ∙ ap₂ (λ j k. remove (down j) k (bins_in g.T.Index.NodeIndex.MAX (g.T.Tables.cells c.loop-at.store.tables).bins)) size (sym f.3) in
-    subst (λ k. IsUnlisted k (bins_in g.T.Index.NodeIndex.MAX (g.T.Tables.cells c.pass_part.new.store.tables).bins)) f.3
-    (subst (λ l. IsUnlisted f.0.name l) (sym lists) (next_unlisted i f.0 f.1 f.2 free c.loop-at.invariant.binned.linked.lists_len))
+    part_unlisted (c.loop-at.invariant.at r.0 r.1 r.2 r.3 r.4 r.5 r.6 r.7) c.in-Some.is c.size-more.ensures.cell c.is_used.ensures.cell c.if-is_used.false c.remove.ensures.chain (c.pass_part.ensures.gap r.0) c.loop-at.invariant.binned.linked.lists_len c.remove.ensures.lists
+    (ap (bins_in g.T.Index.NodeIndex.MAX) c.pass_part.ensures.bins.0)
 
 pub loop-at-smaller : goal.loop-at-smaller
 loop-at-smaller g c =
     let r = c.requires.place in
-    let i = c.loop-at.invariant.at r.0 r.1 r.2 r.3 r.4 r.5 r.6 r.7 in
-    let f = stepping_next i c.in-Some.is in
-    omega (arith, i.bounded, stepping_within i r.5, ap (λ (l : List Block). length l) f.2, c.size-more.ensures.accesses, c.after-after-in-Some.ensures.accesses, c.is_used.ensures.accesses, c.remove.ensures.accesses.0, c.pass_part.ensures.accesses.0, c.push.ensures.accesses.0)
+    turn_less (c.loop-at.invariant.at r.0 r.1 r.2 r.3 r.4 r.5 r.6 r.7) c.in-Some.is r.5 (turn_of_part c.size-more.ensures.accesses c.after-after-in-Some.ensures.accesses c.is_used.ensures.accesses c.remove.ensures.accesses c.pass_part.ensures.accesses c.push.ensures.accesses)
 
 pub loop-at-preserved : goal.loop-at-preserved
 loop-at-preserved g c =
+    let turn = turn_of_part c.size-more.ensures.accesses c.after-after-in-Some.ensures.accesses c.is_used.ensures.accesses c.remove.ensures.accesses c.pass_part.ensures.accesses c.push.ensures.accesses in
     record {
       callable = c.loop-at.invariant.callable;
       binned = c.push.ensures.binned;
-      grows = omega (arith, c.loop-at.invariant.grows, c.size-more.ensures.accesses, c.after-after-in-Some.ensures.accesses, c.is_used.ensures.accesses, c.remove.ensures.accesses.0, c.pass_part.ensures.accesses.0, c.push.ensures.accesses.0);
-      at = λ m x front run back h nd fl.
-          let i = c.loop-at.invariant.at m x front run back h nd fl in
-          let f = stepping_next i c.in-Some.is in
-          let t = (g.T.Tables.cells c.loop-at.store.tables).chain in
-          let held = gap_here i f.0 f.1 f.2 in
-          let free : f.0.used ≡ false = sym (next_used _ _ f.0 _ held) ∙ ap (λ k. (node t k).used) f.3 ∙ sym c.is_used.ensures.cell ∙ c.if-is_used.false in
-          let size : c.size-more.result ≡ f.0.size = c.size-more.ensures.cell ∙ ap (λ k. (node t k).size) (sym f.3) ∙ next_node _ _ f.0 _ held in
-          let within = c.within-at.ensures ∙ ap₂ (λ (k : ℕ) (l : Option ℕ). if nat_eq k c.args.end then None else l) (sym f.3) c.linked.ensures in
-          let keep : c.kept-keep.result ≡ kept c.args.step f.0.size f.1 =
-          c.kept-keep.ensures.kept f.1 (next_within i f.0 f.1 f.2 within (c.after-after-in-Some.ensures.cell ∙ ap (λ k. (node t k).after) (sym f.3) ∙ next_after _ _ f.0 _ held))
-          ∙ ap (λ n. kept c.args.step n f.1) size in
-          let d = c.pass_part.ensures.gap _ _ f.0 _ (kept_gap c.remove.ensures.chain i.there) (gap_after i f.0 f.1 f.2) f.3 in
-          step_part i f.0 f.1 f.2 c.kept-keep.result free keep (omega (arith, c.if-keep-eq0.false)) (omega (arith, size, c.kept-keep.ensures.within)) c.loop-at.invariant.binned.linked.lists_len
-          (kept_gap c.push.ensures.chain d)
-          within (c.after-after-in-Some.ensures.cell ∙ ap (λ k. (node t k).after) (sym f.3))
-          (omega (arith, c.size-more.ensures.accesses, c.after-after-in-Some.ensures.accesses, c.is_used.ensures.accesses, c.remove.ensures.accesses.1, c.pass_part.ensures.accesses.1, c.push.ensures.accesses.1))
-          (c.push.ensures.lists ∙ ap₂ (λ k l. push k c.in-Some.next l) c.uint_to_float_round_down.ensures.is (ap (bins_in g.T.Index.NodeIndex.MAX) c.pass_part.ensures.bins.0 ∙ c.remove.ensures.lists)
-          ∙ ap₂ (λ j k. push (down c.kept-keep.result) k (remove (down j) k (bins_in g.T.Index.NodeIndex.MAX (g.T.Tables.cells c.loop-at.store.tables).bins))) size (sym f.3))
-          (kept_unused c.push.ensures.chain ∙ c.pass_part.ensures.unused ∙ kept_unused c.remove.ensures.chain);
+      grows = turn_grows c.loop-at.invariant.grows turn;
+      at = λ m x front run back h nd fl. turn_part (c.loop-at.invariant.at m x front run back h nd fl) c.in-Some.is
+          c.size-more.ensures.cell c.is_used.ensures.cell c.if-is_used.false c.remove.ensures.chain (c.pass_part.ensures.gap m)
+          c.within-at.ensures c.linked.ensures c.after-after-in-Some.ensures.cell c.kept-keep.ensures.kept c.if-keep-eq0.false c.kept-keep.ensures.within
+          c.loop-at.invariant.binned.linked.lists_len c.push.ensures.chain turn c.remove.ensures.lists (ap (bins_in g.T.Index.NodeIndex.MAX) c.pass_part.ensures.bins.0)
+          c.uint_to_float_round_down.ensures.is c.push.ensures.lists (kept_unused c.remove.ensures.chain) c.pass_part.ensures.unused (kept_unused c.push.ensures.chain);
       name = c.pass_part.ensures.name ∙ c.loop-at.invariant.name;
     }
 
@@ -261,17 +156,11 @@ close-requires g c =
 pub returns-clause-place : goal.returns-clause-place
 returns-clause-place g c m x front run back h nd fl =
     let i = c.loop-at.invariant.at m x front run back h nd fl in
-    let once : (k : ℕ) → count_named k run ≤ 1 = λ k. omega (
-      arith,
-      each-le _ _ _ _ _ h.chain k,
-      times-append k front (free_block x 0 ∷ (run ++ back)),
-      times-append k run back,
-    ) in
     let d = stepping_done i (stepping_end i c.in_default.is) in (
       c.close.ensures.place m _ d.0 d.1,
       d.2,
       d.3,
-      ap (bins_in g.T.Index.NodeIndex.MAX) c.close.ensures.bins.0 ∙ d.4 ∙ rebinned_is c.args.step run _ c.requires.binned.linked.lists_len once,
+      ap (bins_in g.T.Index.NodeIndex.MAX) c.close.ensures.bins.0 ∙ d.4 ∙ rebinned_is c.args.step run _ c.requires.binned.linked.lists_len (run_once front run back h),
       rw c.close.ensures.bins.0 d.5,
       c.close.ensures.unused ∙ d.6,
       omega (arith, d.7, c.open-gap.ensures.accesses, c.after-after.ensures.accesses, c.close.ensures.accesses.1),

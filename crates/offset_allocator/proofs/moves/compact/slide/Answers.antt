@@ -1,6 +1,6 @@
-use Rattle.offset_allocator.proofs.{Linking.Places.at_place, Moving.Gaps.next_node, Moving.Gaps.next_used, Moving.Gaps.next_below, Moving.Gaps.next_fits}
-use Rattle.offset_allocator.proofs.Common.{◌≡◌, ◌+◌, ◌++◌, true, false, List, [], refl, sym, ap, ap₂, append-nil, ◌*◌, subst, ◌∙◌, arith, FoldsTo, Block, Node, node, Move, move_of, IsCalledWith}
-use Rattle.offset_allocator.proofs.Moving.Stretches.{way_start, way_past, way_into, way_next, way_end, way_within, way_done, after_is, held, named, first_part, put_into, put_none, put_past}
+use Rattle.offset_allocator.proofs.{Linking.Places.at_place}
+use Rattle.offset_allocator.proofs.Common.{◌+◌, ◌++◌, true, false, List, refl, sym, ap, append-nil, ◌*◌, ◌∙◌, arith, Block, Node}
+use Rattle.offset_allocator.proofs.Moving.Stretches.{way_below, way_short, way_ends, way_fits, way_place, way_idle, way_less, way_of_pass, way_of_gather, by_7, more_by_7, pass_put, into_put, way_start, way_next, way_end, way_done, put_none}
 use Rattle.offset_allocator.specs.{Names.free_blocks, Names.names_of, Store.unused_of}
 use Rattle.offset_allocator.proofs.moves.compact.slide.Goals as goal
 
@@ -20,73 +20,56 @@ size-more-requires g c =
     let r = c.requires.place in
     let s = (c.loop-next.invariant.at r.0 r.1 r.2 r.3).0 in
     let q = sym c.linked.ensures ∙ c.in-Some.is in
-    let f = first_part s.rest (way_next s refl q) in
-    omega (arith, named s f.0 f.1 f.2 q, next_below _ _ f.0 _ (held s f.0 f.1 f.2))
+    way_below s (way_next s refl q) q
 
 pub after-at-requires-in-Some : goal.after-at-requires-in-Some
 after-at-requires-in-Some g c =
     let r = c.requires.place in
     let s = (c.loop-next.invariant.at r.0 r.1 r.2 r.3).0 in
     let q = sym c.linked.ensures ∙ c.in-Some.is in
-    let f = first_part s.rest (way_next s refl q) in
-    omega (arith, named s f.0 f.1 f.2 q, next_below _ _ f.0 _ (held s f.0 f.1 f.2))
+    way_below s (way_next s refl q) q
 
 pub is_used-requires : goal.is_used-requires
 is_used-requires g c =
     let r = c.requires.place in
     let s = (c.loop-next.invariant.at r.0 r.1 r.2 r.3).0 in
     let q = sym c.linked.ensures ∙ c.in-Some.is in
-    let f = first_part s.rest (way_next s refl q) in
-    omega (arith, named s f.0 f.1 f.2 q, next_below _ _ f.0 _ (held s f.0 f.1 f.2))
+    way_below s (way_next s refl q) q
 
 pub overflow_add-gap : goal.overflow_add-gap
 overflow_add-gap g c =
     let r = c.requires.place in
     let s = (c.loop-next.invariant.at r.0 r.1 r.2 r.3).0 in
     let q = sym c.linked.ensures ∙ c.in-Some.is in
-    let f = first_part s.rest (way_next s refl q) in
-    omega (arith, s.there.offset, next_fits _ _ f.0 _ (held s f.0 f.1 f.2))
+    record { fits = way_ends s (way_next s refl q) q }
 
 pub report-requires-clause-named : goal.report-requires-clause-named
 report-requires-clause-named g c =
     let r = c.requires.place in
     let s = (c.loop-next.invariant.at r.0 r.1 r.2 r.3).0 in
     let q = sym c.linked.ensures ∙ c.in-Some.is in
-    let f = first_part s.rest (way_next s refl q) in
-    omega (
-      arith,
-      named s f.0 f.1 f.2 q,
-      next_below _ _ f.0 _ (held s f.0 f.1 f.2),
-      s.there.there.within,
-      r.2.chain.memory,
-      c.shape.ensures.limit,
-    )
+    way_short s (way_next s refl q) q r.2.chain.memory c.shape.ensures.limit
 
 pub report-requires-clause-within : goal.report-requires-clause-within
 report-requires-clause-within g c =
     let r = c.requires.place in
     let s = (c.loop-next.invariant.at r.0 r.1 r.2 r.3).0 in
     let q = sym c.linked.ensures ∙ c.in-Some.is in
-    let f = first_part s.rest (way_next s refl q) in
-    let t = (g.T.Tables.cells c.loop-next.store.tables).chain in
-    let size : c.size-more.result ≡ f.0.size = c.size-more.ensures.cell ∙ ap (λ k. (node t k).size) (sym (named s f.0 f.1 f.2 q)) ∙ next_node _ _ f.0 _ (held s f.0 f.1 f.2) in
-    omega (arith, size, s.there.offset, s.there.size, next_fits _ _ f.0 _ (held s f.0 f.1 f.2))
+    way_fits s (way_next s refl q) q c.size-more.ensures.cell
 
 pub pass-requires-clause-place : goal.pass-requires-clause-place
 pass-requires-clause-place g c =
     let r = c.requires.place in
     let s = (c.loop-next.invariant.at r.0 r.1 r.2 r.3).0 in
     let q = sym c.linked.ensures ∙ c.in-Some.is in
-    let f = first_part s.rest (way_next s refl q) in
-    (r.0, _, f.0, _, s.there, after_is s f.0 f.1 f.2, named s f.0 f.1 f.2 q)
+    way_place s (way_next s refl q) q
 
 pub loop-next-smaller-then-is_used : goal.loop-next-smaller-then-is_used
 loop-next-smaller-then-is_used g c =
     let r = c.requires.place in
     let s = (c.loop-next.invariant.at r.0 r.1 r.2 r.3).0 in
-    let all : r.1.after ≡ r.1.after ++ [] = sym (append-nil r.1.after) in
-    let few = way_within s (way_next s refl (sym c.linked.ensures ∙ c.in-Some.is)) r.2 all in
-    omega (arith, s.bounded, few, c.size-more.ensures.accesses, c.after-at-in-Some.ensures.accesses, c.is_used.ensures.accesses, c.pass.ensures.accesses.0)
+    let q = sym c.linked.ensures ∙ c.in-Some.is in
+    way_less s (way_next s refl q) q more_by_7 r.2 (sym (append-nil r.1.after)) (way_of_pass c.size-more.ensures.accesses c.after-at-in-Some.ensures.accesses c.is_used.ensures.accesses c.pass.ensures.accesses)
 
 pub loop-next-preserved-then-is_used : goal.loop-next-preserved-then-is_used
 loop-next-preserved-then-is_used g c = record {
@@ -95,21 +78,10 @@ loop-next-preserved-then-is_used g c = record {
   name = c.pass.ensures.name ∙ c.loop-next.invariant.name;
   at = λ m p h idle.
       let i = c.loop-next.invariant.at m p h idle in
-      let s = i.0 in
       let q = sym c.linked.ensures ∙ c.in-Some.is in
-      let f = first_part s.rest (way_next s refl q) in
-      let t = (g.T.Tables.cells c.loop-next.store.tables).chain in
-      let x = held s f.0 f.1 f.2 in
-      let n = named s f.0 f.1 f.2 q in
-      let used : f.0.used ≡ true = sym (next_used _ _ f.0 _ x) ∙ ap (λ k. (node t k).used) n ∙ sym c.is_used.ensures.cell ∙ c.if-is_used.true in
-      let size : c.size-more.result ≡ f.0.size = c.size-more.ensures.cell ∙ ap (λ k. (node t k).size) (sym n) ∙ next_node _ _ f.0 _ x in (
-        way_past s f.0 f.1 f.2 used (c.pass.ensures.gap _ _ f.0 _ s.there (after_is s f.0 f.1 f.2) n) (c.after-at-in-Some.ensures.cell ∙ ap (λ k. (node t k).after) (sym n))
-            (subst (λ (l : List Move). FoldsTo (IsCalledWith g.T.Index.NonMax.NodeIndexNonMax.number (λ f range h. goal.F-step g f range tt h)) c.loop-next.moved l c.report.new.moved)
-            (ap₂ (λ k j. move_of (c.loop-next.gap.offset + c.loop-next.gap.size) c.loop-next.gap.offset (record { name = k; size = j; used = f.0.used })) (sym n) size) (c.report.ensures.called f.0.used))
-            (omega (arith, c.size-more.ensures.accesses, c.after-at-in-Some.ensures.accesses, c.is_used.ensures.accesses, c.pass.ensures.accesses.1))
-            (omega (arith, c.size-more.ensures.accesses, c.after-at-in-Some.ensures.accesses, c.is_used.ensures.accesses, c.pass.ensures.accesses.0)),
-        put_past _ s.done f.0 used c.pass.ensures.unused i.1,
-      );
+      let turn = way_of_pass c.size-more.ensures.accesses c.after-at-in-Some.ensures.accesses c.is_used.ensures.accesses c.pass.ensures.accesses in
+      pass_put i.0 (way_next i.0 refl q) q c.size-more.ensures.cell c.is_used.ensures.cell c.if-is_used.true c.after-at-in-Some.ensures.cell (c.pass.ensures.gap m) c.report.ensures.called
+      turn.least (by_7 turn) (unused_of g.T.Tables.cells c.args.store.now) c.pass.ensures.unused i.1;
 }
 
 pub gather-requires-clause-place : goal.gather-requires-clause-place
@@ -117,26 +89,14 @@ gather-requires-clause-place g c =
     let r = c.requires.place in
     let s = (c.loop-next.invariant.at r.0 r.1 r.2 r.3).0 in
     let q = sym c.linked.ensures ∙ c.in-Some.is in
-    let f = first_part s.rest (way_next s refl q) in
-    let t = (g.T.Tables.cells c.loop-next.store.tables).chain in
-    let n = named s f.0 f.1 f.2 q in (
-      r.0,
-      _,
-      f.0,
-      _,
-      s.there,
-      after_is s f.0 f.1 f.2,
-      n,
-      sym (next_used _ _ f.0 _ (held s f.0 f.1 f.2)) ∙ ap (λ k. (node t k).used) n ∙ sym c.is_used.ensures.cell ∙ c.if-is_used.false,
-    )
+    way_idle s (way_next s refl q) q (refl, refl, refl) c.is_used.ensures.cell c.if-is_used.false
 
 pub loop-next-smaller : goal.loop-next-smaller
 loop-next-smaller g c =
     let r = c.requires.place in
     let s = (c.loop-next.invariant.at r.0 r.1 r.2 r.3).0 in
-    let all : r.1.after ≡ r.1.after ++ [] = sym (append-nil r.1.after) in
-    let few = way_within s (way_next s refl (sym c.linked.ensures ∙ c.in-Some.is)) r.2 all in
-    omega (arith, s.bounded, few, c.size-more.ensures.accesses, c.after-at-in-Some.ensures.accesses, c.is_used.ensures.accesses, c.gather.ensures.accesses)
+    let q = sym c.linked.ensures ∙ c.in-Some.is in
+    way_less s (way_next s refl q) q more_by_7 r.2 (sym (append-nil r.1.after)) (way_of_gather c.size-more.ensures.accesses c.after-at-in-Some.ensures.accesses c.is_used.ensures.accesses c.gather.ensures.accesses)
 
 pub loop-next-preserved : goal.loop-next-preserved
 loop-next-preserved g c = record {
@@ -145,17 +105,10 @@ loop-next-preserved g c = record {
   name = c.gather.ensures.name ∙ c.loop-next.invariant.name;
   at = λ m p h idle.
       let i = c.loop-next.invariant.at m p h idle in
-      let s = i.0 in
       let q = sym c.linked.ensures ∙ c.in-Some.is in
-      let f = first_part s.rest (way_next s refl q) in
-      let t = (g.T.Tables.cells c.loop-next.store.tables).chain in
-      let n = named s f.0 f.1 f.2 q in
-      let free : f.0.used ≡ false = sym (next_used _ _ f.0 _ (held s f.0 f.1 f.2)) ∙ ap (λ k. (node t k).used) n ∙ sym c.is_used.ensures.cell ∙ c.if-is_used.false in (
-        way_into s f.0 f.1 f.2 free (c.gather.ensures.gap _ _ f.0 _ s.there (after_is s f.0 f.1 f.2) n free) (c.after-at-in-Some.ensures.cell ∙ ap (λ k. (node t k).after) (sym n))
-            (omega (arith, c.size-more.ensures.accesses, c.after-at-in-Some.ensures.accesses, c.is_used.ensures.accesses, c.gather.ensures.accesses))
-            (omega (arith, c.size-more.ensures.accesses, c.after-at-in-Some.ensures.accesses, c.is_used.ensures.accesses, c.gather.ensures.accesses)),
-        put_into _ s.done f.0 free n c.gather.ensures.unused i.1,
-      );
+      let turn = way_of_gather c.size-more.ensures.accesses c.after-at-in-Some.ensures.accesses c.is_used.ensures.accesses c.gather.ensures.accesses in
+      into_put i.0 (way_next i.0 refl q) q c.is_used.ensures.cell c.if-is_used.false c.after-at-in-Some.ensures.cell (refl, refl, refl) (c.gather.ensures.gap m) turn.least (by_7 turn)
+      (unused_of g.T.Tables.cells c.args.store.now) c.gather.ensures.unused i.1;
 }
 
 pub close-requires : goal.close-requires
