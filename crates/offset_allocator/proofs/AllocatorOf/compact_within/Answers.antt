@@ -1,7 +1,7 @@
 use Rattle.offset_allocator.proofs.{Moving.Packed.live_sizes, Sound.AreSound, Sound.Fields, Sound.shown, Sound.fields_of, Sound.known_sound, Linking.Places.placed}
 use Rattle.offset_allocator.proofs.Moving.Stepped.{split_filed, split_few, split_steps}
 use Rattle.offset_allocator.proofs.Moving.Budgeted.{IsBegun, Run, begun, slides_live, searches_cost, few_left, few_rest, stops_apart}
-use Rattle.offset_allocator.proofs.Common.{◌≡◌, ℕ, ◌+◌, ◌*◌, ◌≤◌, ◌⊎◌, true, false, List, [], ◌∷◌, ◌++◌, Some, length, refl, sym, ap, subst, ◌∙◌, arith, inl, inr, length-append, not, Block, View, blocks, units, ends_used, HasRoomFor, IsChain, IsCalledWith, true≢false}
+use Rattle.offset_allocator.proofs.Common.{◌≡◌, ℕ, ◌+◌, ◌*◌, ◌≤◌, ◌⊎◌, true, false, List, [], ◌∷◌, ◌++◌, Some, length, refl, sym, ap, subst, ◌∙◌, arith, inl, inr, length-append, not, Block, View, blocks, units, ends_used, AdmitsBlocks, IsChain, IsCalledWith, true≢false}
 use Rattle.offset_allocator.proofs.Common.{max, free_block, replace, take, SameSpace}
 use Rattle.std.specs.List.{FoldsTo}
 use Rattle.offset_allocator.specs.Names.{IsTaken}
@@ -72,7 +72,7 @@ returns-then-not-can_follow-clause-step g c =
         r.back,
         r.reached,
         λ can. elim can [
-          | inl room ↦ absurd (no (c.can_follow.ensures.is.1 (inl (subst (HasRoomFor 1) (sym c.self.view_is) room))))
+          | inl room ↦ absurd (no (c.can_follow.ensures.is.1 (inl (subst (AdmitsBlocks 1) (sym c.self.view_is) room))))
           | inr free ↦ absurd (no (c.can_follow.ensures.is.1 (inr (sym r.end_used ∙ free))))
         ],
       ),
@@ -113,7 +113,7 @@ done g c r k f is =
     let t = c.args.step in
     let run : List Block = r.first ∷ r.rest in
     let e = c.slide_run.ensures.place _ r.front r.first r.rest r.back r.place r.end (split_filed old c.self.invariant t r.front run r.back r.is) in
-    let can : HasRoomFor 1 (shown old) ⊎ (ends_used run ≡ false) = elim (c.can_follow.ensures.is.0 c.if-not-can_follow.false) [ inl room ↦ inl room | inr free ↦ inr (r.end_used ∙ free) ] in
+    let can : AdmitsBlocks 1 (shown old) ⊎ (ends_used run ≡ false) = elim (c.can_follow.ensures.is.0 c.if-not-can_follow.false) [ inl room ↦ inl room | inr free ↦ inr (r.end_used ∙ free) ] in
     let few = few_left t old.limit (shown old) (known_sound old c.self.invariant (shown old) refl).0 refl r.front run r.back r.is (λ q. absurd (cc)) can in
     let s = split_steps old c.self.invariant t r.front run r.back r.is (ap not r.free) (stops_apart c.args.most_units c.args.most_ranges r.rest r.back r.reached.stops) few (g.T.Tables.cells c.slide_run.new.store.tables)
     c.slide_run.new.store.last c.slide_run.new.store.spare_count e.0 e.3 {accesses = k} c.slide_run.ensures.binned e.5 e.6 in

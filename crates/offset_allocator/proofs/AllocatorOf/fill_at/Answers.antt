@@ -1,6 +1,6 @@
 use Rattle.offset_allocator.proofs.{AtPlace.at_counted, AtPlace.serves, Classes.down_small, Granting.found_itself, Holding.first_is, Holding.place_there, Linking.Places.at_place, Linking.Places.placed}
 use Rattle.offset_allocator.proofs.{Served.split_as, Sound.Fields, Sound.fields_of, Sound.known_sound, Sound.shown, Sound.well_counted, Common.◌++◌, Common.IsWellFormed, Common.HasPlace, Common.IsChain, Common.List}
-use Rattle.offset_allocator.proofs.Common.{◌≡◌, ℕ, ◌-◌, ◌<◌, ◌∷◌, ◌∙◌, None, Some, ap, arith, refl, subst, sym, bin_at, remove, units, value, Block, HasRoomFor, Node, node, Place, Splits, View}
+use Rattle.offset_allocator.proofs.Common.{◌≡◌, ℕ, ◌-◌, ◌<◌, ◌∷◌, ◌∙◌, None, Some, ap, arith, refl, subst, sym, bin_at, remove, units, value, Block, AdmitsBlocks, Node, node, Place, Splits, View}
 use Rattle.offset_allocator.specs.{AtPlace.AllocatesAt, AtPlace.CanGrantAt, AtPlace.GrantsAt, AtPlace.blocks_added, Tight.with_first}
 use Rattle.offset_allocator.proofs.Common.{◌+◌, ◌≤◌, max}
 use Rattle.std.specs.Prelude.{min}
@@ -24,7 +24,7 @@ module _ {begin whole padding n m offset : ℕ} (rest : ℕ) (p : Place) (begin_
   added_is : {m₁ m₂ more : ℕ} → m₁ ≡ min padding 1 → m₂ ≡ min rest 1 → more ≡ max (m₁ + m₂) 1 → more ≡ max 1 (blocks_added offset n p)
   added_is a b c = omega (arith, begin_is, whole_is, within, padding_is, sum_is)
 
-room_of : (i j k : ℕ) (v : View) → HasRoomFor j v → i ≤ j → k ≡ i → HasRoomFor k v
+room_of : (i j k : ℕ) (v : View) → AdmitsBlocks j v → i ≤ j → k ≡ i → AdmitsBlocks k v
 room_of i j k v a b c = omega arith
 
 -- the block, in the tables
@@ -62,9 +62,9 @@ returns-in-None-clause-step g c =
     λ h. omega (arith, (serves c.args.self.now c.args.offset c.args.size l.0 l.1 l.4 l.5 h.at).holds.1, c.in-None.ensures.none refl, begin, whole, l.4) in
     subst (λ (u : View). AllocatesAt c.args.offset c.args.size u left None) c.self.view_is (λ h. no (subst (CanGrantAt c.args.offset c.args.size) c.self.view_is h), refl)
 
-pub returns-then-not-has_room_for-clause-step : goal.returns-then-not-has_room_for-clause-step
-returns-then-not-has_room_for-clause-step g c =
-    let at = (goal.at.returns-then-not-has_room_for-clause-step g c).After-formed in
+pub returns-then-not-admits_blocks-clause-step : goal.returns-then-not-admits_blocks-clause-step
+returns-then-not-admits_blocks-clause-step g c =
+    let at = (goal.at.returns-then-not-admits_blocks-clause-step g c).After-formed in
     let l = c.requires.last in
     let f : Fields = fields_of g.T.Tables.cells g.T.Index.NodeIndex.MAX c.self.inside in
     let left : View = shown (record f { accesses = c.size-whole.new.count }) in
@@ -74,8 +74,8 @@ returns-then-not-has_room_for-clause-step g c =
     let no : CanGrantAt c.args.offset c.args.size c.args.self.now → ⊥ = λ h.
     let s = serves c.args.self.now c.args.offset c.args.size l.0 l.1 l.4 l.5 h.at in
     let room = room_of _ _ c.max-more.result c.args.self.now h.room s.added (added_is c.in-Some.parts.remainder l.0 begin whole l.4 parts.0 parts.1 parts.2 c.min.ensures c.min-2.ensures c.max-more.ensures) in
-    let t = c.has_room_for.ensures.1 (subst (HasRoomFor c.max-more.result) (sym c.self.view_is) room) in
-    let n = c.if-not-has_room_for.true in
+    let t = c.admits_blocks.ensures.1 (subst (AdmitsBlocks c.max-more.result) (sym c.self.view_is) room) in
+    let n = c.if-not-admits_blocks.true in
     absurd (cc) in
     subst (λ (u : View). AllocatesAt c.args.offset c.args.size u left None) c.self.view_is (λ h. no (subst (CanGrantAt c.args.offset c.args.size) c.self.view_is h), refl)
 
@@ -153,10 +153,10 @@ returns-clause-step g c =
     let P : View → Type 0 = λ u. Splits (value k) c.in-Some.parts.size (λ begin. c.args.offset - begin) u c.grant_part.new.self c.grant_part.result in
     let base = split_as (subst P same (c.grant_part.ensures.step (value k) found)) v.accesses c.grant_part.new.self.accesses (λ begin. c.args.offset - begin) (λ o. refl) in
     let S : ℕ → ℕ → ℕ → Type 0 = λ j n x. Splits (value j) n (λ begin. c.args.offset - begin) (with_first j x v) c.grant_part.new.self c.grant_part.result in
-    let room : HasRoomFor c.max-more.result v = c.has_room_for.ensures.0 c.if-not-has_room_for.false in
+    let room : AdmitsBlocks c.max-more.result v = c.admits_blocks.ensures.0 c.if-not-admits_blocks.false in
     let r : GrantsAt c.args.offset c.args.size v c.grant_part.new.self c.grant_part.result = record {
       at = record { place = p; there = t; free = l.3; holds = (l.4, held_units c.in-Some.parts.remainder l.0 begin whole l.4 parts.0 parts.1 parts.2) };
-      room = subst (λ (i : ℕ). HasRoomFor i v) (added_is c.in-Some.parts.remainder l.0 begin whole l.4 parts.0 parts.1 parts.2 c.min.ensures c.min-2.ensures c.max-more.ensures) room;
+      room = subst (λ (i : ℕ). AdmitsBlocks i v) (added_is c.in-Some.parts.remainder l.0 begin whole l.4 parts.0 parts.1 parts.2 c.min.ensures c.min-2.ensures c.max-more.ensures) room;
       last = l.5;
       split = subst (λ j. S j c.args.size p.block.name) ke (subst (λ n. S k n p.block.name) parts.1 (subst (λ x. S k c.in-Some.parts.size x) (sym l.2) base));
     } in
