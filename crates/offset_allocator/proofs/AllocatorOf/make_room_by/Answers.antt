@@ -1,7 +1,7 @@
 use Rattle.offset_allocator.proofs.{Classes.below_value_up, Sound.Fields, Sound.shown, Sound.fields_of, Taken.HasFit}
 use Rattle.offset_allocator.proofs.Moving.RoomsBySteps.{class_few, class_needed, found_by, found_none, opened_at, opened_granted}
 use Rattle.offset_allocator.proofs.Moving.RoomsBySteps.{past_by}
-use Rattle.offset_allocator.proofs.Common.{◌≡◌, ◌+◌, ◌-◌, ◌∙◌, ℕ, List, Option, Some, None, is_some, true, bin_at, refl, sym, ap, subst, arith, up, value, live, View, HasRoomFor, blocks_needed, units_needed}
+use Rattle.offset_allocator.proofs.Common.{◌≡◌, ◌+◌, ◌-◌, ◌∙◌, ℕ, List, Option, Some, None, is_some, true, bin_at, refl, sym, ap, subst, arith, up, value, View, HasRoomFor, blocks_needed, units_needed}
 use Rattle.offset_allocator.specs.Bins.{IsFoundFrom}
 use Rattle.offset_allocator.specs.Moving.RoomBySteps.{names_short}
 use Rattle.offset_allocator.proofs.Moving.RoomsBySteps.{IsOpenedBy, found_both, opened_filed, opened_place, slid, slid_sound, slid_costs}
