@@ -1,8 +1,7 @@
 use Rattle.offset_allocator.proofs.{Linking.Places.at_place, Linking.Names.kept_unused}
-use Rattle.offset_allocator.proofs.Common.{true, false, refl, sym, ap, ◌∙◌, arith, Node, bins_in, remove, push}
+use Rattle.offset_allocator.proofs.Common.{refl, sym, ap, ◌∙◌, arith, Node, bins_in}
 use Rattle.offset_allocator.proofs.Moving.Stepping.{turn_below, turn_short, turn_ends, turn_fits, turn_place, turn_idle, turn_listed, turn_less, turn_past, turn_into, turn_part, turn_grows, turn_of_pass, turn_of_into, turn_of_part, part_below, part_idle, part_unlisted, run_once, stepping_start, stepping_end, stepping_done}
 use Rattle.offset_allocator.proofs.{Classes.down_small, Moving.Refiled.rebinned_is}
-use Rattle.offset_allocator.specs.Moving.BySteps.{kept}
 use Rattle.offset_allocator.proofs.moves.by_steps.slide_by.Goals as goal
 
 pub open-gap-requires-clause-size : goal.open-gap-requires-clause-size

@@ -1,5 +1,5 @@
 use Rattle.offset_allocator.proofs.{Linking.Places.at_place}
-use Rattle.offset_allocator.proofs.Common.{◌+◌, ◌++◌, true, false, List, refl, sym, ap, append-nil, ◌*◌, ◌∙◌, arith, Block, Node}
+use Rattle.offset_allocator.proofs.Common.{◌++◌, List, refl, sym, ap, append-nil, ◌*◌, ◌∙◌, arith, Block, Node}
 use Rattle.offset_allocator.proofs.Moving.Stretches.{way_below, way_short, way_ends, way_fits, way_place, way_idle, way_less, way_of_pass, way_of_gather, by_7, more_by_7, pass_put, into_put, way_start, way_next, way_end, way_done, put_none}
 use Rattle.offset_allocator.specs.{Names.free_blocks, Names.names_of, Store.unused_of}
 use Rattle.offset_allocator.proofs.moves.compact.slide.Goals as goal

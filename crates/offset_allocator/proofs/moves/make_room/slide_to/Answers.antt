@@ -1,6 +1,6 @@
 use Rattle.offset_allocator.proofs.{Linking.Places.at_place}
 use Rattle.offset_allocator.proofs.{Linking.Names.kept_unused}
-use Rattle.offset_allocator.proofs.Common.{◌+◌, ◌++◌, true, false, List, refl, sym, ap, ap₂, subst, ◌∙◌, append-nil, Block, ◌*◌, remove, arith, Node}
+use Rattle.offset_allocator.proofs.Common.{◌++◌, List, refl, sym, ap, ap₂, subst, ◌∙◌, append-nil, Block, ◌*◌, arith, Node}
 use Rattle.offset_allocator.proofs.Common.{AreInBins, bins_in}
 use Rattle.offset_allocator.proofs.Moving.Stretches.{way_below, way_short, way_ends, way_fits, way_place, way_idle, way_listed, way_less, way_grows, way_of_pass, way_of_into, wide_way, by_15, more_by_15, pass_filed, into_filed, into_place, last_done, last_out, last_filed, last_put, way_start, way_more, put_none}
 use Rattle.offset_allocator.proofs.Moving.Stretches.{run_some}

@@ -1,4 +1,4 @@
-use Rattle.offset_allocator.proofs.Common.{◌∙◌, ◌++◌, ◌∷◌, List, [], Some, false, length, length-append, refl, sym, ap, subst, arith, append-nil, Block, Node, blocks}
+use Rattle.offset_allocator.proofs.Common.{◌∙◌, ◌++◌, ◌∷◌, List, [], Some, length, length-append, refl, sym, ap, subst, arith, append-nil, Block, Node}
 use Rattle.offset_allocator.proofs.{Linking.Places.at_place, Moving.Runs.block_is}
 use Rattle.offset_allocator.proofs.Moving.Searching.{IsWalked, walk_below, walk_before, walk_past, walk_few, walk_first, walk_found, walk_fits, walk_on, walk_less, few_nodes, none_next, first_there, no_run, best_is}
 use Rattle.offset_allocator.specs.{Moving.RoomBySteps.IsCheapestBy}
