@@ -1,7 +1,7 @@
 use Rattle.offset_allocator.proofs.{Classes.below_value_up, Sound.Fields, Sound.shown, Sound.fields_of, Taken.HasFit}
 use Rattle.offset_allocator.proofs.Moving.RoomsBySteps.{class_few, class_needed, found_by, found_none, opened_at, opened_granted}
 use Rattle.offset_allocator.proofs.Moving.RoomsBySteps.{past_by}
-use Rattle.offset_allocator.proofs.Common.{◌≡◌, ◌+◌, ◌-◌, ◌∙◌, ℕ, List, Option, Some, None, is_some, true, bin_at, refl, sym, ap, subst, arith, up, value, View, HasRoomFor, blocks_needed, units_needed}
+use Rattle.offset_allocator.proofs.Common.{◌≡◌, ◌+◌, ◌-◌, ◌∙◌, ℕ, List, Option, Some, None, is_some, true, bin_at, refl, sym, ap, subst, arith, up, value, View, AdmitsBlocks, blocks_needed, units_needed}
 use Rattle.offset_allocator.specs.Bins.{IsFoundFrom}
 use Rattle.offset_allocator.specs.Moving.RoomBySteps.{names_short}
 use Rattle.offset_allocator.proofs.Moving.RoomsBySteps.{IsOpenedBy, found_both, opened_filed, opened_place, slid, slid_sound, slid_costs}
@@ -42,7 +42,7 @@ fit n k v ls (Some c) e o f s = (c, omega (arith, e, f.0), λ q. f.2 (ap (λ (l 
 
 pub returns-then-is_some-clause-cost : goal.returns-then-is_some-clause-cost
 returns-then-is_some-clause-cost g c =
-    let room : HasRoomFor (blocks_needed c.args.align) c.args.self.now = omega (arith, c.if-unused-blocks.true, c.min-blocks.ensures, c.unused_nodes-unused.ensures) in
+    let room : AdmitsBlocks (blocks_needed c.args.align) c.args.self.now = omega (arith, c.if-unused-blocks.true, c.min-blocks.ensures, c.unused_nodes-unused.ensures) in
     let up_is = class_needed c.args.size c.args.align c.uint_to_float_round_up-class.result c.requires.alignment c.uint_to_float_round_up-class.ensures.is in
     found_by c.args.step (blocks_needed c.args.align) (units_needed c.args.size c.args.align) c.args.self.now c.formed.ensures room
     (fit (units_needed c.args.size c.args.align) c.uint_to_float_round_up-class.result c.args.self.now _ c.find_at_or_above-found.result up_is (ap (λ (u : View). u.bins) c.self.view_is)
@@ -51,9 +51,9 @@ returns-then-is_some-clause-cost g c =
 pub returns-then-is_some-clause-granted : goal.returns-then-is_some-clause-granted
 returns-then-is_some-clause-granted g c =
     let f : Fields = fields_of g.T.Tables.cells g.T.Index.NodeIndex.MAX c.self.inside in
-    let room : HasRoomFor (blocks_needed c.args.align) c.args.self.now = omega (arith, c.if-unused-blocks.true, c.min-blocks.ensures, c.unused_nodes-unused.ensures) in
+    let room : AdmitsBlocks (blocks_needed c.args.align) c.args.self.now = omega (arith, c.if-unused-blocks.true, c.min-blocks.ensures, c.unused_nodes-unused.ensures) in
     let up_is = class_needed c.args.size c.args.align c.uint_to_float_round_up-class.result c.requires.alignment c.uint_to_float_round_up-class.ensures.is in (
-      subst (HasRoomFor (blocks_needed c.args.align)) (sym c.self.view_is) room,
+      subst (AdmitsBlocks (blocks_needed c.args.align)) (sym c.self.view_is) room,
       fit (units_needed c.args.size c.args.align) c.uint_to_float_round_up-class.result (shown f) _ c.find_at_or_above-found.result up_is refl
           c.find_at_or_above-found.ensures.smallest (sym c.is_some.ensures ∙ c.if-is_some.true),
     )
