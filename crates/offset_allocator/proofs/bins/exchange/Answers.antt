@@ -1,4 +1,4 @@
-use Rattle.offset_allocator.proofs.{Common.◌≡◌, Common.◌∙◌, Common.sym, Common.arith, Common.refl, Common.length-set, Common.down, Filing.Binned.below, Filing.Binned.older_in, Filing.Binned.newer_past, Filing.Binned.is_first}
+use Rattle.offset_allocator.proofs.{Common.◌≡◌, Common.◌∙◌, Common.arith, Common.refl, Common.length-set, Common.down, Filing.Binned.below, Filing.Binned.older_in, Filing.Binned.newer_past, Filing.Binned.is_first}
 use Rattle.offset_allocator.proofs.{Filing.Binned.exchanged}
 use Rattle.offset_allocator.proofs.{Filing.Binned.exchange_masked, Filing.Binned.changed, Classes.down_small, Views.ViewBins.unlisted_removed, Filing.Uses.after_idle, Filing.Uses.no_mark}
 use Rattle.offset_allocator.proofs.bins.exchange.Goals as goal

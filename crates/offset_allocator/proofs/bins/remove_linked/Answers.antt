@@ -1,4 +1,4 @@
-use Rattle.offset_allocator.proofs.{Common.◌≡◌, Common.◌≢◌, Common.◌∙◌, Common.arith, Common.refl, Common.slice_index, Classes.down_small, Filing.Uses.after_idle, Filing.Uses.no_mark}
+use Rattle.offset_allocator.proofs.{Common.◌≢◌, Common.◌∙◌, Common.arith, Common.refl, Common.slice_index, Classes.down_small, Filing.Uses.after_idle, Filing.Uses.no_mark}
 use Rattle.offset_allocator.proofs.Filing.Binned.{below, newer_in, newer_past, older_in, is_first, is_later, later_masked, left, changed}
 use Rattle.offset_allocator.proofs.bins.remove_linked.Goals as goal
 
