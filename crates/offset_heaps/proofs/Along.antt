@@ -1,15 +1,12 @@
 -- The live places of all heaps, one after another.
-use Rattle.std.proofs.Common.{◌≡◌, ℕ, suc, ◌+◌, ◌<◌, ◌≤◌, length, List, [], ◌∷◌, Option, Some, None, IsSome, drop, is_some, nat_eq, refl, sym, ap, subst, ◌∙◌, inl, inr, arith, add-one}
+use Rattle.std.proofs.Common.{◌≡◌, ℕ, suc, ◌+◌, ◌≤◌, length, None, drop, sym, ap, ◌∙◌, inl, inr, arith}
 use Rattle.std.specs.Option.{option_or}
 use Rattle.std.proofs.lemmas.Bool.{cases_lt}
 use Rattle.std.proofs.Math.Seq.{drop-cons}
 use Rattle.std.proofs.lemmas.List.{drop_all}
-use Rattle.offset_guarded.specs.Guard.{Guard}
-use Rattle.offset_heaps.specs.declared.place.Place.{Place}
-use Rattle.offset_heaps.specs.Heaps.{Heaps, IsLive, heap_at, range_in, range_of, slot}
+use Rattle.offset_heaps.specs.Heaps.{Heaps, heap_at}
 use Rattle.offset_heaps.specs.Numbering.{first_among, first_from, first_live_in}
-use Rattle.offset_allocator.specs.Ranges.{Range}
-use Rattle.offset_heaps.proofs.{Numbers.slot_past, Places.none_if}
+use Rattle.offset_heaps.proofs.{Numbers.slot_past}
 
 pub first_past : (k : ℕ) (hs : Heaps) → length hs.slots ≤ k → first_from k hs ≡ None
 first_past k hs past = ap (first_among k hs.realm) (drop_all k hs.slots past)

@@ -18,7 +18,7 @@ use Rattle.offset_guarded.specs.Guard as guarded
 use Rattle.offset_guarded.specs.declared.ticket.Ticket.{Ticket}
 use Rattle.offset_heaps.specs.declared.limits.Limits.{Limits}
 use Rattle.offset_heaps.specs.declared.place.Place.{Place}
-use Rattle.offset_heaps.specs.Changing.{HasNodesFor, blocks_more, NewSize, Shrunk, Grown, Alters, AltersIn, HasUnits, MakesRoomAt, MakesRoomIn, Resizes, ResizesSpace}
+use Rattle.offset_heaps.specs.Changing.{HasNodesFor, blocks_more, NewSize, Shrunk, Grown, Alters, AltersIn, MakesRoomAt, MakesRoomIn, Resizes, ResizesSpace}
 use Rattle.offset_heaps.specs.Calls.{Notes}
 use Rattle.offset_heaps.specs.Heaps.{HasNodesLeft, Heaps, KeepsOthers, Puts, heap_at, range_in, range_of, slot}
 use Rattle.offset_heaps.specs.{Slots.Changes, Twins.AreTwins, Twins.IsTwin, Twins.IsTwinIn}

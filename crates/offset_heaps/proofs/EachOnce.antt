@@ -1,18 +1,17 @@
 -- A walk over all heaps meets each live place once.
-use Rattle.std.proofs.Common.{◌≡◌, ◌≢◌, ℕ, zero, suc, ◌+◌, ◌<◌, ◌≤◌, Bool, true, false, ◌&&◌, if◌then◌else◌, length, List, [], ◌∷◌, ◌++◌, Option, Some, None, IfSome, drop, is_some, map, nat_eq, option_map, refl, sym, ap, ap₂, subst, ◌∙◌, inl, inr, arith}
+use Rattle.std.proofs.Common.{◌≡◌, ℕ, zero, suc, ◌+◌, ◌<◌, Bool, true, false, ◌&&◌, if◌then◌else◌, length, List, [], ◌∷◌, ◌++◌, Option, Some, None, IfSome, drop, is_some, map, nat_eq, option_map, refl, sym, ap, ap₂, subst, ◌∙◌, inl, inr, arith}
 use Rattle.std.proofs.Common.{add-one, eq-eqb, ne_eqb}
 use Rattle.std.specs.Option.{option_or}
 use Rattle.std.proofs.lemmas.Bool.{cases_eq, cases_lt}
 use Rattle.std.proofs.Math.Seq.{drop-cons}
 use Rattle.std.proofs.lemmas.List.{drop_all}
 use Rattle.offset_allocator.specs.Reporting.Walking.{IsWalk, first_live, live_after, live_handles}
-use Rattle.offset_allocator.specs.{Ranges.Range, View.Handle, View.IsWellFormed, View.View, View.one, View.tally}
+use Rattle.offset_allocator.specs.{Ranges.Range, View.Handle, View.IsWellFormed, View.one, View.tally}
 use Rattle.offset_allocator.specs.Ranges as named
 use Rattle.offset_allocator.proofs.{Reporting.AlongLive.all_met as handles_met, Reporting.AlongLive.forward, Tallies.tally_append}
-use Rattle.offset_guarded.specs.Guard.{Guard, serial_of, ticket_at}
-use Rattle.offset_guarded.specs.Guard as guarded
+use Rattle.offset_guarded.specs.Guard.{Guard, serial_of}
 use Rattle.offset_heaps.specs.declared.place.Place.{Place}
-use Rattle.offset_heaps.specs.Heaps.{Heaps, heap_at, range_in, range_of, slot}
+use Rattle.offset_heaps.specs.Heaps.{Heaps, heap_at, range_in, slot}
 use Rattle.offset_heaps.specs.Numbering.{AreOfLive, MeetsPlaces, first_from, first_live_in, is_alike, live_places, next_place, places_from, places_in}
 use Rattle.offset_heaps.specs.Relocating.{place_in}
 use Rattle.offset_heaps.specs.State as state

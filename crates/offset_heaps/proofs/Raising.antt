@@ -2,7 +2,7 @@
 -- it has as many unused nodes as between two calls.
 use Rattle.std.proofs.Common.{◌≡◌, ℕ, zero, suc, ◌+◌, ◌*◌, ◌<◌, ◌≤◌, ◌⊎◌, min, true, List, [], ◌∷◌, ◌++◌, Option, Some, None, IfSome, Result, Ok, Err, IfOk, IsErr, length, length-append, slice_set, refl, sym, ap, ◌∙◌, subst, inl, inr, arith}
 use Rattle.std.proofs.lemmas.Bool.{cases_lt, lt-ltb}
-use Rattle.offset_allocator.specs.{Relations.Frees, Relations.Resets, Relations.Splits, View.Block, View.Handle, View.IsWellFormed, View.View, View.free_block, View.free_part, View.units}
+use Rattle.offset_allocator.specs.{Relations.Frees, Relations.Splits, View.Block, View.Handle, View.IsWellFormed, View.View, View.free_block, View.free_part, View.units}
 use Rattle.offset_allocator.proofs.Raised.{well_under}
 use Rattle.offset_guarded.specs.Guard.{Guard, IsRaised}
 use Rattle.offset_guarded.specs.Guard as guarded

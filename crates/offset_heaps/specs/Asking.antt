@@ -2,7 +2,7 @@
 use Rattle.std.specs.Prelude.{◌≡◌, ℕ, ◌≤◌, ◌⊎◌, Option, None, Some}
 use Rattle.offset_allocator.specs.Requests.{blocks_needed, units_needed}
 use Rattle.offset_heaps.specs.declared.refusal.Refusal.{Refusal}
-use Rattle.offset_heaps.specs.declared.refusal.Refusal.TheVariants.{Empty, TooLarge, Full, Memory}
+use Rattle.offset_heaps.specs.declared.refusal.Refusal.TheVariants.{TooLarge, Full, Memory}
 use Rattle.offset_heaps.specs.Heaps.{Heaps, IsFirstFit, IsNext, IsUnmet, IsWhy, MayEverFit}
 
 -- a request would be granted, if memory is given: some heap has room, or another may be made

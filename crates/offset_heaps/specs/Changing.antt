@@ -1,5 +1,5 @@
 -- What a call changes of one heap alone, in place: its ranges keep their places.
-use Rattle.std.specs.Prelude.{◌≡◌, ℕ, ◌+◌, ◌*◌, ◌<◌, ◌≤◌, Bool, true, false, List, [], ◌∷◌, ◌++◌, Option, None, Some, IfSome, is_some, length, map, option_map}
+use Rattle.std.specs.Prelude.{◌≡◌, ℕ, ◌+◌, ◌*◌, ◌≤◌, Bool, true, false, List, [], ◌∷◌, ◌++◌, Option, None, Some, IfSome, is_some, length, map, option_map}
 use Rattle.offset_allocator.specs.Classes.{up, value}
 use Rattle.offset_allocator.specs.Moving.Compacting.{Compacts, IsCalledWith, Move, moves}
 use Rattle.offset_allocator.specs.declared.moves.one_move.Move.{Move as Moved}

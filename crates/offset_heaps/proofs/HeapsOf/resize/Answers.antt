@@ -1,7 +1,6 @@
 use Rattle.std.proofs.Common.{◌+◌, ◌<◌, ◌≤◌, Bool, ap, arith, inl, inr, is_some, length, min, refl, subst}
 use Rattle.std.proofs.lemmas.Bool.{cases_Bool}
 use Rattle.offset_allocator.specs.View.{View}
-use Rattle.offset_guarded.specs.Guard.{Guard}
 use Rattle.offset_heaps.specs.Changing.{CanResizeIn, Resizes, ResizesSpace, new_size}
 use Rattle.offset_heaps.specs.Heaps.{HasNodesLeft}
 use Rattle.offset_heaps.proofs.Raising.{still_left}
