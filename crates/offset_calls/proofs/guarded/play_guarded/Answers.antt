@@ -9,9 +9,9 @@ pub loop-call-preserved : goal.loop-call-preserved
 loop-call-preserved g c =
     let cs = c.args.calls.now in
     let i = c.loop-call.call-index in
-    let ts = c.loop-call.guarded_playing.tickets.items in
+    let ts = c.loop-call.player.tickets.items in
     let within : i < length cs = omega arith in
-    goes_on c.args.size c.args.max_allocs c.args.realm c.requires.low c.loop-call.guarded_playing.space c.append.new.guarded_playing.space ts c.append.new.guarded_playing.tickets.items cs i _
+    goes_on c.args.size c.args.max_allocs c.args.realm c.requires.low c.loop-call.player.space c.append.new.player.space ts c.append.new.player.tickets.items cs i _
     c.loop-call.replies.items c.append.new.replies.items
     c.loop-call.invariant.all_tickets c.loop-call.invariant.few c.loop-call.invariant.played c.loop-call.invariant.realm c.loop-call.invariant.granted
     (subst IsWellFormed c.allocator-in-loop-call.ensures c.is_well_formed-in-loop-call.ensures) within
@@ -27,7 +27,7 @@ pub returns-clause-replies : goal.returns-clause-replies
 returns-clause-replies g c = search (arith, ends, take_all)
 
 pub returns-clause-tickets : goal.returns-clause-tickets
-returns-clause-tickets g c = subst (λ r. AreInOrder r 0 c.loop-call.guarded_playing.tickets.items) c.loop-call.invariant.realm c.loop-call.invariant.all_tickets.order
+returns-clause-tickets g c = subst (λ r. AreInOrder r 0 c.loop-call.player.tickets.items) c.loop-call.invariant.realm c.loop-call.invariant.all_tickets.order
 
 pub returns-clause-count : goal.returns-clause-count
 returns-clause-count g c = search (arith, all_granted, take_all)

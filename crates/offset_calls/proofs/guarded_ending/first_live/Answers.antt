@@ -2,4 +2,4 @@ use Rattle.offset_calls.proofs.{Common.ap, Common.reply_view, EndServed.first_se
 use Rattle.offset_calls.proofs.guarded_ending.first_live.Goals as goal
 
 pub returns : goal.returns
-returns g c = first_serves c.args.guarded_playing.now.space c.args.guarded_playing.now.tickets.items c.requires.all_tickets c.requires.kept c.first_live.result _ (ap reply_view c.numbered.ensures) c.first_live.ensures
+returns g c = first_serves c.args.player.now.space c.args.player.now.tickets.items c.requires.all_tickets c.requires.kept c.first_live.result _ (ap reply_view c.numbered.ensures) c.first_live.ensures

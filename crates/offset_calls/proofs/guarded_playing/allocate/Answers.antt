@@ -5,7 +5,7 @@ use Rattle.offset_calls.proofs.guarded_playing.allocate.Goals as goal
 pub returns : goal.returns
 returns g c = if_ok c.keep.result
     (λ a k.
-    let s = stored c.args.size c.args.guarded_playing.now.space c.allocate-granted.new.self c.args.guarded_playing.now.tickets.items c.keep.new.tickets.items c.allocate-granted.result _ c.requires.all_tickets
+    let s = stored c.args.size c.args.player.now.space c.allocate-granted.new.self c.args.player.now.tickets.items c.keep.new.tickets.items c.allocate-granted.result _ c.requires.all_tickets
     c.allocate-granted.ensures.grants c.allocate-granted.ensures.same k in
     record { takes = (_, (_, c.allocate-granted.ensures.step c.requires.left, s.0), refl); all_tickets = s.1; grown = s.2; realm = s.3 })
     c.keep.ensures

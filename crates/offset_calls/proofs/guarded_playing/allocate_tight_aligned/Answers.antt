@@ -3,7 +3,7 @@ use Rattle.offset_calls.proofs.guarded_playing.allocate_tight_aligned.Goals as g
 
 pub returns : goal.returns
 returns g c =
-    let s = stored c.args.size c.args.guarded_playing.now.space c.allocate_tight_aligned-granted.new.self c.args.guarded_playing.now.tickets.items c.keep.new.tickets.items c.allocate_tight_aligned-granted.result _
+    let s = stored c.args.size c.args.player.now.space c.allocate_tight_aligned-granted.new.self c.args.player.now.tickets.items c.keep.new.tickets.items c.allocate_tight_aligned-granted.result _
     c.requires.all_tickets
     c.allocate_tight_aligned-granted.ensures.grants c.allocate_tight_aligned-granted.ensures.same c.in_ok-keep.ensures in
     record { takes = (_, _, c.allocate_tight_aligned-granted.ensures.step c.requires.left, s.0, refl); all_tickets = s.1; grown = s.2; realm = s.3 }

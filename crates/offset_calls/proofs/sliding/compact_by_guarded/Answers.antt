@@ -7,22 +7,22 @@ use Rattle.offset_calls.proofs.sliding.compact_by_guarded.Goals as goal
 
 pub with_serials-requires : goal.with_serials-requires
 with_serials-requires g c =
-    let old = c.args.guarded_playing.now.space in
+    let old = c.args.player.now.space in
     let now = c.compacted_by_guarded-done.new.space in
-    let hs = handles_of old c.args.guarded_playing.now.tickets.items in
+    let hs = handles_of old c.args.player.now.tickets.items in
     let ss = c.compacted_by_guarded-done.new.seen.found.items in
     record {
       live = subst (All (λ s. range_of s.0.name now.space ≡ None → ⊥)) (sym c.deref.ensures.value)
           (slides_live hs (λ x. range_of x now.space ≡ None → ⊥)
-          (slid_live old now c.args.guarded_playing.now.tickets.items c.requires.all_tickets c.compacted_by_guarded-done.ensures.sizes c.compacted_by_guarded-done.ensures.serials)
+          (slid_live old now c.args.player.now.tickets.items c.requires.all_tickets c.compacted_by_guarded-done.ensures.sizes c.compacted_by_guarded-done.ensures.serials)
           ss (steps_numbers old.space now.space hs ss c.requires.kept c.args.step c.compacted_by_guarded-done.result (c.compacted_by_guarded-done.ensures.moves c.if-seen.false)));
     }
 
 pub returns : goal.returns
 returns g c =
-    let old = c.args.guarded_playing.now.space in
+    let old = c.args.player.now.space in
     let now = c.compacted_by_guarded-done.new.space in
-    let ts = c.args.guarded_playing.now.tickets.items in
+    let ts = c.args.player.now.tickets.items in
     slid_serves (call.CompactBy c.args.step) old now ts _ c.requires.all_tickets c.compacted_by_guarded-done.ensures.sizes c.compacted_by_guarded-done.ensures.serials
     (subst (Takes (call.CompactBy c.args.step) old.space (handles_of old ts) now.space (handles_of old ts)) (sym c.by_steps.ensures)
     (steps_take old.space now.space (handles_of old ts) c.compacted_by_guarded-done.new.seen.found.items c.requires.kept (λ x. serial_of x now) _

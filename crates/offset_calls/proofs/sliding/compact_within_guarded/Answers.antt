@@ -7,21 +7,21 @@ use Rattle.offset_calls.proofs.sliding.compact_within_guarded.Goals as goal
 
 pub with_serials-requires : goal.with_serials-requires
 with_serials-requires g c =
-    let old = c.args.guarded_playing.now.space in
+    let old = c.args.player.now.space in
     let now = c.moved_within_guarded-progress.new.space in
-    let hs = handles_of old c.args.guarded_playing.now.tickets.items in
+    let hs = handles_of old c.args.player.now.tickets.items in
     let ss = c.moved_within_guarded-progress.new.seen.found.items in
     record {
       live = subst (All (λ s. range_of s.0.name now.space ≡ None → ⊥)) (sym c.deref.ensures.value)
-          (slides_live hs (λ x. range_of x now.space ≡ None → ⊥) (slid_live old now c.args.guarded_playing.now.tickets.items c.requires.all_tickets c.moved_within_guarded-progress.ensures.sizes c.moved_within_guarded-progress.ensures.serials)
+          (slides_live hs (λ x. range_of x now.space ≡ None → ⊥) (slid_live old now c.args.player.now.tickets.items c.requires.all_tickets c.moved_within_guarded-progress.ensures.sizes c.moved_within_guarded-progress.ensures.serials)
           ss (within_numbers old.space now.space hs ss c.requires.kept c.args.step c.args.from c.args.most_units c.args.most_ranges c.moved_within_guarded-progress.result (c.moved_within_guarded-progress.ensures.step c.if-seen.false)));
     }
 
 pub returns : goal.returns
 returns g c =
-    let old = c.args.guarded_playing.now.space in
+    let old = c.args.player.now.space in
     let now = c.moved_within_guarded-progress.new.space in
-    let ts = c.args.guarded_playing.now.tickets.items in
+    let ts = c.args.player.now.tickets.items in
     slid_serves (call.CompactWithin c.args.step c.args.from c.args.most_units c.args.most_ranges) old now ts _ c.requires.all_tickets c.moved_within_guarded-progress.ensures.sizes c.moved_within_guarded-progress.ensures.serials (subst (Takes (call.CompactWithin c.args.step c.args.from c.args.most_units c.args.most_ranges) old.space (handles_of old ts) now.space (handles_of old ts)) (sym c.so_far.ensures) (
       within_takes old.space now.space (handles_of old ts) c.moved_within_guarded-progress.new.seen.found.items c.requires.kept (λ x. serial_of x now) _
           (slid_serial old now ts c.requires.all_tickets c.moved_within_guarded-progress.ensures.sizes c.moved_within_guarded-progress.ensures.serials)
