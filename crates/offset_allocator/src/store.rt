@@ -19,8 +19,8 @@ pub(crate) struct Store<T: Tables> {
     pub(crate) top_mask: u32,
     // the name of the last block in space order
     pub(crate) last: u32,
-    // the number of made nodes that no block has: their names, the unused ones, are the first so many entries
-    // of the stack
+    // how many made nodes have no block; their names, the unused ones, are the first `spare_count` entries of
+    // the stack
     pub(crate) spare_count: u32,
     // takes no bytes at run time
     pub(crate) accesses: Accesses,

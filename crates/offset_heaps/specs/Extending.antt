@@ -12,8 +12,8 @@ abbrev pub CanExtendIn : ℕ → Option Guard → Type 0
 CanExtendIn more None = ⊥
 CanExtendIn more (Some g) = 1 ≤ more → CanExtend more g.space
 
--- a heap gets so many units more at its end, and every ticket keeps its range. Before, it is raised as needed for a
--- grant
+-- the heap is extended by `more` units at its end, and every ticket keeps its range; its node limit is first raised, where
+-- a grant would need that
 pub record ExtendsIn (limits : Limits) (k more : ℕ) (g h : Guard) : Type 0 where
   pub between : Guard
   pub raised : IsRaisedAsNeeded limits k g between

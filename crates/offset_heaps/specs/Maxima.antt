@@ -25,7 +25,7 @@ abbrev pub IsLast : ℕ → List ℕ → Option ℕ → Type 0
 IsLast n keys None = AreBelow n keys
 IsLast n keys (Some i) = (i < length keys) × (n ≤ cell i keys) × ((j : ℕ) → i < j → cell j keys < n)
 
--- each key is 1 or 0, and so many are 1
+-- each key is 0 or 1, and `marked` of them are 1
 pub record AreMarks (marked : ℕ) (keys : List ℕ) : Type 0 where
   pub count : marked ≡ sum keys
   pub small : (i : ℕ) → cell i keys ≤ 1
