@@ -101,6 +101,11 @@ impl Call {
         }
     }
 
+    /// Whether the program of many heaps makes it.
+    pub fn is_of_heaps(&self) -> bool {
+        self.word.starts_with("heaps")
+    }
+
     /// The words of the program for it.
     pub fn words(&self) -> impl Iterator<Item = &'static str> {
         [self.word]

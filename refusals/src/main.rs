@@ -3,7 +3,7 @@ mod calls;
 mod memory;
 
 use calls::*;
-use memory::{Memory, Program};
+use memory::{Memory, Programs};
 use std::ops::RangeInclusive;
 use std::sync::atomic::{AtomicUsize, Ordering};
 use std::sync::Mutex;
@@ -69,7 +69,7 @@ const NONE: RangeInclusive<u64> = 0..=0;
 
 /// What a part of the check found.
 struct Check<'a> {
-    program: &'a Program,
+    programs: &'a Programs,
     runs: u64,
     wrong: u64,
     lines: Vec<String>,
@@ -91,7 +91,7 @@ impl Check<'_> {
         failing: RangeInclusive<u64>,
     ) -> Option<(Outcome, Memory)> {
         self.runs += 1;
-        let found = self.program.run(call, text, failing.clone());
+        let found = self.programs.run(call, text, failing.clone());
         let what = || format!("requests {failing:?} refused: the program ended otherwise");
         self.must(found.is_some(), call, text, what());
         found
@@ -429,10 +429,15 @@ fn parts(bits: usize, most: usize) -> Vec<Part> {
 
 fn main() {
     let mut words = std::env::args_os().skip(1);
-    let (Some(file), Some(memory)) = (words.next(), words.next()) else {
-        panic!("refusals PROGRAM MEMORY");
+    let (Some(file), Some(of_heaps), Some(memory)) = (words.next(), words.next(), words.next())
+    else {
+        panic!("refusals PROGRAM PROGRAM_OF_HEAPS MEMORY");
     };
-    let program = Program { file, memory };
+    let programs = Programs {
+        file,
+        of_heaps,
+        memory,
+    };
     let mut all = parts(16, 65_533);
     all.extend(parts(32, 131_072));
     // 8 bytes fewer than 16 MiB, and 20 more
@@ -455,7 +460,7 @@ fn main() {
                 let at = next.fetch_add(1, Ordering::Relaxed);
                 let Some(run) = all.get(at) else { break };
                 let mut check = Check {
-                    program: &program,
+                    programs: &programs,
                     runs: 0,
                     wrong: 0,
                     lines: Vec::new(),

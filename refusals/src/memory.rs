@@ -1,4 +1,4 @@
-//! The program, with the memory of `memory.c` preloaded into it, which refuses some of its requests.
+//! The programs, with the memory of `memory.c` preloaded into them, which refuses some of their requests.
 use crate::calls::{Call, Outcome, CELLS};
 use std::ffi::OsString;
 use std::io::Write;
@@ -17,9 +17,11 @@ pub struct Memory {
     pub requested: Vec<usize>,
 }
 
-/// The program, and the library that has its memory.
-pub struct Program {
+/// The programs, and the library that has their memory.
+pub struct Programs {
     pub file: OsString,
+    /// The one of many heaps.
+    pub of_heaps: OsString,
     pub memory: OsString,
 }
 
@@ -28,7 +30,7 @@ fn numbers<T: std::str::FromStr>(line: &str) -> Vec<T> {
     all.collect::<Result<_, _>>().unwrap_or_default()
 }
 
-impl Program {
+impl Programs {
     /// Makes a call with a text, in which these requests fail, by their number from 1. `None` where the
     /// program does not end as it has to.
     pub fn run(
@@ -37,16 +39,20 @@ impl Program {
         text: &str,
         failing: RangeInclusive<u64>,
     ) -> Option<(Outcome, Memory)> {
-        let mut run = Command::new(&self.file)
-            .args(call.words())
-            .env_clear()
-            .env("LD_PRELOAD", &self.memory)
-            .env("REFUSED", format!("{} {}", failing.start(), failing.end()))
-            .stdin(Stdio::piped())
-            .stdout(Stdio::piped())
-            .stderr(Stdio::piped())
-            .spawn()
-            .ok()?;
+        let mut run = Command::new(if call.is_of_heaps() {
+            &self.of_heaps
+        } else {
+            &self.file
+        })
+        .args(call.words())
+        .env_clear()
+        .env("LD_PRELOAD", &self.memory)
+        .env("REFUSED", format!("{} {}", failing.start(), failing.end()))
+        .stdin(Stdio::piped())
+        .stdout(Stdio::piped())
+        .stderr(Stdio::piped())
+        .spawn()
+        .ok()?;
         run.stdin.take()?.write_all(text.as_bytes()).ok()?;
         let ended = run.wait_with_output().ok()?;
         let (printed, counted) = (

@@ -1,7 +1,7 @@
 -- Sums and bounds of a well formed view.
 use Rattle.offset_allocator.proofs.{Taken.fitting, Classes.down_law, Views.ViewTaken.well_alone}
 use Rattle.offset_allocator.proofs.Common.{◌≡◌, ℕ, ◌+◌, ◌*◌, ◌<◌, ◌≤◌, Bool, false, not, ◌&&◌, ◌↔◌, List, [], ◌∷◌, ◌++◌, length, sum, sym, ap, ap₂, subst, ◌∙◌, arith, le-leb, true≢false}
-use Rattle.offset_allocator.proofs.Common.{AllByRecursion, sum_by-cons, value, up, down, Block, View, used_units, used_of, one, starts_free, reported_free, reported_largest, units, free_sizes}
+use Rattle.offset_allocator.proofs.Common.{AllByRecursion, sum_by-cons, value, up, down, Block, View, used_units, count_used, one, starts_free, reported_free, reported_largest, units, free_sizes}
 use Rattle.offset_allocator.proofs.Common.{free_block, AreCoalesced, IsWellFormed, max_size, IsFresh, CanGrant, common_steps, None, Some, last_or, is_used_at, place_of, eq-eqb, ◌≢◌}
 use Rattle.std.specs.Prelude.{IsTrue}
 
@@ -27,11 +27,11 @@ pub no_neighbours : (v : View) → IsWellFormed v → (before run after : List B
 no_neighbours v w before run after e f = alone_if run after (apart_after_one before (run ++ after) (subst AreCoalesced e w.apart)) f
 
 -- free blocks are few: at most one more than the used ones, and no more where the first block is used
-few : (bs : List Block) → AreCoalesced bs → length bs + one (not (starts_free bs)) ≤ 2 * used_of bs + 1
+few : (bs : List Block) → AreCoalesced bs → length bs + one (not (starts_free bs)) ≤ 2 * count_used bs + 1
 few [] a = grind arith
 few (b ∷ bs) a = grind (arith, few bs a.1)
 
-pub few_blocks : (v : View) → IsWellFormed v → length v.blocks ≤ 2 * used_of v.blocks + 1
+pub few_blocks : (v : View) → IsWellFormed v → length v.blocks ≤ 2 * count_used v.blocks + 1
 few_blocks v w = let h = few v.blocks w.apart in omega (arith, h)
 
 -- a full space
@@ -67,19 +67,19 @@ module _ (size max_allocs n : ℕ) (v : View) (f : IsFresh size max_allocs v) (l
   )
 
 -- free and used blocks
-pub split_count : (bs : List Block) → length (free_sizes bs) + used_of bs ≡ length bs
+pub split_count : (bs : List Block) → length (free_sizes bs) + count_used bs ≡ length bs
 split_count [] = grind (arith, common_steps)
 split_count (b ∷ bs) = grind (arith, common_steps, split_count bs)
 
 -- where no block is used, there is one
 pub none_live : (v : View) → IsWellFormed v → (x : ℕ) → last_or None v.blocks ≡ Some x → length v.blocks ≡ 1 → (used : Bool) → used ≡ is_used_at (place_of x v.blocks)
-    → IsTrue (not used) ↔ (used_of v.blocks ≡ 0)
+    → IsTrue (not used) ↔ (count_used v.blocks ≡ 0)
 none_live v w x ends one used e = go v.blocks ends one e
   where
-    go : (bs : List Block) → last_or None bs ≡ Some x → length bs ≡ 1 → used ≡ is_used_at (place_of x bs) → IsTrue (not used) ↔ (used_of bs ≡ 0)
+    go : (bs : List Block) → last_or None bs ≡ Some x → length bs ≡ 1 → used ≡ is_used_at (place_of x bs) → IsTrue (not used) ↔ (count_used bs ≡ 0)
     go [] f l u = absurd (omega arith)
     go (b ∷ []) f l u = let same : b.name ≡ x = cc in let k = eq-eqb x b.name (sym same) in grind (arith, common_steps)
     go (b ∷ d ∷ bs) f l u = absurd (omega arith)
 
-pub some_live : (v : View) → IsWellFormed v → length v.blocks ≢ 1 → used_of v.blocks ≢ 0
+pub some_live : (v : View) → IsWellFormed v → length v.blocks ≢ 1 → count_used v.blocks ≢ 0
 some_live v w l u = absurd (let f = few_blocks v w in let s = w.some in omega (arith, f, s, l, u))

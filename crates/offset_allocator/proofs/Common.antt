@@ -39,5 +39,5 @@ pub use Rattle.offset_allocator.specs.Resizing.{ResizesTo, Resizes, HasUnits, Sh
 pub use Rattle.offset_allocator.specs.Bins.{ListsOnly}
 pub use Rattle.offset_allocator.specs.Soundness.{view_of, IsSound}
 pub use Rattle.offset_allocator.specs.View.{AreInBins, Block, View, units, IsWellFormed, count_named, bin_at, one, Place, times, free_block, push, free_sizes, AreCoalesced, count_in_bin, free_start}
-pub use Rattle.offset_allocator.specs.View.{place_of, used_of, remove_all, free_part, remove, push_all, free_end, without_start, replace, without_end, used_block, IsNew, Handle, padding_to, max_size}
+pub use Rattle.offset_allocator.specs.View.{place_of, count_used, remove_all, free_part, remove, push_all, free_end, without_start, replace, without_end, used_block, IsNew, Handle, padding_to, max_size}
 pub use Rattle.offset_allocator.specs.View.{starts_free, is_used_at, ends_used, reported_largest, used_units, reported_free, tally}

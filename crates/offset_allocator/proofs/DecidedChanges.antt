@@ -2,7 +2,7 @@
 use Rattle.offset_allocator.proofs.{Decided.both_leave, Decided.both_stay, Decided.last_same, Decided.same_renamed, Views.ViewUndo.one_place, Views.ViewTaken.well_frees, Sound.well_counted}
 use Rattle.offset_allocator.proofs.{Holding.place_there, Reading.size_is, Reading.size_at, Released.end_is, Released.start_is, Released.idle_parts, Released.two_free}
 use Rattle.offset_allocator.proofs.Common.{◌≡◌, ◌≢◌, ℕ, zero, suc, ◌+◌, ◌-◌, Bool, true, false, not, List, [], ◌∷◌, ◌++◌, length, Some, IfSome, refl, sym, ap, ap₂, subst, ◌∙◌, inl, inr, arith}
-use Rattle.offset_allocator.proofs.Common.{append_assoc, if◌then◌else◌, drop, replicate, cases_lt, AllByRecursion, Block, View, units, used_of, free_block, free_part, used_block, starts_free}
+use Rattle.offset_allocator.proofs.Common.{append_assoc, if◌then◌else◌, drop, replicate, cases_lt, AllByRecursion, Block, View, units, count_used, free_block, free_part, used_block, starts_free}
 use Rattle.offset_allocator.proofs.Common.{AreCoalesced, IsWellFormed, replace, free_start, without_start, free_end, without_end, free_sizes, push_all, size_of, live, gathered, first_free, Frees}
 use Rattle.offset_allocator.proofs.Common.{Resets, Adds, Extends, Resizes, Shrinks, Grows, Compacts}
 use Rattle.offset_allocator.proofs.Views.ViewApart.{ends_free, apart_parts, left_false, right_false, no_start}
@@ -78,7 +78,7 @@ resets_same v known a w w' f k = elim (cases_lt 5 (length v.blocks)) [
       let n = k.many l in
       let empty : View → ℕ → View = λ z x. record z { blocks = free_block x v.size ∷ []; bins = push_all (free_block x v.size ∷ []) (replicate 256 []) } in
       both_leave (empty v f.name) (empty (record v { accesses = a }) k.name) w w' f.view k.view (ap (empty (record v { accesses = a })) (n.0 ∙ sym m.0)) (m.1 ∙ sym n.1)
-  | inr l ↦ frees_last_decided (used_of v.blocks) v (record v { accesses = a }) w w' known refl (f.few l) (k.few l)
+  | inr l ↦ frees_last_decided (count_used v.blocks) v (record v { accesses = a }) w w' known refl (f.few l) (k.few l)
 ]
 
 pub resets_decided : (v v' w w' : View) → IsWellFormed v → SameState v v' → Resets v w → Resets v' w' → SameState w w'

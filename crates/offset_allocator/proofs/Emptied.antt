@@ -3,7 +3,7 @@
 use Rattle.offset_allocator.proofs.Common.{zero, suc, if◌then◌else◌, ◌≡◌, ℕ, ◌+◌, ◌*◌, append_assoc, ◌<◌, ◌≤◌, Bool, true, false, not, List, [], ◌∷◌, ◌++◌, length, replicate, Option, Some, None}
 use Rattle.offset_allocator.proofs.Common.{IfSome, nat_eq, refl, sym, ap}
 use Rattle.offset_allocator.proofs.Common.{ap₂, subst, ◌∙◌, arith, inl, inr, length-replicate, ext_get_or, cases_lt, false≢true, not-false, down, Block, View, one, free_block, units}
-use Rattle.offset_allocator.proofs.Common.{count_named, used_of, times, count_in_bin, bin_at, push, AreCoalesced, IsWellFormed, place_of, is_used_at, Frees, Resets, push_all, last_or, IsLive}
+use Rattle.offset_allocator.proofs.Common.{count_named, count_used, times, count_in_bin, bin_at, push, AreCoalesced, IsWellFormed, place_of, is_used_at, Frees, Resets, push_all, last_or, IsLive}
 use Rattle.std.specs.{List.AllByRecursion, Option.option_or}
 use Rattle.offset_allocator.specs.{Relations.FreesLast, Relations.IsEmpty, Relations.SameState, View.last_used}
 use Rattle.offset_allocator.proofs.Views.ViewBins.{hit_at, hit_other, names_same, names_other, length_put}
@@ -30,18 +30,18 @@ unused : (f : Bool) → one f ≡ 0 → f ≡ false
 unused true e = absurd (omega arith)
 unused false e = refl
 
-lone : (bs : List Block) → 1 ≤ length bs → AreCoalesced bs → used_of bs ≡ 0 → (b : Block) × (bs ≡ free_block b.name b.size ∷ [])
+lone : (bs : List Block) → 1 ≤ length bs → AreCoalesced bs → count_used bs ≡ 0 → (b : Block) × (bs ≡ free_block b.name b.size ∷ [])
 lone [] s a u = absurd (omega arith)
 lone (b ∷ []) s a u = (b, ap (λ (f : Bool). record { name = b.name; size = b.size; used = f } ∷ []) (unused b.used (omega arith)))
 lone (b ∷ d ∷ bs) s a u = absurd (false≢true (sym (rw (unused b.used (omega arith), unused d.used (omega arith)) at a.0)))
 
 -- of two neighbours one is used
-pub half_used : (bs : List Block) → AreCoalesced bs → length bs ≤ 2 * used_of bs + 1
+pub half_used : (bs : List Block) → AreCoalesced bs → length bs ≤ 2 * count_used bs + 1
 half_used [] a = grind arith
 half_used (b ∷ []) a = grind arith
 half_used (b ∷ d ∷ bs) a = grind (arith, not-false, half_used (d ∷ bs) a.1, half_used bs a.1.1)
 
-pub emptied : (v : View) → IsWellFormed v → used_of v.blocks ≡ 0 → (x : ℕ) × (x < v.max_allocs)
+pub emptied : (v : View) → IsWellFormed v → count_used v.blocks ≡ 0 → (x : ℕ) × (x < v.max_allocs)
     × (v ≡ record v { blocks = free_block x v.size ∷ []; bins = push (down v.size) x (replicate 256 []) })
 emptied v w u =
     let l = lone v.blocks w.some w.apart u in
@@ -115,8 +115,8 @@ module _ (bs : List Block) (last : ℕ) (ends : last_or None bs ≡ Some last) (
       omega (arith, one-eq x d.name e2.name, each x, ap (count_named x) is, tally_append (λ (d : Block). one (nat_eq x d.name)) e2.front (d ∷ b ∷ [])) in
       ap is_used_at (ap (place_of x) is ∙ place_here x e2.front d (b ∷ []) absent (sym e2.name)) ∙ used
 
-  pub none_used : last_or None (ended bs last ends).front ≡ None → used_of bs ≡ 0
-  none_used e = omega (arith, ap used_of (end.is ∙ ap (λ (l : List Block). l ++ b ∷ []) (last_none front e)), ap one is_idle)
+  pub none_used : last_or None (ended bs last ends).front ≡ None → count_used bs ≡ 0
+  none_used e = omega (arith, ap count_used (end.is ∙ ap (λ (l : List Block). l ++ b ∷ []) (last_none front e)), ap one is_idle)
 
   pub last_before : last_used bs ≡ last_or None (ended bs last ends).front
   last_before = ap last_used end.is ∙ last_used_end front b ∙ ap (λ (t : Bool). if t then Some b.name else last_used front) is_idle ∙ go (last_or None front) refl
@@ -135,10 +135,10 @@ module _ (bs : List Block) (last : ℕ) (ends : last_or None bs ≡ Some last) (
   before_live v is (Some x) e = used_live x v (ap (λ (l : List Block). is_used_at (place_of x l)) is ∙ before_used x (sym e))
 
 -- a release leaves one used block fewer
-pub freed_one : (x : ℕ) (v w : View) → Frees x v w → used_of v.blocks ≡ suc (used_of w.blocks)
+pub freed_one : (x : ℕ) (v w : View) → Frees x v w → count_used v.blocks ≡ suc (count_used w.blocks)
 freed_one x v w f = grind (arith, tally_append, idle_used)
   where
-    idle_used : (bs : List Block) → AllByRecursion (λ (b : Block). b.used ≡ false) bs → used_of bs ≡ 0
+    idle_used : (bs : List Block) → AllByRecursion (λ (b : Block). b.used ≡ false) bs → count_used bs ≡ 0
     idle_used [] a = refl
     idle_used (b ∷ bs) a = omega (arith, ap one a.0, idle_used bs a.1)
 
@@ -160,15 +160,15 @@ frees_counted x v w k f = record {
 }
 
 -- one more range was freed first
-pub freed_first : (x : ℕ) (v was u w : View) → SameState v was → last_used v.blocks ≡ Some x → Frees x was u → FreesLast (used_of u.blocks) u w → FreesLast (used_of v.blocks) v w
+pub freed_first : (x : ℕ) (v was u w : View) → SameState v was → last_used v.blocks ≡ Some x → Frees x was u → FreesLast (count_used u.blocks) u w → FreesLast (count_used v.blocks) v w
 freed_first x v was u w same last f rest =
     let first = frees_counted x v u was.accesses (subst (λ (z : View). Frees x z u) same f) in
     subst (λ k. FreesLast k v w) (sym (freed_one x v u first)) (x, u, last, first, rest)
 
 -- nothing is freed where nothing is live
-pub freed_none : (v w : View) → SameState v w → IsEmpty w → FreesLast (used_of v.blocks) v w
+pub freed_none : (v w : View) → SameState v w → IsEmpty w → FreesLast (count_used v.blocks) v w
 freed_none v w same e =
-    let none : used_of v.blocks ≡ 0 = ap (λ (u : View). used_of u.blocks) (sym same) ∙ ap (λ (u : View). used_of u.blocks) e.view in
+    let none : count_used v.blocks ≡ 0 = ap (λ (u : View). count_used u.blocks) (sym same) ∙ ap (λ (u : View). count_used u.blocks) e.view in
     subst (λ k. FreesLast k v w) (sym none) same
 
 -- the size and the node limit stay
@@ -179,13 +179,13 @@ freed_sizes (suc k) v w f =
     (rest.0 ∙ ap (λ (u : View). u.size) f.3.view, rest.1 ∙ ap (λ (u : View). u.max_allocs) f.3.view)
 
 -- a space without a used block
-pub as_empty : (w : View) → IsWellFormed w → used_of w.blocks ≡ 0 → IsEmpty w
+pub as_empty : (w : View) → IsWellFormed w → count_used w.blocks ≡ 0 → IsEmpty w
 as_empty w well none = let e = emptied w well none in record { name = e.0; below = e.1; view = e.2 }
 
 -- at most five blocks
-pub few_reset : (v w : View) → length v.blocks ≤ 5 → FreesLast (used_of v.blocks) v w → IsEmpty w → Resets v w
+pub few_reset : (v w : View) → length v.blocks ≤ 5 → FreesLast (count_used v.blocks) v w → IsEmpty w → Resets v w
 few_reset v w few f e =
-    let same = freed_sizes (used_of v.blocks) v w f in
+    let same = freed_sizes (count_used v.blocks) v w f in
     record {
       name = e.name;
       below = omega (arith, e.below, same.1);

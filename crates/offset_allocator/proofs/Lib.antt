@@ -25,7 +25,7 @@ pub mod Sound
 pub mod Reading
 pub mod Views
 pub mod Arranging
-pub mod AtPlace
+pub mod AtOffset
 pub mod Filing
 pub mod Linking
 pub mod Moving

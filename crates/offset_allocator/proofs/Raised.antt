@@ -1,11 +1,11 @@
 -- The same space under a larger node limit: it is sound, and calls that are not refused for nodes have the same answers.
-use Rattle.offset_allocator.proofs.{AtPlace.at_decided, Decided.allocates_decided, Decided.aligns_decided, Decided.relocates_aligned_decided, Decided.relocates_decided, Decided.tight_decided, DecidedChanges.compacts_decided, DecidedChanges.extends_decided, DecidedChanges.frees_decided, DecidedChanges.grows_decided}
+use Rattle.offset_allocator.proofs.{AtOffset.at_decided, Decided.allocates_decided, Decided.aligns_decided, Decided.relocates_aligned_decided, Decided.relocates_decided, Decided.tight_decided, DecidedChanges.compacts_decided, DecidedChanges.extends_decided, DecidedChanges.frees_decided, DecidedChanges.grows_decided}
 use Rattle.offset_allocator.proofs.{DecidedChanges.resets_decided, DecidedChanges.retracts_decided, DecidedChanges.shrinks_decided, Linking.Rows.IsRow-kept}
 use Rattle.offset_allocator.proofs.Common.{◌≡◌, ℕ, zero, suc, ◌+◌, ◌<◌, ◌≤◌, Bool, true, false, List, [], ◌∷◌, length, Option, Some, None, refl, sym, ap, subst, ◌∙◌, inl, inr, arith}
 use Rattle.offset_allocator.proofs.Common.{ChainCells, Cells, node, blocks, IsChain, IsSound, view_of, Block, View, Handle, IsWellFormed, IsNew, free_sizes, sum, AdmitsBlocks, blocks_needed}
 use Rattle.offset_allocator.proofs.Common.{Splits, Allocates, Aligns, Frees, Adds, Extends, Resets, Resizes, Shrinks, Grows, Compacts, IsFresh, size_of}
 use Rattle.offset_allocator.specs.Chain.{blocks_back}
-use Rattle.offset_allocator.specs.AtPlace.{AllocatesAt}
+use Rattle.offset_allocator.specs.AtOffset.{AllocatesAt}
 use Rattle.offset_allocator.specs.Moving.Relocating.{Relocates, RelocatesAligned, WouldBegin}
 use Rattle.offset_allocator.specs.Moving.Retracting.{Cuts, Retracts}
 use Rattle.offset_allocator.specs.Relations.{FreesLast, IsRaised, SameUnder}

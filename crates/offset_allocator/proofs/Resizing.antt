@@ -6,7 +6,7 @@ use Rattle.offset_allocator.proofs.{Linking.Places.at_place, Linking.Places.next
 use Rattle.offset_allocator.proofs.{Sound.Fields, Sound.AreSound, Sound.shown, Sound.well_same, Views.ViewReplaced.well_replaced}
 use Rattle.offset_allocator.proofs.Common.{take, IsSome, ◌≡◌, ◌≢◌, ◌↔◌, ℕ, zero, suc, ◌+◌, ◌-◌, ◌<◌, ◌≤◌, Bool, true, false, ◌⊎◌, List, [], ◌∷◌, ◌++◌, length, Option, Some, None, is_some, nat_eq}
 use Rattle.offset_allocator.proofs.Common.{refl, sym, ap, ap₂, subst, ◌∙◌, inl, inr, arith, length-append, eq-zero-or-pos, if◌then◌else◌, false≢true, true≢false, and_right, Cells, Node, Block, View}
-use Rattle.offset_allocator.proofs.Common.{Place, one, units, count_named, used_of, used_block, AreCoalesced, IsWellFormed, IsNew, free_start, without_start, free_part, remove_all, push_all, replace}
+use Rattle.offset_allocator.proofs.Common.{Place, one, units, count_named, count_used, used_block, AreCoalesced, IsWellFormed, IsNew, free_start, without_start, free_part, remove_all, push_all, replace}
 use Rattle.offset_allocator.proofs.Common.{AdmitsBlocks, range_of, size_of, KeepsOthers, SameSpace, Resizes, ResizesTo, Shrinks, Grows, CanShrink, CanGrow, HasUnits, free_after, HasPlace, IsFreeAfter}
 use Rattle.offset_allocator.proofs.Common.{bins_in, IsBinned, option_map, unwrap_or, common_steps}
 use Rattle.offset_allocator.proofs.Tallies.{tally_three, part_sums, counted_none, new_absent, hit_cases, one-same, free_units, free_sum}
@@ -53,7 +53,7 @@ module _ {x n : ℕ} {v u : View} (r : Resizes x n v u) (k : IsWellFormed v) whe
         few_used = omega (
           arith,
           k.few_used,
-          ap used_of r.blocks,
+          ap count_used r.blocks,
           tally_three (λ (b : Block). one b.used) r.before old r.after,
           tally_three (λ (b : Block). one b.used) r.before parts r.after,
           ap one r.used,

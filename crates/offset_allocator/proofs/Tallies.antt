@@ -1,6 +1,6 @@
 -- Sums over lists, and a test of names as a number.
 use Rattle.offset_allocator.proofs.Common.{◌≡◌, ◌≢◌, ℕ, zero, suc, ◌+◌, ◌≤◌, length, ◌⊎◌, List, [], ◌∷◌, ◌++◌, nat_eq, not, refl, sym, ap, ◌∙◌, arith, eq-eqb, ne_eqb, cases_eq, Block, tally, one}
-use Rattle.offset_allocator.proofs.Common.{units, times, count_named, count_in_bin, used_of, free_part, View, IsNew, free_sizes, sum, sum_by-cons, if◌then◌else◌, AllByRecursion, filter}
+use Rattle.offset_allocator.proofs.Common.{units, times, count_named, count_in_bin, count_used, free_part, View, IsNew, free_sizes, sum, sum_by-cons, if◌then◌else◌, AllByRecursion, filter}
 
 -- a list of names without x
 abbrev pub without : ℕ → List ℕ → List ℕ
@@ -59,7 +59,7 @@ free_sum [] = grind arith
 free_sum (b ∷ bs) = grind (arith, sum_by-cons, free_sum bs)
 
 -- padding or a remainder is at most one block
-pub part_sums : (y n : ℕ) → (length (free_part y n) ≤ 1) × (units (free_part y n) ≡ n) × (used_of (free_part y n) ≡ 0)
+pub part_sums : (y n : ℕ) → (length (free_part y n) ≤ 1) × (units (free_part y n) ≡ n) × (count_used (free_part y n) ≡ 0)
 part_sums y zero = (omega arith, omega arith, omega arith)
 part_sums y (suc n) = (omega arith, omega arith, omega arith)
 

@@ -1,5 +1,5 @@
 pub mod Accesses
-pub mod AtPlace
+pub mod AtOffset
 pub mod Bins
 pub mod Cells
 pub mod Chain

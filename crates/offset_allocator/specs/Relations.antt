@@ -5,7 +5,7 @@ use Rattle.std.specs.List.{AllByRecursion}
 use Rattle.offset_allocator.specs.Classes.{up, down}
 use Rattle.offset_allocator.specs.Names.{Renames}
 use Rattle.offset_allocator.specs.Requests.{AdmitsBlocks, CanGrant, blocks_needed, units_needed}
-use Rattle.offset_allocator.specs.View.{View, Block, Handle, last_used, units, used_of, bin_at, AreCoalesced, IsNew, max_size, padding_to, replace, remove, push_all, free_block, free_part}
+use Rattle.offset_allocator.specs.View.{View, Block, Handle, last_used, units, count_used, bin_at, AreCoalesced, IsNew, max_size, padding_to, replace, remove, push_all, free_block, free_part}
 
 -- the same blocks and bins, however many accesses are counted, and whichever names are unused
 abbrev pub SameSpace : View → View → Type 0
@@ -140,6 +140,6 @@ FreesLast (suc k) v w = (x : ℕ) × (u : View) × (last_used v.blocks ≡ Some 
 pub record Resets (v w : View) : Type 0 where
   pub name : ℕ
   pub below : name < v.max_allocs
-  pub few : length v.blocks ≤ 5 → FreesLast (used_of v.blocks) v w
+  pub few : length v.blocks ≤ 5 → FreesLast (count_used v.blocks) v w
   pub many : 5 < length v.blocks → (name ≡ 0) × (w.unused ≡ [])
   pub view : SameSpace (record v { blocks = free_block name v.size ∷ []; bins = push_all (free_block name v.size ∷ []) (replicate 256 []) }) w

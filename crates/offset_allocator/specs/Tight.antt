@@ -50,6 +50,6 @@ IsWhyTight n align v TooLarge = AdmitsBlocks (blocks_needed align) v × (v.size 
 IsWhyTight n align v Space = AdmitsBlocks (blocks_needed align) v × (n ≤ v.size) × (sum (free_sizes v.blocks) < max 1 n) × (CanHold n align v → ⊥)
 IsWhyTight n align v Fragmented = AdmitsBlocks (blocks_needed align) v × (max 1 n ≤ sum (free_sizes v.blocks)) × (CanHold n align v → ⊥)
 
--- the same of a name, by the tables
+-- whether the block of a name holds them, by the tables
 abbrev pub holds_in : ChainCells → ℕ → ℕ → ℕ → Bool
 holds_in t n align x = nat_le (padding_to align (node t x).offset + n) (node t x).size

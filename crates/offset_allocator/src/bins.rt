@@ -8,7 +8,7 @@ ghost use Rattle.offset_allocator.specs.Cells.{AreEmpty, node};
 ghost use Rattle.offset_allocator.specs.Classes.{down};
 ghost use Rattle.offset_allocator.specs.View.{bin_at, push, remove};
 ghost use Rattle.offset_allocator.specs.Store.{AreBinned, SameChain, bins_of};
-ghost use Rattle.offset_allocator.specs.Bins.{IsUnlisted, IsFoundFrom, IsAmong, HasBins, AreMasks, bins_in};
+ghost use Rattle.offset_allocator.specs.Bins.{IsUnlisted, IsFoundFrom, IsAmong, AreMasks, bins_in};
 ghost use Rattle.offset_allocator.specs.Bins.{IsBinned, IsFoundLast};
 
 use crate::accesses::Accesses;

@@ -8,9 +8,9 @@ ghost use Rattle.offset_allocator.specs.View.{units};
 ghost use Rattle.offset_allocator.specs.Accesses.{Costs};
 ghost use Rattle.offset_allocator.specs.Cells.{IsBare, node, put, link_of};
 ghost use Rattle.offset_allocator.specs.Bins.{IsUnlisted, bins_in};
-ghost use Rattle.offset_allocator.specs.Readies.{SameBinLists, Readies};
+ghost use Rattle.offset_allocator.specs.Readies.{SameBinLists};
 ghost use Rattle.offset_allocator.specs.Store.{IsPlaceIn, SameBins, unused_of};
-ghost use Rattle.offset_allocator.specs.Chain.{IsChain, IsSpace, HasPlace, blocks, coalesced_before};
+ghost use Rattle.offset_allocator.specs.Chain.{IsSpace, HasPlace, blocks, coalesced_before};
 ghost use Rattle.offset_allocator.specs.Chain.{coalesced_after};
 
 use crate::accesses::Accesses;

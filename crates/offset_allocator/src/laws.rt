@@ -5,13 +5,13 @@ ghost use Rattle.std.specs.Prelude.{◌≡◌, ◌≢◌, ◌<◌, ◌≤◌, �
 ghost use Rattle.std.specs.Prelude.{[], Bool, IsTrue, None, Option, Some, length, min, reverse, sum};
 ghost use Rattle.std.specs.List.{AllByRecursion};
 ghost use Rattle.offset_allocator.specs.Accesses.{Costs};
-ghost use Rattle.offset_allocator.specs.AtPlace.{AllocatesAt, IsFreeAt, in_the_way};
+ghost use Rattle.offset_allocator.specs.AtOffset.{AllocatesAt, IsFreeAt, in_the_way};
 ghost use Rattle.offset_allocator.specs.Reporting.Walking.{AreOfLive, IsWalk, first_live, last_live};
 ghost use Rattle.offset_allocator.specs.Reporting.Walking.{live_after, live_before, live_handles};
 ghost use Rattle.offset_allocator.specs.Classes.{value, up, down};
 ghost use Rattle.offset_allocator.specs.View.{View, AreNames, Block, Handle, IsWellFormed, free_sizes};
 ghost use Rattle.offset_allocator.specs.View.{reported_free};
-ghost use Rattle.offset_allocator.specs.View.{reported_largest, padding_to, units, used_of, used_units};
+ghost use Rattle.offset_allocator.specs.View.{reported_largest, padding_to, units, count_used, used_units};
 ghost use Rattle.offset_allocator.specs.Ranges.{Range, range_of, AreDisjoint};
 ghost use Rattle.offset_allocator.specs.Relations.{SameSpace, SameState, Aligns, Allocates, Extends, Frees};
 ghost use Rattle.offset_allocator.specs.Relations.{IsFresh, IsRaised, Resets, SameUnder};
@@ -38,7 +38,7 @@ ghost use Rattle.offset_allocator.specs.Moving.Pieces.{pieces, copied, all_copie
 
 use crate::AllocatorOf;
 use crate::accesses::Accesses;
-pub use crate::at_place::{in_the_way_counted, is_free_at_counted};
+pub use crate::at_offset::{in_the_way_counted, is_free_at_counted};
 pub use crate::moves::room::room_cost_counted;
 pub use crate::moves::room_by_steps::room_cost_by_counted;
 pub use crate::reports::beginning::would_begin_counted;
@@ -166,7 +166,7 @@ pub fn no_free_neighbours<T: Tables>(allocator: &AllocatorOf<T>)
 
 /// At most `max_allocs - 2` ranges are live.
 pub fn few_are_live<T: Tables>(allocator: &AllocatorOf<T>)
-    ensures { used_of allocator.now.blocks + 2 ≤ allocator.now.max_allocs }
+    ensures { count_used allocator.now.blocks + 2 ≤ allocator.now.max_allocs }
 {
     allocator.formed();
 }
@@ -174,8 +174,8 @@ pub fn few_are_live<T: Tables>(allocator: &AllocatorOf<T>)
 /// There is at most one free block more than there are live ranges. So with a limit of `2 * l + 2` there is
 /// room for every request, aligned or not, while fewer than `l` ranges are live.
 pub fn blocks_are_few<T: Tables>(allocator: &AllocatorOf<T>)
-    ensures count { length allocator.now.blocks ≤ 2 * used_of allocator.now.blocks + 1 }
-    ensures room { (l : ℕ) → used_of allocator.now.blocks < l → 2 * l + 2 ≤ allocator.now.max_allocs
+    ensures count { length allocator.now.blocks ≤ 2 * count_used allocator.now.blocks + 1 }
+    ensures room { (l : ℕ) → count_used allocator.now.blocks < l → 2 * l + 2 ≤ allocator.now.max_allocs
         → AdmitsBlocks 2 allocator.now }
 {
     allocator.formed();
@@ -418,8 +418,8 @@ pub fn a_state_decides_each_step()
 /// Each of these calls, in a space and in the same one under a larger limit, returns the same, handles included,
 /// and leaves the same state under that limit, where the first space has room for the blocks that the call may
 /// add. So by them a space that `raised` returned continues as the first one would, as long as that one would
-/// refuse nothing for nodes. Nothing is said of reports, which count unused nodes, nor of the slides that look
-/// at them. A fresh space becomes the one that `with_max_allocs` makes with the larger limit.
+/// refuse nothing for nodes. Nothing is said of reports, which count unused nodes, of slides by whole steps, which
+/// look at them, nor of `make_room`. A fresh space becomes the one that `with_max_allocs` makes with the larger limit.
 pub fn a_raised_limit_changes_no_answer()
     ensures fresh { (size m limit : ℕ) (v w : View) → m ≤ limit → IsFresh size m v → IsRaised limit v w
         → IsFresh size limit w }

@@ -2,11 +2,11 @@
 //! bounded number of accesses to table cells. The space itself is never touched.
 //!
 //! A *block* is a run of units, used or free; no two free blocks are neighbours. Each block has a *node* of
-//! the tables, whose index is the block's *name*; the range of a used block, and its name, are *live*. A
-//! *size class* is a range of sizes, and its *bin* the list of the free blocks of that class, the newest
-//! first, which is the one that last became free or changed its size. A range takes over the name of the
-//! free block that it is cut from, and what remains of that block gets the name that became unused last, or
-//! that of a new node where none is unused. Where the range is freed, the coalesced block keeps the range's
+//! the tables, whose index is the block's *name*: a name is *unused* while no block, used or free, has it. The
+//! range of a used block, and its name, are *live*. A *size class* is a range of sizes, and its *bin* the list
+//! of the free blocks of that class, the newest first, which is the one that last became free or changed its
+//! size. A range takes over the name of the free block that it is cut from, and what remains of that block
+//! gets the name that became unused last, or that of a new node where none is unused. Where the range is freed, the coalesced block keeps the range's
 //! name, and those of its neighbours become unused.
 //!
 //! ```
@@ -18,21 +18,21 @@
 //! ```
 #![tactic(auto)]
 
-ghost use Rattle.std.specs.Prelude.{ℕ, ◌≡◌, ◌↔◌, ◌+◌, ◌-◌, ◌*◌, ◌/◌, ◌%◌, ◌<◌, ◌≤◌, nat_lt, if◌then◌else◌};
+ghost use Rattle.std.specs.Prelude.{ℕ, ◌≡◌, ◌↔◌, ◌+◌, ◌-◌, ◌*◌, ◌%◌, ◌<◌, ◌≤◌};
 ghost use Rattle.std.specs.Prelude.{min, None, false, true, IsTrue, IsSome, IfSome, IfOk, length, option_map};
 ghost use Rattle.offset_allocator.specs.Accesses.{Costs};
 ghost use Rattle.offset_allocator.specs.Ranges.{Range, range_of, size_of, Grants, IsLive, KeepsAll};
 ghost use Rattle.offset_allocator.specs.Ranges.{KeepsOthers};
 ghost use Rattle.offset_allocator.specs.Requests.{IsGoodRefusal, IsSplitNearBest, CanGrant};
 ghost use Rattle.offset_allocator.specs.Requests.{IsWhy, AdmitsBlocks, blocks_needed, units_needed};
-ghost use Rattle.offset_allocator.specs.View.{count_named, is_full, free_sizes, reported_largest, used_of};
+ghost use Rattle.offset_allocator.specs.View.{count_named, is_full, free_sizes, reported_largest, count_used};
 ghost use Rattle.offset_allocator.specs.Relations.{Allocates, Aligns, Frees, Extends, CanExtend};
 ghost use Rattle.offset_allocator.specs.Relations.{SameState, IsFresh, Resets};
 ghost use Rattle.offset_allocator.specs.Reporting.Reports.{IsReport, IsFullReport};
 ghost use Rattle.offset_allocator.specs.Reporting.Listing.{listing};
 
 mod accesses;
-mod at_place;
+mod at_offset;
 mod bins;
 mod chain;
 pub mod ext;
@@ -191,7 +191,7 @@ impl<T: Tables> AllocatorOf<T> {
         ensures step { Resets self.old self.new }
         // It makes at most 130 accesses to table cells for each live range, and 2, and never more than 270.
         ensures accesses { Costs 1
-            (min (130 * used_of self.old.blocks + 2) 270) self.old.accesses self.new.accesses }
+            (min (130 * count_used self.old.blocks + 2) 270) self.old.accesses self.new.accesses }
     {
         // the invariant bounds the number of blocks
         self.formed();

@@ -9,9 +9,9 @@ ghost use Rattle.offset_allocator.specs.Cells.{IsBare};
 ghost use Rattle.offset_allocator.specs.Bins.{IsFoundFrom};
 ghost use Rattle.offset_allocator.specs.Store.{AreBinned, bins_of};
 ghost use Rattle.offset_allocator.specs.Ranges.{range_of, IsLive, KeepsAll, KeepsOthers};
-ghost use Rattle.offset_allocator.specs.Requests.{NewestHolds, AdmitsBlocks, blocks_needed, units_needed};
+ghost use Rattle.offset_allocator.specs.Requests.{NewestHolds, AdmitsBlocks, blocks_needed};
 ghost use Rattle.offset_allocator.specs.View.{IsWellFormed, bin_at, ends_used, padding_to, free_block, push};
-ghost use Rattle.offset_allocator.specs.View.{last_used, used_of};
+ghost use Rattle.offset_allocator.specs.View.{last_used, count_used};
 ghost use Rattle.offset_allocator.specs.Relations.{Splits, Aligns, Frees, Adds, SameState, Resets};
 ghost use Rattle.offset_allocator.specs.Relations.{FreesLast, IsEmpty};
 ghost use Rattle.offset_allocator.specs.Soundness.{IsSound, view_of};
@@ -79,9 +79,9 @@ impl<T: Tables> AllocatorOf<T> {
     /// Frees every live range, the last one first. It is out of line, so that `reset` stays small where it is inlined.
     #[inline(never)]
     pub(crate) fn free_all(&mut self)
-        ensures freed { FreesLast (used_of self.old.blocks) self.old self.new }
+        ensures freed { FreesLast (count_used self.old.blocks) self.old self.new }
         ensures empty { IsEmpty self.new }
-        ensures accesses { Costs 1 (38 * used_of self.old.blocks + 2) self.old.accesses self.new.accesses }
+        ensures accesses { Costs 1 (38 * count_used self.old.blocks + 2) self.old.accesses self.new.accesses }
     {
         while let Some(name) = self.last_used() {
             self.release(name);
@@ -124,7 +124,7 @@ impl<T: Tables> AllocatorOf<T> {
     /// block. The block has to hold them.
     #[inline(always)]
     pub(crate) fn grant(&mut self, class: u32, size: u32, align: u32) -> Allocation<T::Index>
-        requires some { 1 ≤ align }
+        requires alignment { 1 ≤ align }
         requires enough { AdmitsBlocks (blocks_needed align) self.old }
         requires classed { class < 256 }
         requires filled { bin_at self.old.bins class ≢ [] }

@@ -43,7 +43,7 @@ fn first_of_bin<T: Tables>(
     requires linked { HasBins T.Index.MAX (T.cells tables.now).bins
         (bins_in T.Index.MAX (T.cells tables.now).bins) }
     requires classed { class < 256 }
-    requires some { 1 ≤ align }
+    requires alignment { 1 ≤ align }
     ensures first { result ≡ find (holds_in (T.cells tables.now).chain size align)
         (bin_at (bins_in T.Index.MAX (T.cells tables.now).bins) class) }
     ensures accesses { Costs 1 (1 + 3 * length (bin_at (bins_in T.Index.MAX (T.cells tables.now).bins) class))
@@ -72,7 +72,7 @@ fn choose<T: Tables>(
     count: &mut Accesses,
 ) -> Option<u32>
     requires binned { IsBinned T.Index.MAX (T.cells tables.now).bins top_mask }
-    requires some { 1 ≤ align }
+    requires alignment { 1 ≤ align }
     ensures first { result ≡ find (holds_in (T.cells tables.now).chain size align)
         (listed_from (down size) (bins_in T.Index.MAX (T.cells tables.now).bins)) }
     ensures accesses { Costs 0 (2 + 6 * length (listed_from (down size)
@@ -163,7 +163,7 @@ impl<T: Tables> AllocatorOf<T> {
 
     // Grants `size` units of the first block that holds them.
     fn grant_first(&mut self, name: u32, size: u32, align: u32) -> Allocation<T::Index>
-        requires some { 1 ≤ align }
+        requires alignment { 1 ≤ align }
         requires enough { AdmitsBlocks (blocks_needed align) self.old }
         requires first { first_holding size align self.old ≡ Some name }
         ensures step { (c : ℕ)
@@ -177,7 +177,7 @@ impl<T: Tables> AllocatorOf<T> {
 
     // Grants `size` units of the first block that holds them, where there is one.
     fn look_further(&mut self, size: u32, align: u32) -> Option<Allocation<T::Index>>
-        requires some { 1 ≤ align }
+        requires alignment { 1 ≤ align }
         requires enough { AdmitsBlocks (blocks_needed align) self.old }
         ensures step { FillsFirst size align self.old self.new result }
         ensures accesses { Costs 0 (73 + 6 * length (listed_from (down size) self.old.bins))

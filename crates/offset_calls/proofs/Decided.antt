@@ -14,9 +14,9 @@ use Rattle.offset_allocator.specs.declared.moves.room.RoomCost.{RoomCost}
 use Rattle.offset_allocator.specs.Moving.Compacting as named
 use Rattle.offset_allocator.proofs.Decided.{aligns_decided, allocates_decided, filled_grants, relocates_decided, tight_decided}
 use Rattle.offset_allocator.proofs.DecidedChanges.{compacts_decided, extends_decided, frees_decided, grows_decided, resets_decided, retracts_decided, shrinks_decided}
-use Rattle.offset_allocator.specs.AtPlace.{AllocatesAt}
-use Rattle.offset_allocator.proofs.AtPlace.{at_grants}
-use Rattle.offset_allocator.proofs.AtPlace.{at_decided}
+use Rattle.offset_allocator.specs.AtOffset.{AllocatesAt}
+use Rattle.offset_allocator.proofs.AtOffset.{at_grants}
+use Rattle.offset_allocator.proofs.AtOffset.{at_decided}
 use Rattle.offset_calls.specs.Steps.{TakesAt}
 use Rattle.offset_allocator.specs.Moving.Budget.{CompactsWithin}
 use Rattle.offset_allocator.specs.Moving.RoomBySteps.{MakesRoomBy, names_short}

@@ -5,8 +5,8 @@ use Rattle.offset_calls.proofs.Common.{Call, Reply, Takes, Command, IsTrue, is_v
 use Rattle.std.specs.List.{slice_index}
 use Rattle.std.proofs.lemmas.List.{get_or_default, get_or-set_other, get_or-set_same, set_past, length-set}
 use Rattle.offset_allocator.specs.{Relations.Splits, Relations.Allocates, Relations.Aligns, Tight.AlignsTight, Moving.Relocating.Relocates, Moving.Relocating.RelocatesAligned}
-use Rattle.offset_allocator.specs.AtPlace.{AllocatesAt}
-use Rattle.offset_allocator.proofs.{AtPlace.at_grants, Holding.grants_tight, Ranges.split_grants}
+use Rattle.offset_allocator.specs.AtOffset.{AllocatesAt}
+use Rattle.offset_allocator.proofs.{AtOffset.at_grants, Holding.grants_tight, Ranges.split_grants}
 use Rattle.offset_script.specs.Steps.{AreLive}
 use Rattle.offset_script.proofs.Simulation.{kept_push}
 use Rattle.offset_calls.specs.Steps.{AreNumbers}

@@ -6,9 +6,9 @@ use Rattle.std.proofs.lemmas.Bool.Decides.{nat_tests}
 use Rattle.std.proofs.lemmas.List.{append_cancel_left}
 use Rattle.offset_allocator.specs.declared.moves.room.RoomCost.{RoomCost}
 use Rattle.offset_allocator.specs.Moving.Room.{IsRun, IsAtMost, IsLess, CostMore, IsLeastCost, cost_of}
-use Rattle.offset_allocator.specs.View.{starts_free, ends_used, free_sizes, used_of, used_units}
+use Rattle.offset_allocator.specs.View.{starts_free, ends_used, free_sizes, count_used, used_units}
 use Rattle.offset_allocator.proofs.{Views.ViewApart.apart_parts, Views.ViewApart.ends_free, Views.ViewApart.right_false, Tallies.free_sum, Joints.free_units-free, Joints.free_units-used}
-use Rattle.offset_allocator.proofs.Moving.Runs.{at_most_trans, less_trans, begins_cases, longer, run_cases, run_some, free_sum-append, used_of-append, used_units-append}
+use Rattle.offset_allocator.proofs.Moving.Runs.{at_most_trans, less_trans, begins_cases, longer, run_cases, run_some, free_sum-append, count_used-append, used_units-append}
 use Rattle.offset_script.proofs.{Agreement.Label, Agreement.by_name, Agreement.by_tag, Labels.names, Labels.tags}
 use Rattle.offset_script.specs.Totals.{live}
 use Rattle.offset_calls.specs.Room.{Split, from_first, after_first, free_units, shortest, is_less, cheaper, cheapest, room_cost}
@@ -82,13 +82,13 @@ module _ (Serves : List Block → Type 0) (bs : List Block) (apart : AreCoalesce
       let used : not z.used ≡ false = right_false (ends_free r') (not z.used) parts.2 (ends_free_is r' k.begins k.ends) in
       let more : 1 ≤ one z.used = go z.used used in
       let at_most = subst (λ l. IsAtMost (cost_of l) (cost_of r')) e (h.least r' (run_of k) k.serves) in
-      none at_most (omega (arith, used_of-append r' (z ∷ zs), more)) (used_units-append r' (z ∷ zs))
+      none at_most (omega (arith, count_used-append r' (z ∷ zs), more)) (used_units-append r' (z ∷ zs))
     where
       go : (u : Bool) → not u ≡ false → 1 ≤ one u
       go true e = omega arith
       go false e = absurd (true≢false e)
 
-      none : IsAtMost (cost_of (r' ++ z ∷ zs)) (cost_of r') → used_of r' + 1 ≤ used_of (r' ++ z ∷ zs) → used_units (r' ++ z ∷ zs) ≡ used_units r' + used_units (z ∷ zs) → ⊥
+      none : IsAtMost (cost_of (r' ++ z ∷ zs)) (cost_of r') → count_used r' + 1 ≤ count_used (r' ++ z ∷ zs) → used_units (r' ++ z ∷ zs) ≡ used_units r' + used_units (z ∷ zs) → ⊥
       none m n u = grind arith
 
   -- so there is only one
@@ -130,7 +130,7 @@ live_total : (ls : List Label) → total (live (tags ls)) ≡ used_units (names 
 live_total [] = refl
 live_total (l ∷ ls) = search (arith, (live_total ls), not)
 
-live_count : (ls : List Label) → length (live (tags ls)) ≡ used_of (names ls)
+live_count : (ls : List Label) → length (live (tags ls)) ≡ count_used (names ls)
 live_count [] = refl
 live_count (l ∷ ls) = search (arith, (live_count ls), not, one)
 

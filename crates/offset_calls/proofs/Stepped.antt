@@ -20,7 +20,7 @@ use Rattle.offset_script.proofs.Labels.{names, tags, map_three, AreRising}
 use Rattle.offset_script.proofs.Lists.{AreApart, apart_append, apart_parts, count, count-append, count_free_part, ends_free, hit, starts_free}
 use Rattle.offset_script.proofs.{Members.IsIn, Members.in_left, Members.in_right, Members.map_parts, Members.map_first, Well.IsWell, Well.IsOld, Well.not_there, Well.well_quiet, Well.free_part_is, Tests.same_some}
 use Rattle.offset_calls.specs.Room.{Split, from_first, after_first}
-use Rattle.offset_calls.specs.Stepped.{kept, stepped, given_up, slid, slid_run, first_run, to_the_end}
+use Rattle.offset_calls.specs.Stepped.{kept, stepped, given_up, slid_by, slid_run, first_run, to_the_end}
 use Rattle.offset_calls.specs.Calls.{moves_by, moves_of_run, slides_run, compact_by}
 use Rattle.offset_calls.proofs.Compacted.{one_number, same_move}
 use Rattle.offset_script.specs.Machine as machine
@@ -176,7 +176,7 @@ module _ (v : View) (hs : List (Option Handle)) (s : State) (w : IsWellFormed v)
   new_names = map-append by_name (stepped_labels n (stamp_of_call s) r) (last ∷ []) ∙ ap₂ (λ l (m : ℕ). l ++ free_block h.name m ∷ []) (stepped_names n (stamp_of_call s) r) (sym (given_same n r))
       ∙ ap (λ bs. by.stepped n bs ++ free_block h.name (by.given_up n bs) ∷ []) run_is
 
-  new_tags : tags new ≡ slid n (stamp_of_call s) (tags r)
+  new_tags : tags new ≡ slid_by n (stamp_of_call s) (tags r)
   new_tags = map-append by_tag (stepped_labels n (stamp_of_call s) r) (last ∷ []) ∙ ap (λ l. l ++ by_tag last ∷ []) (stepped_tags n (stamp_of_call s) r)
 
   same : SameSpace (replace v (names f) (names r) (names new) (names b)) u
@@ -250,7 +250,7 @@ tags_with_names : (bs : List machine.Block) → tags (with_names bs) ≡ bs
 tags_with_names [] = refl
 tags_with_names (b ∷ bs) = ap (λ l. b ∷ l) (tags_with_names bs)
 
-slid_apart : (n s : ℕ) (bs : List machine.Block) → AreApart bs → AreApart (slid n s bs)
+slid_apart : (n s : ℕ) (bs : List machine.Block) → AreApart bs → AreApart (slid_by n s bs)
 slid_apart n s bs a =
     let ls = with_names bs in
     let last : Label = record { name = 0; size = given_up n bs; tag = Free (s + length bs) } in
@@ -346,21 +346,21 @@ well_slid s w n p is begins live fits =
     let run = p.run in
     let last : machine.Block = machine.block (given_up n run) (Free (stamp_of_call s + length run)) in
     let steps = stepped n (stamp_of_call s) run in
-    let inner = slid n (stamp_of_call s) run ++ p.back in
+    let inner = slid_by n (stamp_of_call s) run ++ p.back in
     let left = p.front ++ inner in
     let others : Tag → ℕ = λ t. count t p.front + count t p.back in
     let old_length : length s.blocks ≡ length p.front + (length run + length p.back) =
     ap (λ (l : List machine.Block). length l) is ∙ length-append p.front (run ++ p.back) ∙ ap (λ m. length p.front + m) (length-append run p.back) in
     let new_length : length left ≡ length p.front + ((length steps + 1) + length p.back) =
-    length-append p.front inner ∙ ap (λ m. length p.front + m) (length-append (slid n (stamp_of_call s) run) p.back ∙ ap (λ m. m + length p.back) (length-append steps (last ∷ []))) in
+    length-append p.front inner ∙ ap (λ m. length p.front + m) (length-append (slid_by n (stamp_of_call s) run) p.back ∙ ap (λ m. m + length p.back) (length-append steps (last ∷ []))) in
     let old_count : (t : Tag) → count t s.blocks ≡ others t + count t run =
     λ t. omega (arith, ap (count t) is, count-append t p.front (run ++ p.back), count-append t run p.back) in
     let new_count : (t : Tag) → count t left ≡ others t + (count t steps + hit t last.tag) =
-    λ t. omega (arith, count-append t p.front inner, count-append t (slid n (stamp_of_call s) run) p.back, count-append t steps (last ∷ [])) in
+    λ t. omega (arith, count-append t p.front inner, count-append t (slid_by n (stamp_of_call s) run) p.back, count-append t steps (last ∷ [])) in
     let parts = apart_parts p.front (run ++ p.back) (subst AreApart is w.apart) in
     let rest = apart_parts run p.back parts.1 in
     let front_live : ends_free p.front ≡ false = left_false (ends_free p.front) (starts_free (run ++ p.back)) parts.2 (starts_append run p.back begins) in
-    let apart_inner = apart_append (slid n (stamp_of_call s) run) p.back (slid_apart n (stamp_of_call s) run rest.0) rest.1 (and_right (ends_free (slid n (stamp_of_call s) run)) (starts_free p.back) live) in
+    let apart_inner = apart_append (slid_by n (stamp_of_call s) run) p.back (slid_apart n (stamp_of_call s) run rest.0) rest.1 (and_right (ends_free (slid_by n (stamp_of_call s) run)) (starts_free p.back) live) in
     let few = stepped_few n (stamp_of_call s) run in
     let room : length left + 1 ≤ s.limit = elim fits [
       | inl free ↦ let less = less_with_end n (stamp_of_call s) run free in omega (arith, new_length, old_length, less, w.room)

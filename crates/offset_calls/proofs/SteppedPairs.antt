@@ -4,7 +4,7 @@ use Rattle.offset_calls.proofs.Common.{ap₂, subst, subst₂, ◌∙◌, inl, i
 use Rattle.offset_script.proofs.Alike.{IsAlike, IsMatched}
 use Rattle.offset_script.proofs.Pairs.{Kind, Lives, Frees, Pair, pair, left_tag, left, right, lefts, rights, AreAgreed, IsSameOrder, same_free, pair_free_part, lefts_free_part, rights_free_part, in_free_part}
 use Rattle.offset_script.proofs.{Members.IsIn, Members.in_append, Members.in_left, Members.in_right, Labels.map_three}
-use Rattle.offset_calls.specs.Stepped.{kept, stepped, given_up, slid, slid_run}
+use Rattle.offset_calls.specs.Stepped.{kept, stepped, given_up, slid_by, slid_run}
 use Rattle.offset_script.specs.Machine as machine
 
 pub kept_right : (n m : ℕ) (ps : List Pair) → kept n m (lefts ps) ≡ kept n m (rights ps)
@@ -43,10 +43,10 @@ given_pairs n (q ∷ ps) = ap₂ (λ a b. a + b) (ap₂ (λ (t : Bool) k. if t t
 abbrev slid_pairs : ℕ → ℕ → ℕ → List Pair → List Pair
 slid_pairs n s u ps = stepped_pairs n s u ps ++ pair (given_up n (lefts ps)) (Frees (s + length (lefts ps)) (u + length (lefts ps))) ∷ []
 
-lefts_slid : (n s u : ℕ) (ps : List Pair) → lefts (slid_pairs n s u ps) ≡ slid n s (lefts ps)
+lefts_slid : (n s u : ℕ) (ps : List Pair) → lefts (slid_pairs n s u ps) ≡ slid_by n s (lefts ps)
 lefts_slid n s u ps = map-append left (stepped_pairs n s u ps) _ ∙ ap (λ l. l ++ machine.block (given_up n (lefts ps)) (machine.Free (s + length (lefts ps))) ∷ []) (lefts_stepped n s u ps)
 
-rights_slid : (n s u : ℕ) (ps : List Pair) → rights (slid_pairs n s u ps) ≡ slid n u (rights ps)
+rights_slid : (n s u : ℕ) (ps : List Pair) → rights (slid_pairs n s u ps) ≡ slid_by n u (rights ps)
 rights_slid n s u ps = map-append right (stepped_pairs n s u ps) _
     ∙ ap₂ (λ l (m : ℕ). l ++ machine.block (given_up n (lefts ps)) (machine.Free (u + m)) ∷ []) (rights_stepped n s u ps) (length-map ps left ∙ sym (length-map ps right))
     ∙ ap (λ (m : ℕ). stepped n u (rights ps) ++ machine.block m (machine.Free (u + length (rights ps))) ∷ []) (given_pairs n ps)

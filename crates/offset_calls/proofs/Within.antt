@@ -8,7 +8,7 @@ use Rattle.std.proofs.lemmas.List.Elements.{filter-append}
 use Rattle.offset_allocator.specs.declared.moves.budget.Progress.{Progress}
 use Rattle.offset_allocator.specs.declared.moves.room.RoomCost.{RoomCost}
 use Rattle.offset_allocator.specs.Moving.BySteps as by
-use Rattle.offset_allocator.specs.Moving.Budget.{CanFollow, CompactsWithin, IsReached, IsWithin, SlidesWithin, StopsAt, first_from}
+use Rattle.offset_allocator.specs.Moving.Budget.{CanFollow, CompactsWithin, IsRunWithin, IsWithin, SlidesWithin, StopsAt, first_from}
 use Rattle.offset_allocator.specs.Moving.Budget as named_budget
 use Rattle.offset_allocator.specs.Moving.Compacting as named_moves
 use Rattle.offset_allocator.proofs.Moving.Budgeted.{begun, from_here}
@@ -291,7 +291,7 @@ module _ (v w : View) (hs left : List (Option Handle)) (r : Reply) (s : State) (
     found = first_run (longest_that (is_within u k)) n from 0 s.blocks
 
     -- the labels of a run that slides
-    labelled : (front : List Block) (first : Block) (rest back : List Block) → IsReached n from u k v front first rest back → IsLabelledReach n from u k p.agrees.labels front first rest back
+    labelled : (front : List Block) (first : Block) (rest back : List Block) → IsRunWithin n from u k v front first rest back → IsLabelledReach n from u k p.agrees.labels front first rest back
     labelled front first rest back h = reached_at n from u k p.agrees.labels (λ x. subst (λ l. count_named x l ≤ 1) p.agrees.view (p.formed.distinct x)) front first rest back (sym p.agrees.view ∙ h.is)
         (ap (first_from n from 0) (sym p.agrees.view) ∙ h.begins) h.within h.stops
 
@@ -299,7 +299,7 @@ module _ (v w : View) (hs left : List (Option Handle)) (r : Reply) (s : State) (
     abbrev run_of : (f r b : List Label) → Split
     run_of f r b = split (tags f) (tags r) (tags b)
 
-    found_is : (front : List Block) (first : Block) (rest back : List Block) → (h : IsReached n from u k v front first rest back)
+    found_is : (front : List Block) (first : Block) (rest back : List Block) → (h : IsRunWithin n from u k v front first rest back)
         → found ≡ Some (run_of (labelled front first rest back h).f (labelled front first rest back h).r (labelled front first rest back h).b)
     found_is front first rest back h = ap (first_run (longest_that (is_within u k)) n from 0) p.agrees.state ∙ (labelled front first rest back h).found
 

@@ -1,8 +1,8 @@
 -- The plain stamped machine over every call: beside the commands of a script, the calls that resize a range, compact
 -- the space, by whole steps too and within a budget, make room for a request, by whole steps too, take any free block that
--- is large enough, take the units at an offset, grant a second range, take units off the end, and ask for an offset, for
--- that of a grant, for the reason of a refusal, for what room would cost, by whole steps too, or for the live range beside
--- one. States and stamps are those of the script's machine.
+-- is large enough, take the units at an offset, grant a second range, take units off the end, and ask where a range begins,
+-- where a request's grant would begin, why it would be refused, what room would cost, by whole steps too, and which live
+-- range is the first, the last, or beside one. States and stamps are those of the script's machine.
 use Rattle.std.specs.Prelude.{ℕ, ◌+◌, ◌-◌, max, min, Bool, true, false, not, ◌&&◌, ◌||◌, List, [], ◌∷◌, ◌++◌, length, map, sum, Option, Some, None, is_some, nat_eq, nat_lt, nat_le, if◌then◌else◌}
 use Rattle.offset_allocator.specs.declared.reports.Refusal as allocator
 use Rattle.offset_allocator.specs.declared.reports.Refusal.TheVariants.{Nodes, TooLarge, Space, Fragmented}
@@ -154,12 +154,12 @@ slides_run n s r p =
     if ends_live p.run && is_short_of 1 s then replies_only s (Answer machine.Refused)
     else record { state = slid_run n s p; reply = r }
 
--- all blocks from the first free one of n units on slide; nothing changes where there is none with a block after it
+-- all blocks from the first free one of at least n units on slide; nothing changes where there is none with a block after it
 abbrev pub compact_by : ℕ → State → Option Split → Outcome
 compact_by n s None = replies_only s (Compacted [])
 compact_by n s (Some p) = slides_run n s (Compacted (moves_by n 0 0 s.blocks)) p
 
--- blocks from such a one on slide, as far as the budget goes
+-- blocks from the first free one on that has n units and does not end before `from` slide, as far as the budget goes
 abbrev pub compact_within : ℕ → State → Option Split → Outcome
 compact_within n s None = replies_only s (CompactedWithin None [])
 compact_within n s (Some p) = slides_run n s (CompactedWithin (next_of p) (moves_of_run n p)) p
@@ -205,10 +205,10 @@ shortage n size free =
     else if nat_lt free (max 1 (value (up n))) then Space
     else Fragmented
 
--- why a request is refused that may add `spare` blocks and takes the block chosen for n units
+-- why a request is refused that may add `more` blocks and takes the block chosen for n units
 abbrev pub reason : ℕ → ℕ → State → Option allocator.Refusal
-reason spare n s =
-    if is_short_of spare s then Some Nodes
+reason more n s =
+    if is_short_of more s then Some Nodes
     else if is_some (chosen_place n s.blocks) then None
     else Some (shortage n (total s.blocks) (sum (free_sizes s.blocks)))
 

@@ -27,14 +27,14 @@ abbrev pub cheapest_that : (List Block → Bool) → List Block → Option Split
 cheapest_that test [] = None
 cheapest_that test (b ∷ bs) = cheaper b (if is_free b.tag then shortest_that test (b ∷ bs) else None) (cheapest_that test bs)
 
--- how many blocks a run has to use up, so that there may be one of what it gives up, and then `spare` more
+-- how many blocks a run has to use up, so that there may be one of what it gives up, and then `more` others
 abbrev pub blocks_short : ℕ → ℕ → ℕ → ℕ
-blocks_short spare limit blocks = (blocks + spare + 2) - limit
+blocks_short more limit blocks = (blocks + more + 2) - limit
 
 -- the run that slides by steps of n units for a request, or nothing where none serves
 abbrev pub cheapest_by : ℕ → ℕ → ℕ → State → Option Split
-cheapest_by n want spare s = cheapest_that (serves n want (blocks_short spare s.limit (length s.blocks))) s.blocks
+cheapest_by n want more s = cheapest_that (serves n want (blocks_short more s.limit (length s.blocks))) s.blocks
 
 -- what it costs
 abbrev pub room_cost_by : ℕ → ℕ → ℕ → State → Option RoomCost
-room_cost_by n want spare s = option_map (λ (p : Split). cost_of p.run) (cheapest_by n want spare s)
+room_cost_by n want more s = option_map (λ (p : Split). cost_of p.run) (cheapest_by n want more s)

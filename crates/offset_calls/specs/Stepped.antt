@@ -19,18 +19,18 @@ given_up n [] = 0
 given_up n (b ∷ bs) = (if is_free b.tag then b.size - kept n b.size bs else 0) + given_up n bs
 
 -- a run of blocks slid by steps of n, and what they give up as one free block after them, the newest
-abbrev pub slid : ℕ → ℕ → List Block → List Block
-slid n t run = stepped n t run ++ block (given_up n run) (Free (t + length run)) ∷ []
+abbrev pub slid_by : ℕ → ℕ → List Block → List Block
+slid_by n t run = stepped n t run ++ block (given_up n run) (Free (t + length run)) ∷ []
 
 -- the state after a run has slid by steps of n units. It counts as one call more than the run has blocks, since each free
 -- block that remains gets a new stamp
 abbrev pub slid_run : ℕ → State → Split → State
 slid_run n s p = record s {
   calls = s.calls + length p.run + 1;
-  blocks = p.front ++ (slid n (stamp_of_call s) p.run ++ p.back);
+  blocks = p.front ++ (slid_by n (stamp_of_call s) p.run ++ p.back);
 }
 
--- the run from the first free block on that has n units, ends at `from` or behind it, and has blocks after it, of which
+-- the run from the first free block on that has at least n units, ends at `from` or behind it, and has blocks after it, of which
 -- `reach` says how many belong to the run; o is where the list begins
 abbrev pub first_run : (List Block → Split) → ℕ → ℕ → ℕ → List Block → Option Split
 first_run reach n from o [] = None

@@ -17,7 +17,7 @@ use Rattle.offset_allocator.specs.declared.moves.budget.Progress.{Progress}
 use Rattle.offset_allocator.specs.Reporting.Walking as named_beside
 use Rattle.offset_allocator.specs.Moving.Relocating.{Relocates, RelocatesAligned, WouldBegin}
 use Rattle.offset_allocator.specs.Moving.Retracting.{Retracts}
-use Rattle.offset_allocator.specs.AtPlace.{AllocatesAt}
+use Rattle.offset_allocator.specs.AtOffset.{AllocatesAt}
 use Rattle.offset_allocator.specs.Tight.{AlignsTight, CanHold, IsWhyTight}
 use Rattle.offset_script.specs.Steps.{kept_name, AreNamedApart, IfNamed, IsKept, Stays}
 use Rattle.offset_script.specs.Machine as machine
@@ -50,11 +50,11 @@ abbrev pub begins_at : Option ℕ → Reply
 begins_at None = Answer machine.Refused
 begins_at (Some o) = Offset o
 
--- the same of a request that takes any free block that holds it
+-- why a tight request would be refused, which takes any free block that holds it
 abbrev pub IsReasonTight : ℕ → ℕ → View → Option Refusal → Type 0
 IsReasonTight n align v r = (r ≡ None ↔ CanHold n align v) × IfSome r (IsWhyTight n align v)
 
--- such a request, whose grant is kept, with this reply
+-- a tight request, whose grant is kept, with this reply
 abbrev pub TakesTight : ℕ → ℕ → View → List (Option Handle) → View → List (Option Handle) → Reply → Type 0
 TakesTight n align v handles w later r = (g : Option Handle) × (a : machine.Answer) × AlignsTight n align v w g
     × IsKept g handles later a × (r ≡ Answer a)

@@ -44,6 +44,7 @@ number_in_command (command.Free k) = k
 number_in_command (command.Size k) = k
 number_in_command other = 0
 
+-- the same of any call
 abbrev pub number_in : Call → ℕ
 number_in (call.Command c) = number_in_command c
 number_in (call.Shrink k n) = k

@@ -21,11 +21,11 @@ holding_place n align offset [] = None
 holding_place n align offset (b ∷ bs) =
     better (holds n align offset b) b bs (holding_place n align (offset + b.size) bs)
 
--- a request for n units from a multiple of align on, which may add `spare` blocks: it takes the block chosen for
+-- a request for n units from a multiple of align on, which may add `more` blocks: it takes the block chosen for
 -- `needed` units, and where there is none, the block that holds it
 abbrev pub request_tight : State → ℕ → ℕ → ℕ → ℕ → Outcome
-request_tight s spare needed n align =
-    if is_short_of spare s then returns_only s Refused
+request_tight s more needed n align =
+    if is_short_of more s then returns_only s Refused
     else grant_or_refuse s n (padding_to align)
     (option_or (chosen_place needed s.blocks) (holding_place n align 0 s.blocks))
 
@@ -38,10 +38,10 @@ allocate_tight n align s =
 abbrev pub lack : ℕ → ℕ → ℕ → Refusal
 lack n size free = if nat_lt size n then TooLarge else if nat_lt free (max 1 n) then Space else Fragmented
 
--- why such a request is refused that may add `spare` blocks
+-- why such a request is refused that may add `more` blocks
 abbrev pub reason_held : ℕ → ℕ → ℕ → State → Option Refusal
-reason_held spare n align s =
-    if is_short_of spare s then Some Nodes
+reason_held more n align s =
+    if is_short_of more s then Some Nodes
     else if is_some (holding_place n align 0 s.blocks) then None
     else Some (lack n (total s.blocks) (sum (free_sizes s.blocks)))
 

@@ -82,7 +82,7 @@ fn numbered(found: Option<Ticket>) -> Reply
     }
 }
 
-// The reply to `First`.
+// The reply to `FirstLive`.
 pub(crate) fn first_live<T: Tables>(player: &TicketPlayer<T>) -> Reply
     requires all_tickets { AreAllTickets player.now.space player.now.tickets.items }
     requires kept { AreKept player.now.space.space (handles_of player.now.space player.now.tickets.items) }
@@ -92,7 +92,7 @@ pub(crate) fn first_live<T: Tables>(player: &TicketPlayer<T>) -> Reply
     numbered(player.space.first_live())
 }
 
-// The reply to `Last`.
+// The reply to `LastLive`.
 pub(crate) fn last_live<T: Tables>(player: &TicketPlayer<T>) -> Reply
     requires all_tickets { AreAllTickets player.now.space player.now.tickets.items }
     requires kept { AreKept player.now.space.space (handles_of player.now.space player.now.tickets.items) }
@@ -102,7 +102,7 @@ pub(crate) fn last_live<T: Tables>(player: &TicketPlayer<T>) -> Reply
     numbered(player.space.last_live())
 }
 
-// The reply to `Before`.
+// The reply to `LiveBefore`.
 pub(crate) fn live_before<T: Tables>(player: &TicketPlayer<T>, ticket: Option<Ticket>) -> Reply
     requires all_tickets { AreAllTickets player.now.space player.now.tickets.items }
     requires kept { AreKept player.now.space.space (handles_of player.now.space player.now.tickets.items) }
@@ -119,7 +119,7 @@ pub(crate) fn live_before<T: Tables>(player: &TicketPlayer<T>, ticket: Option<Ti
     numbered(player.space.live_before(ticket))
 }
 
-// The reply to `After`.
+// The reply to `LiveAfter`.
 pub(crate) fn live_after<T: Tables>(player: &TicketPlayer<T>, ticket: Option<Ticket>) -> Reply
     requires all_tickets { AreAllTickets player.now.space player.now.tickets.items }
     requires kept { AreKept player.now.space.space (handles_of player.now.space player.now.tickets.items) }

@@ -75,7 +75,7 @@ fn allocate_aligned<T: Tables>(
     keep(&mut player.tickets, granted)
 }
 
-// The reply to `Tight`.
+// The reply to `AllocateTight`.
 fn allocate_tight<T: Tables>(player: &mut TicketPlayer<T>, size: u32) -> Result<Reply, AllocError>
     requires all_tickets { AreAllTickets player.old.space player.old.tickets.items }
     requires left { HasSerialLeft player.old.space }
@@ -86,7 +86,7 @@ fn allocate_tight<T: Tables>(player: &mut TicketPlayer<T>, size: u32) -> Result<
     Ok(Reply::Answer(keep(&mut player.tickets, granted)?))
 }
 
-// The reply to `TightAligned`.
+// The reply to `AllocateTightAligned`.
 fn allocate_tight_aligned<T: Tables>(
     player: &mut TicketPlayer<T>,
     size: u32,

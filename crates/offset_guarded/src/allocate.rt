@@ -8,7 +8,7 @@ ghost use Rattle.offset_allocator.specs.View.{View, Handle, bin_at, padding_to, 
 ghost use Rattle.offset_allocator.specs.Relations.{Aligns, Allocates};
 ghost use Rattle.offset_allocator.specs.Requests.{CanGrant, blocks_needed, units_needed};
 ghost use Rattle.offset_allocator.specs.Classes.{down};
-ghost use Rattle.offset_allocator.specs.AtPlace.{AllocatesAt, CanGrantAt};
+ghost use Rattle.offset_allocator.specs.AtOffset.{AllocatesAt, CanGrantAt};
 ghost use Rattle.offset_allocator.specs.Tight.{AlignsTight, CanHold, listed_from};
 ghost use Rattle.offset_guarded.specs.Guard.{Grants, IsLive, IsSame, IsWhy, IsWhyTight, cell, handle_in};
 ghost use Rattle.offset_guarded.specs.Guard.{HasSerialLeft, last_serial};

@@ -19,7 +19,7 @@ ghost use Rattle.std.specs.Prelude.{IsSome, IsTrue, IfSome, IfOk, MatchOption, o
 ghost use Rattle.offset_allocator.specs.Ranges.{Range};
 ghost use Rattle.offset_allocator.specs.Ranges as named;
 ghost use Rattle.offset_allocator.specs.Relations.{Frees, IsFresh, Resets};
-ghost use Rattle.offset_allocator.specs.View.{used_of};
+ghost use Rattle.offset_allocator.specs.View.{count_used};
 ghost use Rattle.offset_guarded.specs.Guard.{HasSerialLeft, IsCopy, IsLive, IsRaised, KeepsOthers};
 ghost use Rattle.offset_guarded.specs.Guard.{last_serial, range_of, serial_of};
 
@@ -384,7 +384,7 @@ impl<T: Tables> GuardedOf<T> {
         ensures step { Resets self.old.space self.new.space }
         ensures serials { self.new ≡ record self.old { space = self.new.space } }
         ensures accesses_max { self.new.space.accesses
-            ≤ self.old.space.accesses + min (130 * used_of self.old.space.blocks + 2) 270 }
+            ≤ self.old.space.accesses + min (130 * count_used self.old.space.blocks + 2) 270 }
     {
         self.space.reset();
     }

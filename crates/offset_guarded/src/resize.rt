@@ -32,7 +32,7 @@ impl<T: Tables> GuardedOf<T> {
         ensures kept { KeepsLive self.old self.new }
         // A refusal leaves all as it was, and a ticket that is not live changes nothing at all.
         ensures same { result ≡ Some false → IsSame self.old self.new }
-        ensures gone { result ≡ None → self.new ≡ self.old }
+        ensures not_live { result ≡ None → self.new ≡ self.old }
         // The step of the allocator. All serials stay.
         ensures step { IfSome result (Shrinks ticket.name size self.old.space self.new.space) }
         ensures serials { KeepsSerials self.old self.new }
@@ -69,7 +69,7 @@ impl<T: Tables> GuardedOf<T> {
         ensures kept { KeepsLive self.old self.new }
         // A refusal leaves all as it was, and a ticket that is not live changes nothing at all.
         ensures same { result ≡ Some false → IsSame self.old self.new }
-        ensures gone { result ≡ None → self.new ≡ self.old }
+        ensures not_live { result ≡ None → self.new ≡ self.old }
         // The step of the allocator. All serials stay.
         ensures step { IfSome result (Grows ticket.name size self.old.space self.new.space) }
         ensures serials { KeepsSerials self.old self.new }

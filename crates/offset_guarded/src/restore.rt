@@ -1,6 +1,5 @@
 //! A guarded allocator from the bytes of its state, or what is wrong with them. It makes tables.
 ghost use Rattle.std.specs.Prelude.{◌≡◌, ◌+◌, ◌*◌, ◌<◌, ◌≤◌, ℕ, IfErr, IfOk, IfSome, IsErr, IsSome, None};
-ghost use Rattle.std.specs.Prelude.{length};
 ghost use Rattle.offset_allocator.specs.Ranges as named;
 ghost use Rattle.offset_allocator.specs.Saving.StateFaults.{IfFault};
 ghost use Rattle.offset_guarded.specs.Guard.{Guard, cell};

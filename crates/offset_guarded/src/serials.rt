@@ -26,8 +26,8 @@ impl Model for Serials {
     ghost view = { λ s. record { cells = s.cells.items; given = s.given; room = vec_capacity s.cells } };
 }
 
-// Adds a cell at the end of a table that has room for it. `insert`, unlike `push`, promises that the memory
-// stays the same. It is out of line, since each cell is made once.
+// Adds a cell at the end of a table that has room for it. `push_reserved`, unlike `push`, promises that the
+// memory stays the same. It is out of line, since each cell is made once.
 #[inline(never)]
 fn push_within(cells: &mut Vec<u64>, serial: u64)
     requires { vec_len cells.old < vec_capacity cells.old }
@@ -35,7 +35,7 @@ fn push_within(cells: &mut Vec<u64>, serial: u64)
     ensures len { vec_len cells.new ≡ vec_len cells.old + 1 }
     ensures memory { vec_capacity cells.new ≡ vec_capacity cells.old }
 {
-    let _ = cells.insert(cells.len(), serial);
+    cells.push_reserved(serial);
 }
 
 impl Serials {

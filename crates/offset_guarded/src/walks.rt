@@ -1,6 +1,6 @@
 //! Walks from one live range to the next in space, and what is live at an offset. It changes nothing.
 ghost use Rattle.std.specs.Prelude.{◌≡◌, None, option_map};
-ghost use Rattle.offset_allocator.specs.AtPlace.{in_the_way};
+ghost use Rattle.offset_allocator.specs.AtOffset.{in_the_way};
 ghost use Rattle.offset_allocator.specs.Reporting.Walking.{first_live, last_live, live_after, live_before};
 ghost use Rattle.offset_allocator.specs.View.{Handle};
 ghost use Rattle.offset_guarded.specs.Guard.{IsLive, ticket_at};
@@ -100,7 +100,7 @@ impl<T: Tables> GuardedOf<T> {
     pub fn live_before(&self, ticket: Ticket) -> Option<Ticket>
         ensures before { IsLive ticket self.now → result
             ≡ option_map (λ (h : Handle). ticket_at h self.now) (live_before ticket.name self.now.space) }
-        ensures gone { (IsLive ticket self.now → ⊥) → result ≡ None }
+        ensures not_live { (IsLive ticket self.now → ⊥) → result ≡ None }
     {
         match self.handle(ticket) {
             None => None,
@@ -122,7 +122,7 @@ impl<T: Tables> GuardedOf<T> {
     pub fn live_after(&self, ticket: Ticket) -> Option<Ticket>
         ensures after { IsLive ticket self.now → result
             ≡ option_map (λ (h : Handle). ticket_at h self.now) (live_after ticket.name self.now.space) }
-        ensures gone { (IsLive ticket self.now → ⊥) → result ≡ None }
+        ensures not_live { (IsLive ticket self.now → ⊥) → result ≡ None }
     {
         match self.handle(ticket) {
             None => None,

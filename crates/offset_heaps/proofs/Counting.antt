@@ -2,7 +2,7 @@
 use Rattle.std.proofs.Common.{◌≡◌, ℕ, Bool, true, zero, suc, ◌+◌, ◌<◌, ◌≤◌, List, [], ◌∷◌, Option, Some, None, length, slice_set, sum, if◌then◌else◌, nat_eq, refl, ap, inl, inr, arith}
 use Rattle.std.proofs.lemmas.Bool.{cases_Bool, cases_eq}
 use Rattle.std.proofs.lemmas.List.Sums.{sum_by-cons}
-use Rattle.offset_allocator.specs.View.{used_of}
+use Rattle.offset_allocator.specs.View.{count_used}
 use Rattle.offset_guarded.specs.Guard.{Guard}
 use Rattle.offset_heaps.specs.{Heaps.empties, Heaps.is_empty, Heaps.part, Heaps.slot, Maxima.AreBelow, Maxima.AreMarks, Maxima.cell, Soundness.empty_key}
 use Rattle.offset_heaps.proofs.Trees.{cell_other, cell_same}
@@ -56,7 +56,7 @@ mark_counted marked keys at are l =
     (omega (arith, none, count), omega (arith, few, count))
 
 -- as many heaps are empty as are marked
-empty_part : (o : Option Guard) → part (λ (g : Guard). if nat_eq (used_of g.space.blocks) 0 then 1 else 0) o ≡ empty_key o
+empty_part : (o : Option Guard) → part (λ (g : Guard). if nat_eq (count_used g.space.blocks) 0 then 1 else 0) o ≡ empty_key o
 empty_part None = refl
 empty_part (Some g) = refl
 

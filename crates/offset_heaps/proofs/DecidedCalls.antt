@@ -2,7 +2,7 @@
 use Rattle.std.proofs.Common.{[], ◌∷◌, map, suc}
 use Rattle.std.proofs.Common.{◌≡◌, ℕ, ◌+◌, ◌<◌, ◌≤◌, Bool, true, false, List, Option, Some, None, MatchOption, Result, Ok, Err, IsSome, is_some, if◌then◌else◌, nat_eq, refl, sym, ap, ap₂, subst, subst₂, ◌∙◌, inl, inr, arith}
 use Rattle.std.proofs.lemmas.Bool.{cases_Bool, cases_eq, cases_lt}
-use Rattle.offset_allocator.specs.{Classes.up, Classes.value, Relations.SameState, Requests.blocks_needed, Requests.units_needed, View.IsWellFormed, View.View, View.used_of}
+use Rattle.offset_allocator.specs.{Classes.up, Classes.value, Relations.SameState, Requests.blocks_needed, Requests.units_needed, View.IsWellFormed, View.View, View.count_used}
 use Rattle.offset_allocator.specs.declared.moves.room.RoomCost.{RoomCost}
 use Rattle.offset_allocator.proofs.{DecidedChanges.compacts_decided, DecidedChanges.extends_decided, DecidedChanges.grows_decided, DecidedChanges.shrinks_decided, Moving.DecidedRooms.noted_decided}
 use Rattle.offset_guarded.specs.Guard.{Guard, serial_of}
@@ -14,7 +14,7 @@ use Rattle.offset_heaps.specs.declared.refusal.Refusal.{Refusal}
 use Rattle.offset_heaps.specs.declared.refusal.Refusal.TheVariants.{Memory}
 use Rattle.offset_heaps.specs.Changing.{CanResizeAt, CanResizeIn, ResizesAt, NewSize, Shrunk, Grown, Alters, CompactsAll, CompactsIn, CompactsSlot, MakesRoomIn, Resizes, ResizesSpace}
 use Rattle.offset_heaps.specs.Extending.{CanExtendIn, ExtendsIf}
-use Rattle.offset_heaps.specs.Heaps.{Heaps, Grants, IsFirstFit, IsRaisedAsNeeded, IsNext, IsWhy, NoneFits, Puts, heap_at, is_empty, empties, live_of, numbers, part, slot, AreTotals, free_of, largest_room}
+use Rattle.offset_heaps.specs.Heaps.{Heaps, Grants, IsFirstFit, IsRaisedAsNeeded, IsNext, IsWhy, NoneFits, Puts, heap_at, is_empty, empties, live_units_of, numbers, part, slot, AreTotals, free_of, largest_room}
 use Rattle.offset_heaps.specs.{Heaps.room_of, Heaps.total, Heaps.units_of_heap, Histories.ResetsAll, State.quiet, Twins.AreTwins, Twins.IsTwin, Twins.IsTwinIn}
 use Rattle.offset_heaps.specs.declared.totals.Totals.{Totals}
 use Rattle.offset_heaps.specs.Relocating.{HasLive, IsEmptiest, NoneLive, TakesRange, granted, live_units_at, units_in, size_of}
@@ -124,7 +124,7 @@ size_same how p d hs hs' ks ks' is t a b =
     alters_twins p.heap P P hs hs' ks ks' t a b (kept_twins a.before b.before a.after b.after before a.by.serials b.by.serials a.by.kept one)
 
 pub size_decided : (how : NewSize) (p : Place) (hs hs' ks ks' : Heaps) → state.IsWellFormed hs → AreTwins hs hs' → (r r' : Option Bool) → TakesSize how p hs ks r → TakesSize how p hs' ks' r' → (r ≡ r') × AreTwins ks ks'
-size_decided how p hs hs' ks ks' is t None None x y = (refl, same_twins hs hs' ks ks' t (x.gone refl) (y.gone refl))
+size_decided how p hs hs' ks ks' is t None None x y = (refl, same_twins hs hs' ks ks' t (x.not_live refl) (y.not_live refl))
 size_decided how p hs hs' ks ks' is t None (Some d) x y = absurd (let e : false ≡ true = x.live.1 (subst (λ o. is_some o ≡ true) (range_twins hs hs' t p) (y.live.0 refl)) in cc)
 size_decided how p hs hs' ks ks' is t (Some d) None x y = absurd (let e : false ≡ true = y.live.1 (subst (λ o. is_some o ≡ true) (sym (range_twins hs hs' t p)) (x.live.0 refl)) in cc)
 size_decided how p hs hs' ks ks' is t (Some true) (Some false) x y = absurd (let e : false ≡ true = y.done.1 (can_at how p hs hs' t (x.done.0 refl)) in cc)
@@ -215,7 +215,7 @@ module _ (p : Place) (hs ks : Heaps) (t : AreTwins hs ks) where
   size_twins = ap units_in (range_twins hs ks t p)
 
   live_twins : (k : ℕ) → live_units_at k ks ≡ live_units_at k hs
-  live_twins k = option_twin (part live_of) (heap_at k hs) (heap_at k ks) (λ g h u. ap live_of (as_twin g h u)) (t.heaps k)
+  live_twins k = option_twin (part live_units_of) (heap_at k hs) (heap_at k ks) (λ g h u. ap live_units_of (as_twin g h u)) (t.heaps k)
 
   takes_twins : (align k : ℕ) → TakesRange p align hs k → TakesRange p align ks k
   takes_twins align k takes = (
@@ -245,7 +245,7 @@ empty_twins hs ks t k = option_twin is_empty (heap_at k hs) (heap_at k ks) (λ g
 
 empties_twins : (hs ks : Heaps) → AreTwins hs ks → empties ks.slots ≡ empties hs.slots
 empties_twins hs ks t =
-    let one : Guard → ℕ = λ g. if nat_eq (used_of g.space.blocks) 0 then 1 else 0 in
+    let one : Guard → ℕ = λ g. if nat_eq (count_used g.space.blocks) 0 then 1 else 0 in
     total_twins one ks.slots hs.slots (λ k. option_twin (part one) (heap_at k hs) (heap_at k ks) (λ g h u. ap one (as_twin g h u)) (t.heaps k))
 
 gone_twins : (k : ℕ) (hs hs' ks ks' : Heaps) → AreTwins hs hs' → is_some (heap_at k hs) ≡ true → is_some (heap_at k hs') ≡ true → Puts k None hs ks → Puts k None hs' ks' → AreTwins ks ks'
@@ -299,7 +299,7 @@ lives_twins hs ks t k = go (heap_at k hs) (heap_at k ks) (t.heaps k)
   where
     go : (o p : Option Guard) → IsTwinIn o p → HasLive o → HasLive p
     go None p u live = absurd live
-    go (Some g) p u live = subst HasLive (sym u.1) (subst (λ n. 1 ≤ n) (sym (ap (λ (z : Guard). used_of z.space.blocks) (as_twin g u.0 u.2))) live)
+    go (Some g) p u live = subst HasLive (sym u.1) (subst (λ n. 1 ≤ n) (sym (ap (λ (z : Guard). count_used z.space.blocks) (as_twin g u.0 u.2))) live)
 
 not_fewer : (hs hs' : Heaps) (n k j : ℕ) → AreTwins hs hs' → IsEmptiest n hs.slots k → IsEmptiest n hs'.slots j → k < j → ⊥
 not_fewer hs hs' n k j t x y l =
@@ -341,7 +341,7 @@ totals_decided hs hs' t r r' x y =
     sym (total_twins f hs'.slots hs.slots (λ k. option_twin (part f) (heap_at k hs) (heap_at k hs') each (t.heaps k))) in
     let heaps : r.heaps ≡ r'.heaps = x.heaps ∙ same (λ g. 1) (λ g h u. refl) ∙ sym y.heaps in
     let units : r.units ≡ r'.units = x.units ∙ same units_of_heap (λ g h u. ap units_of_heap (as_twin g h u)) ∙ sym y.units in
-    let live : r.live_units ≡ r'.live_units = x.live_units ∙ same live_of (λ g h u. ap live_of (as_twin g h u)) ∙ sym y.live_units in
+    let live : r.live_units ≡ r'.live_units = x.live_units ∙ same live_units_of (λ g h u. ap live_units_of (as_twin g h u)) ∙ sym y.live_units in
     let free : r.free_units ≡ r'.free_units = x.free_units ∙ same free_of (λ g h u. ap free_of (as_twin g h u)) ∙ sym y.free_units in
     let largest : r.largest_free_region ≡ r'.largest_free_region = x.largest ∙ sym (largest_twins hs'.slots hs.slots (room_twins hs hs' t 1)) ∙ sym y.largest in
     ap₂ (λ (a b : ℕ). let z : Totals = record r { heaps = a; units = b } in z) heaps units

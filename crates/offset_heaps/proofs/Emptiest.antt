@@ -2,12 +2,12 @@
 use Rattle.std.proofs.Common.{◌≡◌, ℕ, ◌+◌, List, Option, Some, None, MatchOption, inl, inr, arith, subst, le-ltb}
 use Rattle.std.proofs.lemmas.Bool.{cases_eq, cases_lt, lt-ltb}
 use Rattle.offset_guarded.specs.Guard.{Guard}
-use Rattle.offset_heaps.specs.{Heaps.live_of, Heaps.part, Heaps.slot, Relocating.HasLive, Relocating.IsEmptiest, Relocating.NoneLive, Slots.IsMore}
+use Rattle.offset_heaps.specs.{Heaps.live_units_of, Heaps.part, Heaps.slot, Relocating.HasLive, Relocating.IsEmptiest, Relocating.NoneLive, Slots.IsEmptier}
 
 -- the emptiest of the first n heaps, and its live units
 abbrev pub IsSoFar : ℕ → List (Option Guard) → Option (ℕ × ℕ) → Type 0
 IsSoFar n slots None = NoneLive n slots
-IsSoFar n slots (Some f) = IsEmptiest n slots f.0 × (f.1 ≡ part live_of (slot f.0 slots))
+IsSoFar n slots (Some f) = IsEmptiest n slots f.0 × (f.1 ≡ part live_units_of (slot f.0 slots))
 
 -- a number in which nothing is live changes nothing
 kept : (n : ℕ) (slots : List (Option Guard)) (found : Option (ℕ × ℕ)) → (HasLive (slot n slots) → ⊥) → IsSoFar n slots found → IsSoFar (n + 1) slots found
@@ -32,8 +32,8 @@ kept n slots (Some f) dead was = let at = was.0.before in (
 )
 
 pub one_more : (n : ℕ) (slots : List (Option Guard)) (found new : Option (ℕ × ℕ)) (live : Option ℕ)
-    → MatchOption live (HasLive (slot n slots) → ⊥) (λ u. HasLive (slot n slots) × (u ≡ part live_of (slot n slots)))
-    → IsMore found n live new → IsSoFar n slots found → IsSoFar (n + 1) slots new
+    → MatchOption live (HasLive (slot n slots) → ⊥) (λ u. HasLive (slot n slots) × (u ≡ part live_units_of (slot n slots)))
+    → IsEmptier found n live new → IsSoFar n slots found → IsSoFar (n + 1) slots new
 one_more n slots found new None dead e was = rw e (kept n slots found dead was)
 one_more n slots None new (Some u) live e was = rw e (
   record {

@@ -4,7 +4,7 @@ use Rattle.std.proofs.Common.{[], ◌∷◌, is_some, option_map, arith}
 use Rattle.std.proofs.lemmas.Bool.{cases_Bool, cases_eq, eqb-true}
 use Rattle.offset_allocator.specs.Ranges.{AreDisjoint, Range}
 use Rattle.offset_allocator.specs.Ranges as named
-use Rattle.offset_allocator.specs.View.{Block, is_used_at, place_of, used_of, Place as Position}
+use Rattle.offset_allocator.specs.View.{Block, is_used_at, place_of, count_used, Place as Position}
 use Rattle.offset_allocator.proofs.Reading.{range_at}
 use Rattle.offset_guarded.specs.Guard as guarded
 use Rattle.offset_guarded.proofs.Guards.{live_fits}
@@ -64,7 +64,7 @@ module _ (hs ks : Heaps) (k : ℕ) (o : Option Guard) (put_slots : ks.slots ≡ 
 
 -- what a call of free leaves
 abbrev pub Freed : Ticket → Option Guard → Option Guard → Type 0
-Freed t o q = (range_in t q ≡ None) × KeepsOthersIn t o q × of.FreesIn t o q
+Freed t o q = (range_in t q ≡ None) × KeepsOthersIn t o q × of.FreesSlot t o q
 
 module _ (p : Place) (hs ks : Heaps) (l : p.heap < length hs.slots) (change : Changes p.heap (Freed p.ticket) hs.slots ks.slots)
     (rest : ks ≡ record hs { slots = ks.slots; accesses = ks.accesses }) where
@@ -107,7 +107,7 @@ pub same_slots : (p : Place) (realm : ℕ) (old new : List (Option Guard)) → n
 same_slots p realm old new e = ap (λ s. range_if (nat_eq p.realm realm) (range_in p.ticket (slot p.heap s))) e
 
 -- a heap with no live range has no live ticket
-none_used : (x : ℕ) (bs : List Block) → used_of bs ≡ 0 → is_used_at (place_of x bs) ≡ false
+none_used : (x : ℕ) (bs : List Block) → count_used bs ≡ 0 → is_used_at (place_of x bs) ≡ false
 none_used x [] e = refl
 none_used x (b ∷ bs) e = elim (cases_Bool b.used) [
   | inl u ↦ absurd (let one = rw u at e in omega arith)
@@ -128,7 +128,7 @@ not_used (Some p) h = rw h refl
 pub empty_range : (t : Ticket) (o : Option Guard) → is_empty o ≡ true → range_in t o ≡ None
 empty_range t None e = refl
 empty_range t (Some g) e = none_if (guarded.fits t g) (named.range_of t.name g.space) (not_used (place_of t.name g.space.blocks)
-    (none_used t.name g.space.blocks (eqb-true (used_of g.space.blocks) 0 e)))
+    (none_used t.name g.space.blocks (eqb-true (count_used g.space.blocks) 0 e)))
 
 -- every place keeps its range where an empty heap is dropped
 pub dropped_keeps : (hs ks : Heaps) (k : ℕ) → is_empty (heap_at k hs) ≡ true → heap_at k ks ≡ None → ks.realm ≡ hs.realm → KeepsOtherHeaps k hs ks → (p : Place) → range_of p ks ≡ range_of p hs

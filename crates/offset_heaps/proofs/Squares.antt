@@ -13,7 +13,7 @@ use Rattle.offset_guarded.specs.Guard.{Guard, handle_in}
 use Rattle.offset_guarded.specs.Guard as guarded
 use Rattle.offset_heaps.specs.Calls.{GoAll, Goes}
 use Rattle.offset_heaps.specs.declared.place.Place.{Place}
-use Rattle.offset_heaps.specs.Heaps.{Heaps, FreesIn, Grants, heap_at, live_of, part, range_in, units_of_heap, slot, total}
+use Rattle.offset_heaps.specs.Heaps.{Heaps, FreesIn, Grants, heap_at, live_units_of, part, range_in, units_of_heap, slot, total}
 use Rattle.offset_heaps.specs.Relocating.{TakesRange, granted, live_units_at, square_of, squares, units_in, size_of}
 use Rattle.offset_heaps.specs.State as state
 use Rattle.offset_heaps.proofs.Decided.{known, known_at}
@@ -107,7 +107,7 @@ squares_most hs w = total_most square_of square_most hs.slots (λ k. go (heap_at
     go None is = omega arith
     go (Some g) is =
         let all = adds_up g.space (is g refl) in
-        mul-le (live_of g) (live_of g) (units_of_heap g) (units_of_heap g) (omega (arith, all)) (omega (arith, all))
+        mul-le (live_units_of g) (live_units_of g) (units_of_heap g) (units_of_heap g) (omega (arith, all)) (omega (arith, all))
 
 -- ---- a range goes to another heap
 module _ (p q : Place) (hs ks : Heaps) (known_well : state.IsWellFormed hs) (goes : Goes p q hs ks) where
@@ -138,7 +138,7 @@ module _ (p q : Place) (hs ks : Heaps) (known_well : state.IsWellFormed hs) (goe
   from : heap_at p.heap hs ≡ Some f.before
   from = sym (slot_other hs.slots q.heap p.heap (Some s.after) (λ e. takes.1.other (sym e))) ∙ sym (ap (slot p.heap) slots) ∙ f.heap
 
-  grown : live_of s.after ≡ live_of s.before + size_of p hs
+  grown : live_units_of s.after ≡ live_units_of s.before + size_of p hs
   grown = elim s.step [
     | inl a ↦ splits_units (units_needed (size_of p hs) goes.align) (size_of p hs) (padding_to goes.align) s.before.space s.after.space (handle_in q.ticket) a.1.1
     | inr a ↦ absurd (let e : false ≡ true = a.0 in cc)
@@ -159,7 +159,7 @@ module _ (p q : Place) (hs ks : Heaps) (known_well : state.IsWellFormed hs) (goe
       ∙ units_if (guarded.fits p.ticket f.before) (named.range_of p.ticket.name f.before.space) some
       ∙ freed_size p.ticket.name f.before.space f.after.space f.step (known_at hs (known hs known_well) p.heap f.before from)
 
-  lost : live_of f.after + size_of p hs ≡ live_of f.before
+  lost : live_units_of f.after + size_of p hs ≡ live_units_of f.before
   lost = omega (arith, freed, freed_units p.ticket.name f.before.space f.after.space f.step)
 
   lost_size : units_of_heap f.after ≡ units_of_heap f.before
@@ -177,10 +177,10 @@ module _ (p q : Place) (hs ks : Heaps) (known_well : state.IsWellFormed hs) (goe
 
   pub squares_grow : squares ks ≡ squares hs + 2 * (size_of p hs * (live_units_at q.heap hs - live_units_at p.heap hs)) + 2 * (size_of p hs * size_of p hs)
   squares_grow =
-      let source : live_units_at p.heap hs ≡ live_of f.before = ap (part live_of) from in
-      let target : live_units_at q.heap hs ≡ live_of s.before = ap (part live_of) to in
+      let source : live_units_at p.heap hs ≡ live_units_of f.before = ap (part live_units_of) from in
+      let target : live_units_at q.heap hs ≡ live_units_of s.before = ap (part live_units_of) to in
       let full = takes.1.full in
-      gained (live_units_at p.heap hs) (live_units_at q.heap hs) (live_of f.after) (live_of s.after) (size_of p hs) (squares hs) (squares ks) (omega (arith, lost, source)) (omega (arith, grown, target))
+      gained (live_units_at p.heap hs) (live_units_at q.heap hs) (live_units_of f.after) (live_units_of s.after) (size_of p hs) (squares hs) (squares ks) (omega (arith, lost, source)) (omega (arith, grown, target))
       full (omega (arith, both_put square_of, ap (λ n. n * n) source, ap (λ n. n * n) target))
 
   pub squares_more : squares hs + 2 ≤ squares ks

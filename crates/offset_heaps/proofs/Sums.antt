@@ -3,7 +3,7 @@ use Rattle.std.proofs.Common.{◌≡◌, ℕ, zero, suc, ◌+◌, ◌<◌, max, 
 use Rattle.std.proofs.Common.{arith, add-one}
 use Rattle.offset_guarded.specs.Guard.{Guard}
 use Rattle.offset_heaps.specs.declared.totals.Totals.{Totals}
-use Rattle.offset_heaps.specs.Heaps.{AreTotals, free_of, largest_room, live_of, part, room_of, slot, total, units_of_heap}
+use Rattle.offset_heaps.specs.Heaps.{AreTotals, free_of, largest_room, live_units_of, part, room_of, slot, total, units_of_heap}
 
 total_next : (f : Guard → ℕ) (slots : List (Option Guard)) (n : ℕ) → n < length slots → total f (take (suc n) slots) ≡ total f (take n slots) + part f (slot n slots)
 total_next f [] n l = absurd (omega arith)
@@ -29,12 +29,12 @@ take_all (o ∷ slots) (suc n) e = ap (λ s. o ∷ s) (take_all slots n (omega a
 
 -- the numbers of one more heap
 pub totals_more : (slots : List (Option Guard)) (n : ℕ) (t u : Totals) (o : Option Guard) → o ≡ slot n slots → n < length slots → AreTotals t (take n slots)
-    → u.heaps ≡ t.heaps + part (λ g. 1) o → u.units ≡ t.units + part units_of_heap o → u.live_units ≡ t.live_units + part live_of o → u.free_units ≡ t.free_units + part free_of o
+    → u.heaps ≡ t.heaps + part (λ g. 1) o → u.units ≡ t.units + part units_of_heap o → u.live_units ≡ t.live_units + part live_units_of o → u.free_units ≡ t.free_units + part free_of o
     → u.largest_free_region ≡ max t.largest_free_region (room_of 1 o) → AreTotals u (take (n + 1) slots)
 totals_more slots n t u o e l was heaps units live free largest = record {
   heaps = heaps ∙ ap₂ (λ a b. a + b) was.heaps (ap (part (λ g. 1)) e) ∙ sym (total_more (λ g. 1) slots n l);
   units = units ∙ ap₂ (λ a b. a + b) was.units (ap (part units_of_heap) e) ∙ sym (total_more units_of_heap slots n l);
-  live_units = live ∙ ap₂ (λ a b. a + b) was.live_units (ap (part live_of) e) ∙ sym (total_more live_of slots n l);
+  live_units = live ∙ ap₂ (λ a b. a + b) was.live_units (ap (part live_units_of) e) ∙ sym (total_more live_units_of slots n l);
   free_units = free ∙ ap₂ (λ a b. a + b) was.free_units (ap (part free_of) e) ∙ sym (total_more free_of slots n l);
   largest = largest ∙ ap₂ max was.largest (ap (room_of 1) e) ∙ sym (largest_more slots n l);
 }

@@ -86,7 +86,7 @@ pub record GivesUp (k : ℕ) (hs ks : Heaps) (r : Bool) : Type 0 where
 pub record TakesSize (how : NewSize) (p : Place) (hs ks : Heaps) (r : Option Bool) : Type 0 where
   pub live : IsSome r ↔ IsLive p hs
   pub done : IfSome r (λ d. IsTrue d ↔ CanResizeAt how p hs)
-  pub gone : r ≡ None → IsSame hs ks
+  pub not_live : r ≡ None → IsSame hs ks
   pub step : IfSome r (ResizesAt how p hs ks)
 
 -- `extend_heap`

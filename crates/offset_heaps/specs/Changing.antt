@@ -48,11 +48,12 @@ pub data NewSize : Type 0 where
   Shrunk : ℕ → NewSize
   Grown : ℕ → NewSize
 
--- what is wanted of a call
+-- how many units a call is to leave
 abbrev pub new_size : Resize → NewSize
 new_size (Shrink n) = Shrunk n
 new_size (Grow n) = Grown n
 
+-- the number in it
 abbrev pub units_wanted : NewSize → ℕ
 units_wanted (Shrunk n) = n
 units_wanted (Grown n) = n
@@ -68,7 +69,7 @@ ResizesSpace how x v w false = SameState v w
 ResizesSpace (Shrunk n) x v w true = space.Shrinks x n v w true
 ResizesSpace (Grown n) x v w true = space.Grows x n v w true
 
--- whether it is to have at most as many
+-- whether the range is to shrink
 abbrev pub is_less : NewSize → Bool
 is_less (Shrunk n) = true
 is_less (Grown n) = false
@@ -104,6 +105,7 @@ pub record Resizes (how : NewSize) (t : Ticket) (done : Bool) (g h : Guard) : Ty
 abbrev pub ResizesAt : NewSize → Place → Heaps → Heaps → Bool → Type 0
 ResizesAt how p hs ks done = Alters p.heap (Resizes how p.ticket done) hs ks
 
+-- the heap of a place can do it
 abbrev pub CanResizeAt : NewSize → Place → Heaps → Type 0
 CanResizeAt how p hs = CanResizeIn hs.limits p.heap how p.ticket.name (heap_at p.heap hs)
 
@@ -123,6 +125,7 @@ pub record CompactsIn (g h : Guard) : Type 0 where
   pub sizes : guarded.KeepsSizes g h
   pub accesses : h.space.accesses ≤ g.space.accesses + 10 * length g.space.blocks + 384
 
+-- the same of the heap of a number; all other heaps stay as they are
 abbrev pub CompactsHeap : ℕ → Heaps → Heaps → Type 0
 CompactsHeap k hs ks = Alters k CompactsIn hs ks
 
@@ -159,5 +162,6 @@ pub record MakesRoomIn {F : Type 0} (R : F → Move → F → Type 0) (size : �
   pub sizes : guarded.KeepsSizes g h
   pub accesses : h.space.accesses ≤ g.space.accesses + 6 * length g.space.blocks + 40 * ranges_of c + 20
 
+-- the same of the heap of a number; all other heaps stay as they are
 abbrev pub MakesRoomAt : {F : Type 0} → (F → Move → F → Type 0) → ℕ → ℕ → Heaps → F → Option RoomCost → Heaps → F → Type 0
 MakesRoomAt R k size hs f c ks f' = Alters k (MakesRoomIn R size f c f') hs ks

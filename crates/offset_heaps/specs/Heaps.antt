@@ -7,7 +7,7 @@ use Rattle.offset_allocator.specs.Relations.{Aligns, Frees, IsFresh}
 use Rattle.offset_allocator.specs.Reporting.FreeSizes.{largest}
 use Rattle.offset_allocator.specs.Requests.{blocks_needed, units_needed}
 use Rattle.offset_allocator.specs.Tight.{AlignsTight}
-use Rattle.offset_allocator.specs.View.{bin_at, free_sizes, used_of, used_units}
+use Rattle.offset_allocator.specs.View.{bin_at, free_sizes, count_used, used_units}
 use Rattle.offset_guarded.specs.Guard.{Guard, handle_in, last_serial}
 use Rattle.offset_guarded.specs.Guard as guarded
 use Rattle.offset_guarded.specs.declared.ticket.Ticket.{Ticket}
@@ -49,6 +49,7 @@ TakesFewAccesses hs ks = (bits : ℕ) → numbers hs ≤ 2 ^ bits → ks.accesse
 abbrev pub slot : ℕ → List (Option Guard) → Option Guard
 slot k slots = slice_index_or slots k None
 
+-- the same of all heaps
 abbrev pub heap_at : ℕ → Heaps → Option Guard
 heap_at k hs = slot k hs.slots
 
@@ -57,6 +58,7 @@ heap_at k hs = slot k hs.slots
 abbrev pub room : ℕ → Guard → ℕ
 room blocks g = if nat_lt g.given last_serial && nat_lt (length g.space.blocks + blocks) g.space.max_allocs then largest (free_sizes g.space.blocks) else 0
 
+-- the same of what a slot holds: 0 where it has no heap
 abbrev pub room_of : ℕ → Option Guard → ℕ
 room_of blocks None = 0
 room_of blocks (Some g) = room blocks g
@@ -265,7 +267,7 @@ pub record FreesIn (p : Place) (hs ks : Heaps) : Type 0 where
 -- whether a heap has no live range, not even one of no units
 abbrev pub is_empty : Option Guard → Bool
 is_empty None = false
-is_empty (Some g) = nat_eq (used_of g.space.blocks) 0
+is_empty (Some g) = nat_eq (count_used g.space.blocks) 0
 
 -- the largest request for which some heap has room, where it may add one block, or 0
 abbrev pub largest_room : List (Option Guard) → ℕ
@@ -276,8 +278,8 @@ largest_room (o ∷ slots) = max (room_of 1 o) (largest_room slots)
 abbrev pub units_of_heap : Guard → ℕ
 units_of_heap g = g.space.size
 
-abbrev pub live_of : Guard → ℕ
-live_of g = used_units g.space.blocks
+abbrev pub live_units_of : Guard → ℕ
+live_units_of g = used_units g.space.blocks
 
 abbrev pub free_of : Guard → ℕ
 free_of g = sum (free_sizes g.space.blocks)
@@ -298,12 +300,12 @@ heap_count slots = total (λ g. 1) slots
 
 -- how many of them are empty
 abbrev pub empties : List (Option Guard) → ℕ
-empties slots = total (λ g. if nat_eq (used_of g.space.blocks) 0 then 1 else 0) slots
+empties slots = total (λ g. if nat_eq (count_used g.space.blocks) 0 then 1 else 0) slots
 
 -- the numbers of all heaps
 pub record AreTotals (t : Totals) (slots : List (Option Guard)) : Type 0 where
   pub heaps : t.heaps ≡ heap_count slots
   pub units : t.units ≡ total units_of_heap slots
-  pub live_units : t.live_units ≡ total live_of slots
+  pub live_units : t.live_units ≡ total live_units_of slots
   pub free_units : t.free_units ≡ total free_of slots
   pub largest : t.largest_free_region ≡ largest_room slots

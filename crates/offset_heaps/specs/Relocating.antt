@@ -3,13 +3,13 @@ use Rattle.std.specs.Prelude.{◌≢◌, ℕ, ◌*◌, ◌<◌, ◌≤◌, List,
 use Rattle.offset_allocator.specs.Reporting.Walking.{last_live, live_before}
 use Rattle.offset_allocator.specs.Ranges.{Range}
 use Rattle.offset_allocator.specs.Requests.{blocks_needed, units_needed}
-use Rattle.offset_allocator.specs.View.{Handle, used_of}
+use Rattle.offset_allocator.specs.View.{Handle, count_used}
 use Rattle.offset_guarded.specs.Guard.{Guard, ticket_at}
 use Rattle.offset_guarded.specs.declared.ticket.Ticket.{Ticket}
 use Rattle.offset_heaps.specs.declared.place.Place.{Place}
 use Rattle.offset_heaps.specs.declared.limits.Limits.{Limits}
 use Rattle.offset_heaps.specs.declared.place.Granted.{Granted}
-use Rattle.offset_heaps.specs.Heaps.{Heaps, MustRaiseIn, heap_at, live_of, part, range_of, room_of, slot, total}
+use Rattle.offset_heaps.specs.Heaps.{Heaps, MustRaiseIn, heap_at, live_units_of, part, range_of, room_of, slot, total}
 
 -- the units of a range, or 0 where there is none
 abbrev pub units_in : Option Range → ℕ
@@ -21,11 +21,11 @@ size_of p hs = units_in (range_of p hs)
 
 -- the live units of the heap of a number
 abbrev pub live_units_at : ℕ → Heaps → ℕ
-live_units_at k hs = part live_of (heap_at k hs)
+live_units_at k hs = part live_units_of (heap_at k hs)
 
 -- the square of the live units of a heap
 abbrev pub square_of : Guard → ℕ
-square_of g = live_of g * live_of g
+square_of g = live_units_of g * live_units_of g
 
 -- the squares of the live units of all heaps, added up
 abbrev pub squares : Heaps → ℕ
@@ -37,7 +37,7 @@ pub record TakesUnits (limits : Limits) (own blocks units live : ℕ) (slots : L
   pub other : k ≢ own
   pub room : units ≤ room_of blocks (slot k slots)
   pub stays : MustRaiseIn limits k (slot k slots) → ⊥
-  pub full : live ≤ part live_of (slot k slots)
+  pub full : live ≤ part live_units_of (slot k slots)
 
 -- a heap takes the range of a place, from a multiple of align on
 abbrev pub TakesRange : Place → ℕ → Heaps → ℕ → Type 0
@@ -59,14 +59,14 @@ granted p = record { place = p; is_new = false }
 -- a heap has a live range
 abbrev pub HasLive : Option Guard → Type 0
 HasLive None = ⊥
-HasLive (Some g) = 1 ≤ used_of g.space.blocks
+HasLive (Some g) = 1 ≤ count_used g.space.blocks
 
 -- of the first n numbers whose heaps have a live range, it has the fewest live units, and is the last such
 pub record IsEmptiest (n : ℕ) (slots : List (Option Guard)) (k : ℕ) : Type 0 where
   pub before : k < n
   pub live : HasLive (slot k slots)
-  pub fewest : (j : ℕ) → j < n → HasLive (slot j slots) → part live_of (slot k slots) ≤ part live_of (slot j slots)
-  pub last : (j : ℕ) → k < j → j < n → HasLive (slot j slots) → part live_of (slot k slots) < part live_of (slot j slots)
+  pub fewest : (j : ℕ) → j < n → HasLive (slot j slots) → part live_units_of (slot k slots) ≤ part live_units_of (slot j slots)
+  pub last : (j : ℕ) → k < j → j < n → HasLive (slot j slots) → part live_units_of (slot k slots) < part live_units_of (slot j slots)
 
 -- of the first n numbers none has a heap with a live range
 abbrev pub NoneLive : ℕ → List (Option Guard) → Type 0

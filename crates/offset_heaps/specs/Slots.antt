@@ -57,7 +57,7 @@ abbrev pub KeepsOthersIn : Ticket → Option Guard → Option Guard → Type 0
 KeepsOthersIn t old new = (u : Ticket) → (guarded.AreAlike u t → ⊥) → range_in u new ≡ range_in u old
 
 -- the range of a ticket is freed
-pub record FreesIn (t : Ticket) (old new : Option Guard) : Type 0 where
+pub record FreesSlot (t : Ticket) (old new : Option Guard) : Type 0 where
   pub before : Guard
   pub after : Guard
   pub was : old ≡ Some before
@@ -83,8 +83,8 @@ abbrev pub IsBelow : ℕ → Option ℕ → Option ℕ → Type 0
 IsBelow limit None kept = kept ≡ None
 IsBelow limit (Some k) kept = ((k < limit) × (kept ≡ Some k)) ⊎ ((limit ≤ k) × (kept ≡ None))
 
--- of two heaps with so many live units, where there are two, the one with fewer, or else the second
-abbrev pub IsMore : Option (ℕ × ℕ) → ℕ → Option ℕ → Option (ℕ × ℕ) → Type 0
-IsMore found k None kept = kept ≡ found
-IsMore None k (Some n) kept = kept ≡ Some (k, n)
-IsMore (Some f) k (Some n) kept = kept ≡ (if nat_lt f.1 n then Some f else Some (k, n))
+-- of two heaps with so many live units the one with fewer, and of equal ones the later; where only one has any, that one
+abbrev pub IsEmptier : Option (ℕ × ℕ) → ℕ → Option ℕ → Option (ℕ × ℕ) → Type 0
+IsEmptier found k None kept = kept ≡ found
+IsEmptier None k (Some n) kept = kept ≡ Some (k, n)
+IsEmptier (Some f) k (Some n) kept = kept ≡ (if nat_lt f.1 n then Some f else Some (k, n))

@@ -45,7 +45,7 @@ IsWhyTight size align hs Full = IsUnheld size align hs × MayEverFit size hs × 
 IsWhyTight size align hs Memory = (IsUnheld size align hs × ((k : ℕ) × IsNext size k hs))
     ⊎ ((1 ≤ size) × ((k : ℕ) × IsFirstHolding size align k hs × MustRaiseIn hs.limits k (heap_at k hs)))
 
--- such a request would be granted, if memory is given: some heap holds it, or another may be made
+-- a tight request would be granted, if memory is given: some heap holds it, or another may be made
 abbrev pub IsServedTight : ℕ → ℕ → Heaps → Type 0
 IsServedTight size align hs = (1 ≤ size) × (((k : ℕ) × IsFirstHolding size align k hs) ⊎ (IsUnheld size align hs × ((k : ℕ) × IsNext size k hs)))
 

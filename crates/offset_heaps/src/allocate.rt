@@ -1,6 +1,6 @@
 //! Requests: which heap grants one, and when another heap is made for it. It changes one slot, and notes it
 //! in the index.
-ghost use Rattle.std.specs.Prelude.{ℕ, ◌≡◌, ◌↔◌, ◌+◌, ◌*◌, ◌%◌, ◌^◌, ◌<◌, ◌≤◌, ◌⊎◌, None, Some, Ok, Err};
+ghost use Rattle.std.specs.Prelude.{ℕ, ◌≡◌, ◌↔◌, ◌+◌, ◌*◌, ◌%◌, ◌^◌, ◌<◌, ◌≤◌, None, Some, Ok, Err};
 ghost use Rattle.std.specs.Prelude.{false, true, length, IsErr, IsTrue, IfOk, IfErr, IfSome, MatchOption, OnErr};
 ghost use Rattle.offset_allocator.specs.Requests.{blocks_needed, units_needed};
 ghost use Rattle.offset_heaps.specs.Slots.{Changes, IsBelow, RaisesIn};
@@ -38,7 +38,7 @@ impl<T: Tables> HeapsOf<T> {
     // The first heap that has room for a request.
     pub(crate) fn first_fit(&mut self, units: u64, align: u32) -> Option<u32>
         requires some { 1 ≤ units }
-        requires power { 1 ≤ align }
+        requires alignment { 1 ≤ align }
         ensures first { MatchOption result (NoneFits (blocks_needed align) units self.old)
             (λ k. IsFirstFit (blocks_needed align) units k self.old) }
         ensures there { IfSome result (λ k. k < length self.old.slots) }
@@ -140,7 +140,7 @@ impl<T: Tables> HeapsOf<T> {
     fn grant_first(&mut self, number: u32, size: u32, align: u32) -> Result<Granted, Refusal>
         requires there { number < length self.old.slots }
         requires units { 1 ≤ size }
-        requires positive { 1 ≤ align }
+        requires alignment { 1 ≤ align }
         requires first { IsFirstFit (blocks_needed align) (units_needed size align) number self.old }
         ensures why { IfErr result (IsWhy size align self.old) }
         ensures not_empty { result ≡ Err Refusal.Empty → ⊥ }
@@ -189,7 +189,7 @@ impl<T: Tables> HeapsOf<T> {
     fn grant_usual(&mut self, number: u32, size: u32, align: u32) -> Result<Granted, Refusal>
         requires spare { IsSpareUsual size number self.old }
         requires units { 1 ≤ size }
-        requires some { 1 ≤ align }
+        requires alignment { 1 ≤ align }
         requires usual { IsUsual size self.old }
         ensures why { IfErr result (IsWhyNotMade self.old) }
         ensures same { OnErr result (IsSame self.old self.new) }
@@ -213,7 +213,7 @@ impl<T: Tables> HeapsOf<T> {
     fn grant_larger(&mut self, number: u32, size: u32, align: u32) -> Result<Granted, Refusal>
         requires spare { IsSpareLarger number self.old }
         requires units { 1 ≤ size }
-        requires some { 1 ≤ align }
+        requires alignment { 1 ≤ align }
         requires unusual { IsUsual size self.old → ⊥ }
         ensures why { IfErr result (IsWhyNotMade self.old) }
         ensures same { OnErr result (IsSame self.old self.new) }
@@ -236,7 +236,7 @@ impl<T: Tables> HeapsOf<T> {
     // Makes a heap for a request that none has room for.
     pub(crate) fn grant_new(&mut self, size: u32, align: u32) -> Result<Granted, Refusal>
         requires size { 1 ≤ size }
-        requires positive { 1 ≤ align }
+        requires alignment { 1 ≤ align }
         requires none { NoneFits (blocks_needed align) (units_needed size align) self.old }
         ensures why { IfErr result (IsWhy size align self.old) }
         ensures not_empty { result ≡ Err Refusal.Empty → ⊥ }
@@ -264,7 +264,7 @@ impl<T: Tables> HeapsOf<T> {
     }
 
     // A request as `allocate_aligned` has it.
-    fn request(&mut self, size: u32, align: u32) -> Result<Granted, Refusal>
+    fn serve(&mut self, size: u32, align: u32) -> Result<Granted, Refusal>
         requires alignment { 1 ≤ align }
         ensures empty { size ≡ 0 → result ≡ Err Refusal.Empty }
         ensures why { IfErr result (IsWhy size align self.old) }
@@ -320,8 +320,8 @@ impl<T: Tables> HeapsOf<T> {
 
     /// Grants `size` units of one heap that begin at a multiple of `align`, from 1 on, in that heap.
     ///
-    /// The heap is the first one, by number, that has room, which it has for `size + align - 1` units: what
-    /// `GuardedOf::allocate_aligned` grants there, as it grants it. Where none has, another heap is made,
+    /// It is the first heap, by number, that has room for `size + align - 1` units, and it grants what
+    /// `GuardedOf::allocate_aligned` grants. Where none has, another heap is made,
     /// whose first range begins at 0, a multiple of every alignment: so it needs room for `size` units alone.
     /// If the last usual heap, the largest, would have that, it is a usual one, of the first number below
     /// `most` that no heap has and whose heap would have it, of `first_size` units doubled as often as its
@@ -368,6 +368,6 @@ impl<T: Tables> HeapsOf<T> {
         ensures grants { IfOk result (Grants size align self.old self.new) }
         ensures accesses { TakesFewAccesses self.old self.new }
     {
-        self.request(size, align)
+        self.serve(size, align)
     }
 }

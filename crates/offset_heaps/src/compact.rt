@@ -1,6 +1,6 @@
 //! Ranges that slide to the front of their heap, all or to make room. It changes one slot, or all, and notes it
 //! in the index.
-ghost use Rattle.std.specs.Prelude.{ℕ, ◌≡◌, ◌↔◌, ◌+◌, ◌*◌, ◌^◌, ◌<◌, ◌≤◌, None, IfSome, IsSome, IsTrue, false};
+ghost use Rattle.std.specs.Prelude.{ℕ, ◌≡◌, ◌↔◌, ◌+◌, ◌*◌, ◌^◌, ◌<◌, ◌≤◌, None, IsSome, IsTrue, false};
 ghost use Rattle.std.specs.Prelude.{length, true};
 ghost use Rattle.std.specs.List.{FoldsTo};
 ghost use Rattle.offset_allocator.specs.Moving.Compacting.{IsCalledWith, moves};

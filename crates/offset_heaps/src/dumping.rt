@@ -1,5 +1,5 @@
 //! All heaps as JSON, for tools that draw or count what is in them. It only reads them.
-ghost use Rattle.std.specs.Prelude.{◌≡◌, ◌++◌, IfOk, OnOk, length, option_copied, string_bytes, true};
+ghost use Rattle.std.specs.Prelude.{◌≡◌, ◌++◌, IfOk, OnOk, option_copied, string_bytes, true};
 ghost use Rattle.offset_allocator.specs.Reporting.Dumping.{comma};
 ghost use Rattle.offset_allocator.specs.Reporting.Statistics.{AreStatistics};
 ghost use Rattle.offset_allocator.specs.declared.reports.statistics.Statistics.{Statistics};

@@ -1,5 +1,5 @@
 //! Heaps whose space becomes larger in place. It changes one slot, and notes it in the index.
-ghost use Rattle.std.specs.Prelude.{◌≡◌, ◌↔◌, ◌+◌, ◌<◌, ◌≤◌, None, Ok, Some, IfOk, IfSome, IsErr, IsSome, IsTrue, OnErr};
+ghost use Rattle.std.specs.Prelude.{◌≡◌, ◌↔◌, ◌+◌, ◌<◌, None, Ok, Some, IfOk, IfSome, IsErr, IsSome, IsTrue, OnErr};
 ghost use Rattle.std.specs.Prelude.{false, option_map, true};
 ghost use Rattle.offset_heaps.specs.Changing.{AltersIn};
 ghost use Rattle.offset_heaps.specs.Extending.{CanExtendIn, ExtendsHeap, ExtendsIf};

@@ -1,6 +1,6 @@
 //! Which numbers have heaps, and of how many units; and the live places of all heaps, one after another. It
 //! changes nothing.
-ghost use Rattle.std.specs.Prelude.{◌≡◌, ◌+◌, ◌≤◌, ◌<◌, None, IfSome, MatchOption, length, option_map};
+ghost use Rattle.std.specs.Prelude.{◌≡◌, ◌+◌, ◌≤◌, ◌<◌, None, MatchOption, option_map};
 ghost use Rattle.offset_heaps.specs.Heaps.{IsLive, heap_at, numbers, units_of_heap};
 ghost use Rattle.offset_heaps.specs.Numbering.{IsHeapFrom, NoHeapFrom, first_from, next_place};
 

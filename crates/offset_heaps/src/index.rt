@@ -4,7 +4,7 @@ ghost use Rattle.std.specs.Prelude.{ℕ, ◌≡◌, ◌↔◌, ◌+◌, ◌*◌,
 ghost use Rattle.std.specs.Prelude.{option_copied, replicate};
 ghost use Rattle.offset_allocator.specs.Accesses.{Costs};
 ghost use Rattle.offset_guarded.specs.Guard.{HasSerialLeft};
-ghost use Rattle.offset_heaps.specs.Heaps.{is_empty, room_of, slot};
+ghost use Rattle.offset_heaps.specs.Heaps.{is_empty, room_of};
 ghost use Rattle.offset_heaps.specs.Soundness.{spare_of};
 ghost use Rattle.offset_heaps.specs.Maxima.{IsFirst};
 

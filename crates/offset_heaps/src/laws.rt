@@ -1,4 +1,5 @@
-//! Laws: what holds of all heaps. Its functions do nothing.
+//! Laws: what holds of all heaps. Its functions do nothing, but that two look at each slot. With them are the calls
+//! that leave all heaps as they are, with a count of their accesses.
 ghost use Rattle.std.specs.Prelude.{ℕ, List, ◌≡◌, ◌↔◌, ◌+◌, ◌-◌, ◌*◌, ◌^◌, ◌<◌, ◌≤◌, ◌∷◌, None, Some, IfSome};
 ghost use Rattle.std.specs.Prelude.{Bool, Err, IfErr, MatchOption, Option, Result, length, min, option_map, true};
 ghost use Rattle.std.specs.List.{AllByRecursion};

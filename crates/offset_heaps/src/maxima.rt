@@ -1,8 +1,8 @@
-//! A row of keys, a key for each number of a heap: the first and the last number whose key is large enough
+//! A row of keys, one for the number of each heap: the first and the last number whose key is large enough
 //! are found in few steps, by a tree of maxima. It touches its own cells alone, and counts each access.
 ghost use Rattle.std.specs.Prelude.{ℕ, ◌≡◌, ◌+◌, ◌*◌, ◌/◌, ◌^◌, ◌<◌, ◌≤◌, IfOk, length, max, replicate, slice_set};
 ghost use Rattle.offset_allocator.specs.Accesses.{Costs};
-ghost use Rattle.offset_heaps.specs.Maxima.{AreBelow, IsFirst, IsLast, cell};
+ghost use Rattle.offset_heaps.specs.Maxima.{IsFirst, IsLast, cell};
 
 use offset_allocator::Accesses;
 use std::alloc::{AllocError, Global};
@@ -38,7 +38,7 @@ fn read(cells: &Vec<u32>, place: usize, count: &mut Accesses) -> u32
     cells[place]
 }
 
-// The larger one of a cell's number, which is given, and that of the other cell below the same one.
+// The larger one of a cell's key, which is given, and that of the other cell below the same one.
 #[inline(always)]
 fn larger_of_two(cells: &Vec<u32>, place: usize, key: u32, count: &mut Accesses) -> u32
     requires there { 2 * (place / 2) + 1 < length cells.now.items }
@@ -134,7 +134,7 @@ impl Maxima {
         Some((last - self.cells.len() / 2) as u32)
     }
 
-    /// Writes the number at a place, and returns the one that was there.
+    /// Writes the key of a number, and returns the one that it had.
     pub(crate) fn set(&mut self, at: u32, key: u32, count: &mut Accesses) -> u32
         requires { at < length self.old.keys }
         ensures was { result ≡ cell at self.old.keys }

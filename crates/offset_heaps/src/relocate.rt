@@ -29,7 +29,7 @@ impl<T: Tables> HeapsOf<T> {
     // The first heap that takes a range of the heap `own`, which has `live` live units.
     fn taker(&mut self, own: u32, units: u64, align: u32, live: u32) -> Option<u32>
         requires some { 1 ≤ units }
-        requires power { 1 ≤ align }
+        requires alignment { 1 ≤ align }
         ensures first { MatchOption result
             ((k : ℕ) → TakesUnits self.old.limits own (blocks_needed align) units live self.old.slots k → ⊥)
             (λ k. TakesUnits self.old.limits own (blocks_needed align) units live self.old.slots k

@@ -40,7 +40,7 @@ impl<T: Tables> HeapsOf<T> {
         ensures others { KeepsOthers place self.old self.new }
         ensures kept { KeepsLive self.old self.new }
         ensures refused { result ≡ Some false → AreTwins self.old self.new }
-        ensures gone { result ≡ None → IsSame self.old self.new }
+        ensures not_live { result ≡ None → IsSame self.old self.new }
         ensures step { IfSome result (ResizesAt (new_size how) place self.old self.new) }
         ensures accesses { TakesFewAccesses self.old self.new }
     {
@@ -79,7 +79,7 @@ impl<T: Tables> HeapsOf<T> {
         ensures kept { KeepsLive self.old self.new }
         // Where it is not done, every later call returns the same as if this one had not been made.
         ensures refused { result ≡ Some false → AreTwins self.old self.new }
-        ensures gone { result ≡ None → IsSame self.old self.new }
+        ensures not_live { result ≡ None → IsSame self.old self.new }
         // The step of its heap. All other heaps are as they were.
         ensures step { IfSome result (ResizesAt (Shrunk size) place self.old self.new) }
         ensures accesses { TakesFewAccesses self.old self.new }
@@ -106,7 +106,7 @@ impl<T: Tables> HeapsOf<T> {
         ensures kept { KeepsLive self.old self.new }
         // Where it is not done, every later call returns the same as if this one had not been made.
         ensures refused { result ≡ Some false → AreTwins self.old self.new }
-        ensures gone { result ≡ None → IsSame self.old self.new }
+        ensures not_live { result ≡ None → IsSame self.old self.new }
         // The step of its heap. All other heaps are as they were.
         ensures step { IfSome result (ResizesAt (Grown size) place self.old self.new) }
         ensures accesses { TakesFewAccesses self.old self.new }

@@ -1,5 +1,5 @@
 //! Many heaps from the bytes of their state, or what is wrong with them. It makes heaps, and their index.
-ghost use Rattle.std.specs.Prelude.{ℕ, ◌≡◌, ◌↔◌, ◌+◌, ◌*◌, ◌<◌, ◌≤◌, Err, IfErr, IfOk, IsErr, IsTrue};
+ghost use Rattle.std.specs.Prelude.{◌≡◌, ◌↔◌, ◌+◌, ◌*◌, ◌<◌, ◌≤◌, Err, IfErr, IfOk, IsErr, IsTrue};
 ghost use Rattle.std.specs.Prelude.{Option, length};
 ghost use Rattle.offset_allocator.specs.Saving.StateFaults.{IfFault};
 ghost use Rattle.offset_guarded.specs.Guard.{Guard};

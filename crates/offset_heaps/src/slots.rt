@@ -1,23 +1,22 @@
 //! The heaps by their numbers: no other module reads or writes them. Each function counts the slots that it
 //! touches.
-ghost use Rattle.std.specs.Prelude.{◌≡◌, ◌↔◌, ◌+◌, ◌^◌, ◌<◌, ◌≤◌, IsTrue, IsSome, None, Some, false, length};
+ghost use Rattle.std.specs.Prelude.{◌≡◌, ◌↔◌, ◌+◌, ◌<◌, ◌≤◌, IsTrue, IsSome, None, Some, false, length};
 ghost use Rattle.std.specs.Prelude.{IfOk, IfSome, IsErr, MatchOption, is_some, option_copied, replicate};
 ghost use Rattle.std.specs.Prelude.{ℕ, slice_set, true};
 ghost use Rattle.std.specs.List.{FoldsTo};
 ghost use Rattle.offset_allocator.specs.Requests.{blocks_needed, units_needed};
-ghost use Rattle.offset_allocator.specs.Tight.{CanHold};
-ghost use Rattle.offset_guarded.specs.Guard.{Guard, HasSerialLeft, IsLive};
+ghost use Rattle.offset_guarded.specs.Guard.{Guard, IsLive};
 ghost use Rattle.offset_allocator.specs.Moving.Compacting.{IsCalledWith};
 ghost use Rattle.offset_heaps.specs.Changing.{AltersIn, CanResize, CanResizeIn, CompactsIn, MakesRoomIn, Resizes};
 ghost use Rattle.offset_heaps.specs.Changing.{CompactsSlot, IsCalledAt, moves_in, numbered, new_size};
 ghost use Rattle.offset_heaps.specs.Extending.{CanExtendIn, ExtendsIf};
 ghost use Rattle.offset_heaps.specs.Heaps.{HasFewNodes, IsOfKind, IsRaisedAsNeeded, MustRaise, MustRaiseIn, is_empty};
-ghost use Rattle.offset_heaps.specs.Heaps.{live_of, part};
+ghost use Rattle.offset_heaps.specs.Heaps.{live_units_of, part};
 ghost use Rattle.offset_heaps.specs.Heaps.{range_in, room, room_of, slot};
 ghost use Rattle.offset_heaps.specs.Numbering.{IsHeapFrom, NoHeapFrom};
 ghost use Rattle.offset_heaps.specs.Relocating.{HasLive, IsEmptiest, NoneLive, TakesUnits, units_in};
-ghost use Rattle.offset_heaps.specs.Slots.{CanHoldIn, Changes, GrantsTightAlignedIn, FreesIn, KeepsOthersIn, RaisesIn};
-ghost use Rattle.offset_heaps.specs.Slots.{IsMore, ResetsIn, GrantsIn, GrantsTightIn};
+ghost use Rattle.offset_heaps.specs.Slots.{CanHoldIn, Changes, GrantsTightAlignedIn, FreesSlot, KeepsOthersIn, RaisesIn};
+ghost use Rattle.offset_heaps.specs.Slots.{IsEmptier, ResetsIn, GrantsIn, GrantsTightIn};
 
 use crate::compact::compact_numbered;
 use crate::extend::extend_in;
@@ -54,13 +53,20 @@ fn room_at<T: Tables>(heap: &GuardedOf<T>, align: u32) -> u32
     if align == 1 { one } else { two }
 }
 
+// Whether fewer than `least` nodes of the heap of a number are unused, and its node limit may still be raised.
+fn has_few_nodes<T: Tables>(heap: &GuardedOf<T>, number: u32, limits: Limits, least: u32) -> bool
+    ensures { IsTrue result ↔ HasFewNodes least limits number heap.now }
+{
+    let space = heap.allocator();
+    number < limits.most && space.max_allocs() < limits.max_allocs && unused_nodes(space) < least
+}
+
 // Whether the node limit of a heap has to be raised before a grant, which adds two blocks at most: after it at least
 // three nodes are unused, or the limit is the largest one. A report is then that of the largest limit.
 fn must_raise<T: Tables>(heap: &GuardedOf<T>, number: u32, limits: Limits) -> bool
     ensures { IsTrue result ↔ MustRaise limits number heap.now }
 {
-    let space = heap.allocator();
-    number < limits.most && space.max_allocs() < limits.max_allocs && unused_nodes(space) < 5
+    has_few_nodes(heap, number, limits, 5)
 }
 
 /// Doubles the node limit of the heap of a number, where it has to be raised.
@@ -175,21 +181,12 @@ fn free_in<T: Tables>(slot: &mut Option<GuardedOf<T>>, ticket: Ticket) -> bool
     ensures gone { range_in ticket slot.new ≡ None }
     ensures others { KeepsOthersIn ticket slot.old slot.new }
     ensures same { result ≡ false → slot.new ≡ slot.old }
-    ensures step { result ≡ true → FreesIn ticket slot.old slot.new }
+    ensures step { result ≡ true → FreesSlot ticket slot.old slot.new }
 {
     match slot {
         Some(heap) => heap.free(ticket),
         None => false,
     }
-}
-
-// Whether fewer than four nodes of the heap of a number are unused, and its node limit may still be raised: a range
-// that shrinks might leave too few.
-fn has_few_nodes<T: Tables>(heap: &GuardedOf<T>, number: u32, limits: Limits) -> bool
-    ensures { IsTrue result ↔ HasFewNodes 4 limits number heap.now }
-{
-    let space = heap.allocator();
-    number < limits.most && space.max_allocs() < limits.max_allocs && unused_nodes(space) < 4
 }
 
 // Makes the range of a ticket smaller or larger in place, where it is live.
@@ -224,7 +221,8 @@ fn resize_in<T: Tables>(
     match slot {
         None => None,
         Some(heap) => {
-            if how.is_less() && has_few_nodes(heap, number, limits) {
+            // a range that shrinks might leave too few nodes
+            if how.is_less() && has_few_nodes(heap, number, limits, 4) {
                 return if heap.is_live(ticket) {
                     Some(false)
                 } else {
@@ -298,7 +296,7 @@ fn reset_in<T: Tables>(slot: &mut Option<GuardedOf<T>>)
 
 // The emptiest heap so far, and its live units, with those of one more heap.
 fn with_live(found: Option<(u32, u32)>, number: u32, live: Option<u32>) -> Option<(u32, u32)>
-    ensures { IsMore found number live result }
+    ensures { IsEmptier found number live result }
 {
     match (found, live) {
         (_, None) => found,
@@ -463,7 +461,7 @@ impl<T: Tables> Slots<T> {
         ensures there { result ≡ true → number < length self.old }
         ensures change { result ≡ true → Changes number (λ o p. (range_in ticket p ≡ None)
             × KeepsOthersIn ticket o p
-            × FreesIn ticket o p) self.old self.new }
+            × FreesSlot ticket o p) self.old self.new }
         ensures same { result ≡ false → self.new ≡ self.old }
         ensures accesses { count.new ≡ count.old + 1 }
     {
@@ -631,7 +629,7 @@ impl<T: Tables> Slots<T> {
     /// The units of the range of a ticket in the heap of a number, or 0, and the units that are live there.
     pub(crate) fn units_at(&self, number: u32, ticket: Ticket, count: &mut Accesses) -> (u32, u32)
         ensures units { result.0 ≡ units_in (range_in ticket (slot number self.now)) }
-        ensures live { result.1 ≡ part live_of (slot number self.now) }
+        ensures live { result.1 ≡ part live_units_of (slot number self.now) }
         ensures accesses { count.new ≡ count.old + 1 }
     {
         match self.at(number, count) {
@@ -655,7 +653,7 @@ impl<T: Tables> Slots<T> {
         count: &mut Accesses,
     ) -> bool
         requires some { 1 ≤ units }
-        requires power { 1 ≤ align }
+        requires alignment { 1 ≤ align }
         ensures takes { IsTrue result
             ↔ TakesUnits limits own (blocks_needed align) units live self.now number }
         ensures accesses { count.new ≡ count.old + 1 }
@@ -685,7 +683,7 @@ impl<T: Tables> Slots<T> {
         count: &mut Accesses,
     ) -> Option<u32>
         requires some { 1 ≤ units }
-        requires power { 1 ≤ align }
+        requires alignment { 1 ≤ align }
         requires from { from ≤ numbers }
         requires numbers { numbers ≤ length self.now }
         ensures first { MatchOption result
@@ -707,7 +705,7 @@ impl<T: Tables> Slots<T> {
     // The live units of the heap of a number, or `None` where nothing is live in it.
     fn live_units_at(&self, number: u32, count: &mut Accesses) -> Option<u32>
         ensures live { MatchOption result (HasLive (slot number self.now) → ⊥)
-            (λ n. HasLive (slot number self.now) × (n ≡ part live_of (slot number self.now))) }
+            (λ n. HasLive (slot number self.now) × (n ≡ part live_units_of (slot number self.now))) }
         ensures accesses { count.new ≡ count.old + 1 }
     {
         match self.at(number, count) {

@@ -111,7 +111,7 @@ impl<T: Tables> HeapsOf<T> {
     }
 
     // A request as `allocate_tight_aligned` has it.
-    fn request_tight(&mut self, size: u32, align: u32) -> Result<Granted, Refusal>
+    fn serve_tight(&mut self, size: u32, align: u32) -> Result<Granted, Refusal>
         requires alignment { 1 ≤ align }
         ensures empty { size ≡ 0 → result ≡ Err Refusal.Empty }
         ensures why { IfErr result (IsWhyTight size align self.old) }
@@ -166,8 +166,8 @@ impl<T: Tables> HeapsOf<T> {
     /// Grants `size` units of any free block that holds them from a multiple of `align` on, from 1 on, in its
     /// heap: so heaps that are nearly full are filled.
     ///
-    /// The heap is the first one, by number, that has a free block which holds the request where it begins, and
-    /// unused nodes for it: what `GuardedOf::allocate_tight_aligned` grants there, as it grants it. So a heap that
+    /// It is the first heap, by number, that has a free block which holds the request where it begins, and unused
+    /// nodes for it, and it grants what `GuardedOf::allocate_tight_aligned` grants. So a heap that
     /// has room for the same request of `allocate_aligned` grants this one, and others may. Where none holds it,
     /// another heap is made, exactly as by `allocate_aligned`: a usual one where the last of these has room for
     /// `size` units when it is fresh, else one of exactly `size` units. The node limit of the heap is raised before,
@@ -212,7 +212,7 @@ impl<T: Tables> HeapsOf<T> {
         ensures accesses { (bits : ℕ) → numbers self.old ≤ 2 ^ bits
             → self.new.accesses ≤ self.old.accesses + numbers self.old + 16 * bits + 32 }
     {
-        self.request_tight(size, align)
+        self.serve_tight(size, align)
     }
 
     /// Why `allocate_tight(size)` would be refused now, or `None` where it would be granted, if memory for another

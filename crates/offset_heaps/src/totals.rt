@@ -1,6 +1,6 @@
 //! What is live and what is free in all heaps together. It reads each slot once, and changes nothing.
 ghost use Rattle.std.specs.Prelude.{◌≡◌, ◌+◌, ◌^◌, ◌<◌, ◌≤◌, max, option_copied};
-ghost use Rattle.offset_heaps.specs.Heaps.{free_of, live_of, part, room_of, units_of_heap};
+ghost use Rattle.offset_heaps.specs.Heaps.{free_of, live_units_of, part, room_of, units_of_heap};
 
 use crate::HeapsOf;
 use crate::index::rooms;
@@ -27,10 +27,10 @@ pub struct Totals {
 
 // The units of a heap: live ones, free ones and all.
 fn live_free_all<T: Tables>(heap: &GuardedOf<T>) -> (u32, u32, u32)
-    ensures live { result.0 ≡ live_of heap.now }
+    ensures live { result.0 ≡ live_units_of heap.now }
     ensures free { result.1 ≡ free_of heap.now }
     ensures all { result.2 ≡ units_of_heap heap.now }
-    ensures add_up { live_of heap.now + free_of heap.now ≡ units_of_heap heap.now }
+    ensures add_up { live_units_of heap.now + free_of heap.now ≡ units_of_heap heap.now }
 {
     let space = heap.allocator();
     sizes_add_up(space);
@@ -44,7 +44,7 @@ fn with_heap<T: Tables>(totals: Totals, heap: Option<&GuardedOf<T>>) -> Totals
     requires add_up { totals.live_units + totals.free_units ≡ totals.units }
     ensures heaps { result.heaps ≡ totals.heaps + part (λ g. 1) (option_copied heap.entry) }
     ensures units { result.units ≡ totals.units + part units_of_heap (option_copied heap.entry) }
-    ensures live { result.live_units ≡ totals.live_units + part live_of (option_copied heap.entry) }
+    ensures live { result.live_units ≡ totals.live_units + part live_units_of (option_copied heap.entry) }
     ensures free { result.free_units ≡ totals.free_units + part free_of (option_copied heap.entry) }
     ensures largest { result.largest_free_region
         ≡ max totals.largest_free_region (room_of 1 (option_copied heap.entry)) }

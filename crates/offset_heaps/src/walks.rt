@@ -76,7 +76,7 @@ impl<T: Tables> HeapsOf<T> {
     pub fn live_before(&self, place: Place) -> Option<Place>
         ensures before { IsLive place self.now → result
             ≡ live_before_in place.heap self.now.realm place.ticket (heap_at place.heap self.now) }
-        ensures gone { (IsLive place self.now → ⊥) → result ≡ None }
+        ensures not_live { (IsLive place self.now → ⊥) → result ≡ None }
     {
         match self.heap_of(place) {
             None => None,
@@ -95,7 +95,7 @@ impl<T: Tables> HeapsOf<T> {
     pub fn live_after(&self, place: Place) -> Option<Place>
         ensures after { IsLive place self.now → result
             ≡ live_after_in place.heap self.now.realm place.ticket (heap_at place.heap self.now) }
-        ensures gone { (IsLive place self.now → ⊥) → result ≡ None }
+        ensures not_live { (IsLive place self.now → ⊥) → result ≡ None }
     {
         match self.heap_of(place) {
             None => None,

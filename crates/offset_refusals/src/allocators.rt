@@ -1,9 +1,10 @@
 //! Allocators that are made for the header of a script.
 
-use crate::layouts::{Kept, Work};
-use crate::numbers::{Cells, put, put_answers, put_report};
-use crate::outcomes::Failure;
+use crate::numbers::{put_answers, put_report};
 use offset_allocator::{AllocatorOf, NodeIndex, ReadError, Tables};
+use offset_refusal_base::cells::{Cells, put};
+use offset_refusal_base::layouts::{Kept, Work};
+use offset_refusal_base::outcomes::Failure;
 use offset_script::{Script, play_of};
 use offset_test_base::mixed::mixed_calls;
 use std::alloc::Global;

@@ -1,6 +1,6 @@
 //! A writer into cells.
 
-use crate::numbers::{Cells, put};
+use offset_refusal_base::cells::{Cells, put};
 use std::io;
 use std::io::Write;
 

@@ -1,10 +1,11 @@
 //! Lists of calls, with handles and with tickets.
 
-use crate::layouts::{Kept, Work};
-use crate::numbers::{Cells, put, put_replies};
-use crate::outcomes::Failure;
+use crate::numbers::put_replies;
 use offset_allocator::{NodeIndex, Tables};
 use offset_calls::{Call, TicketCall, are_valid, play_calls_of, play_guarded};
+use offset_refusal_base::cells::{Cells, put};
+use offset_refusal_base::layouts::{Kept, Work};
+use offset_refusal_base::outcomes::Failure;
 use offset_script::{Command, Script};
 use std::alloc::{AllocError, Global};
 

@@ -2,18 +2,8 @@
 
 use offset_allocator::{RoomCost, StorageReport};
 use offset_calls::{Moved, Reply};
+use offset_refusal_base::cells::{Cells, put};
 use offset_script::{Answer, Command, FullRow, IndexWidth, Script, ScriptFault};
-use std::slice::IterMut;
-
-/// Cells of the caller, which take numbers. Numbers past the last cell are lost.
-pub type Cells<'a> = IterMut<'a, u64>;
-
-/// Puts one number into the next cell.
-pub fn put(cells: &mut Cells<'_>, number: u64) {
-    if let Some(cell) = cells.next() {
-        *cell = number;
-    }
-}
 
 fn put_all(cells: &mut Cells<'_>, numbers: &[u32]) {
     for number in numbers {

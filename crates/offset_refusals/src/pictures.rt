@@ -1,9 +1,10 @@
 //! Lives, reports and pictures of scripts.
 
-use crate::numbers::{Cells, put, put_report};
-use crate::outcomes::Failure;
-use crate::scripts::script;
+use crate::numbers::put_report;
 use offset_pictures::{lives, picture, reports};
+use offset_refusal_base::cells::{Cells, put};
+use offset_refusal_base::layouts::script;
+use offset_refusal_base::outcomes::Failure;
 use std::alloc::Global;
 
 /// The title of the pictures.

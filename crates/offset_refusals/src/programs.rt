@@ -1,9 +1,9 @@
 //! The two programs that read scripts, up to the status that they exit with.
 
 use crate::cell_writer::CellWriter;
-use crate::outcomes::Failure;
 use crate::pictures::TITLE;
 use offset_pictures::draw_program;
+use offset_refusal_base::outcomes::Failure;
 use offset_script::{FromRead, IntoWrite, run_program};
 use std::alloc::Global;
 

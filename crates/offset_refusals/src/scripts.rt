@@ -1,18 +1,11 @@
 //! Texts that are parsed and run.
 
 use crate::cell_writer::CellWriter;
-use crate::numbers::{Cells, put_fault, put_script};
-use crate::outcomes::Failure;
-use offset_script::{FromRead, IntoWrite, RunFault, Script, ScriptFault, parse, run};
+use crate::numbers::{put_fault, put_script};
+use offset_refusal_base::cells::Cells;
+use offset_refusal_base::outcomes::Failure;
+use offset_script::{FromRead, IntoWrite, RunFault, ScriptFault, parse, run};
 use std::alloc::Global;
-
-/// The script of a text. Any fault is `Unfit`, so that `OutOfMemory` comes only from the call after it.
-pub fn script(alloc: Global, text: &[u8]) -> Result<Script, Failure> {
-    match parse(alloc, text) {
-        Ok(script) => Ok(script),
-        Err(_) => Err(Failure::Unfit),
-    }
-}
 
 /// Parses a text, and puts the script that it means, or its fault, into the cells.
 pub fn parse_text(alloc: Global, text: &[u8], cells: &mut Cells<'_>) -> Result<(), Failure> {

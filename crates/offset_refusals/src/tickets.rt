@@ -1,10 +1,10 @@
 //! Guarded allocators, and calls of every kind with tickets.
 
-use crate::layouts::{Kept, Work};
-use crate::numbers::{Cells, put};
-use crate::outcomes::Failure;
 use offset_allocator::{NodeIndex, ReadError, Tables};
 use offset_guarded::{Beside, GuardedOf, Ticket};
+use offset_refusal_base::cells::{Cells, put};
+use offset_refusal_base::layouts::{Kept, Work};
+use offset_refusal_base::outcomes::Failure;
 use offset_script::Script;
 use offset_test_base::random::Random;
 use std::alloc::Global;

@@ -185,9 +185,9 @@ returns_only s a = record { state = record s { calls = s.calls + 1 }; answer = a
 abbrev pub leaves : State → List Block → Answer → Outcome
 leaves s bs a = record { state = record s { calls = s.calls + 1; blocks = bs }; answer = a }
 
--- whether fewer than `spare` further blocks may exist
+-- whether fewer than `more` further blocks may exist
 abbrev pub is_short_of : ℕ → State → Bool
-is_short_of spare s = nat_le s.limit (length s.blocks + spare)
+is_short_of more s = nat_le s.limit (length s.blocks + more)
 
 -- a grant of n units of the block at a place, after `padding` units of it that stay free; so does the remainder
 abbrev pub grant : State → ℕ → ℕ → Place → Outcome
@@ -207,10 +207,10 @@ grant_or_refuse s n padding_at None = returns_only s Refused
 grant_or_refuse s n padding_at (Some p) = grant s n (padding_at (total p.before)) p
 
 -- a request for n units: it takes the block chosen for `needed` units, and is refused where there is none, or where
--- fewer than `spare` further blocks may exist
+-- fewer than `more` further blocks may exist
 abbrev pub request : State → ℕ → ℕ → ℕ → (ℕ → ℕ) → Outcome
-request s spare needed n padding_at =
-    if is_short_of spare s then returns_only s Refused
+request s more needed n padding_at =
+    if is_short_of more s then returns_only s Refused
     else grant_or_refuse s n padding_at (chosen_place needed s.blocks)
 
 -- a request for n units

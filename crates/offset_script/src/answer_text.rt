@@ -2,9 +2,9 @@
 //! played: no list of answers is kept, unless full reports have many rows. It plays by `playing`, sends by
 //! `sending`, and touches only its text and the sink.
 
-ghost use Rattle.std.specs.Prelude.{◌≡◌, ◌+◌, ◌++◌, ◌∷◌, ◌<◌, ◌≤◌, All, IfOk, IsTrue, OnOk, []};
+ghost use Rattle.std.specs.Prelude.{◌≡◌, ◌+◌, ◌++◌, ◌∷◌, ◌<◌, IfOk, OnOk, []};
 ghost use Rattle.std.specs.List.{flat_map};
-ghost use Rattle.offset_script.specs.Grammar.{has_valid_alignment, lines_of_answer, text_of};
+ghost use Rattle.offset_script.specs.Grammar.{lines_of_answer, text_of};
 ghost use Rattle.offset_script.specs.Machine as machine;
 ghost use Rattle.offset_script.specs.Machine.{answer_view};
 ghost use Rattle.offset_script.specs.Running.{IsTextOfAnswers};

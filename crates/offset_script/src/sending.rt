@@ -1,6 +1,6 @@
 //! Sends texts to sinks. It touches the sinks alone, and takes no memory.
 
-ghost use Rattle.std.specs.Prelude.{◌≡◌, ◌++◌, true, ◌||◌, not, IsTrue};
+ghost use Rattle.std.specs.Prelude.{◌≡◌, ◌++◌, true, ◌||◌, not};
 ghost use Rattle.std.specs.List.{flat_map};
 ghost use Rattle.offset_script.specs.Grammar.{line_end};
 ghost use Rattle.offset_script.specs.Sending.{Pushes, Sends};

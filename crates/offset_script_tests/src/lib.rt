@@ -1,15 +1,10 @@
-//! Tests of `offset_script`, of `offset_calls` and of `offset_pictures`, and random tickets of
-//! `offset_guarded`.
+//! Tests of `offset_script` and of `offset_pictures`.
 #![tactic(auto)]
 
 #[cfg(test)]
 mod asserts;
 #[cfg(test)]
-mod calls;
-#[cfg(test)]
 mod layouts;
-#[cfg(test)]
-mod long_lists;
 #[cfg(test)]
 mod pictures;
 #[cfg(test)]
@@ -18,5 +13,3 @@ mod playing;
 mod programs;
 #[cfg(test)]
 mod scripts;
-#[cfg(test)]
-mod tickets;

@@ -1,7 +1,6 @@
 //! What scripts and texts give, for the tests to compare.
 
 use crate::asserts::{assert_same, assert_that};
-use crate::layouts::{Trial, expect_of_each};
 use offset_allocator::{NodeIndex, Tables};
 use offset_script::{
     FromRead, IntoWrite, RunFault, Script, Sink, Source, parse, play_of, play_script, run,
@@ -53,9 +52,4 @@ pub fn answers_with<T: Tables>(rt: &impl Abort, alloc: Global, script: &Script) 
 pub fn expect_with<T: Tables>(rt: &impl Abort, alloc: Global, script: &Script, wanted: &str) {
     let found = answers_with::<T>(rt, alloc, script);
     assert_same(rt, &found.as_str(), &wanted);
-}
-
-/// Expects these answers to a script by each layout.
-pub fn expect_answers(rt: &impl Abort, alloc: Global, script: &Script, wanted: &str) {
-    expect_of_each(rt, alloc, Trial::Answers(script, wanted));
 }

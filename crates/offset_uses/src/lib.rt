@@ -250,7 +250,7 @@ pub fn replay(
 ) -> Result<(Vec<Answer>, Vec<Answer>), AllocError>
     requires low { 2 ≤ max_allocs }
     requires high { max_allocs + 1 < 65535 }
-    requires powers { All (λ c. IsTrue (has_valid_alignment c)) commands.now }
+    requires alignments { All (λ c. IsTrue (has_valid_alignment c)) commands.now }
     ensures answers { IfOk result (λ both.
         map answer_view both.0.items ≡ answers commands.now (start size max_allocs)) }
     ensures alike { IfOk result (λ both. map answer_view both.0.items ≡ map answer_view both.1.items) }

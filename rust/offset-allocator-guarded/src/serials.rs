@@ -13,11 +13,11 @@ pub(crate) struct Serials {
     given: u64,
 }
 
-// Adds a cell at the end of a table that has room for it. `insert`, unlike `push`, promises that the memory
-// stays the same. It is out of line, since each cell is made once.
+// Adds a cell at the end of a table that has room for it. `push_reserved`, unlike `push`, promises that the
+// memory stays the same. It is out of line, since each cell is made once.
 #[inline(never)]
 fn push_within(cells: &mut Vec<u64>, serial: u64) {
-    let _ = cells.insert(cells.len(), serial);
+    cells.push_reserved(serial);
 }
 
 impl Serials {

@@ -143,7 +143,7 @@ impl<T: Tables> HeapsOf<T> {
     }
 
     // A request as `allocate_aligned` has it.
-    fn request(&mut self, size: u32, align: u32) -> Result<Granted, Refusal> {
+    fn serve(&mut self, size: u32, align: u32) -> Result<Granted, Refusal> {
         if size == 0 {
             return Err(Refusal::Empty);
         }
@@ -176,8 +176,8 @@ impl<T: Tables> HeapsOf<T> {
 
     /// Grants `size` units of one heap that begin at a multiple of `align`, from 1 on, in that heap.
     ///
-    /// The heap is the first one, by number, that has room, which it has for `size + align - 1` units: what
-    /// `GuardedOf::allocate_aligned` grants there, as it grants it. Where none has, another heap is made,
+    /// It is the first heap, by number, that has room for `size + align - 1` units, and it grants what
+    /// `GuardedOf::allocate_aligned` grants. Where none has, another heap is made,
     /// whose first range begins at 0, a multiple of every alignment: so it needs room for `size` units alone.
     /// If the last usual heap, the largest, would have that, it is a usual one, of the first number below
     /// `most` that no heap has and whose heap would have it, of `first_size` units doubled as often as its
@@ -210,6 +210,6 @@ impl<T: Tables> HeapsOf<T> {
     #[track_caller]
     pub fn allocate_aligned(&mut self, size: u32, align: u32) -> Result<Granted, Refusal> {
         assert!(1 <= align, "the alignment must be at least 1");
-        self.request(size, align)
+        self.serve(size, align)
     }
 }

@@ -1,6 +1,6 @@
 // Printed by rust/erase from crates/offset_heaps/src/maxima.rt: change it there.
 
-//! A row of keys, a key for each number of a heap: the first and the last number whose key is large enough
+//! A row of keys, one for the number of each heap: the first and the last number whose key is large enough
 //! are found in few steps, by a tree of maxima. It touches its own cells alone, and counts each access.
 
 use offset_allocator::Accesses;
@@ -21,7 +21,7 @@ fn read(cells: &Vec<u32>, place: usize, count: &mut Accesses) -> u32 {
     cells[place]
 }
 
-// The larger one of a cell's number, which is given, and that of the other cell below the same one.
+// The larger one of a cell's key, which is given, and that of the other cell below the same one.
 #[inline(always)]
 fn larger_of_two(cells: &Vec<u32>, place: usize, key: u32, count: &mut Accesses) -> u32 {
     if place % 2 == 0 {
@@ -89,7 +89,7 @@ impl Maxima {
         Some((last - self.cells.len() / 2) as u32)
     }
 
-    /// Writes the number at a place, and returns the one that was there.
+    /// Writes the key of a number, and returns the one that it had.
     pub(crate) fn set(&mut self, at: u32, key: u32, count: &mut Accesses) -> u32 {
         let mut place = self.cells.len() / 2 + at as usize;
         let was = read(&self.cells, place, count);

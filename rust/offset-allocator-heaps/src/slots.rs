@@ -25,11 +25,16 @@ fn room_at<T: Tables>(heap: &GuardedOf<T>, align: u32) -> u32 {
     if align == 1 { one } else { two }
 }
 
+// Whether fewer than `least` nodes of the heap of a number are unused, and its node limit may still be raised.
+fn has_few_nodes<T: Tables>(heap: &GuardedOf<T>, number: u32, limits: Limits, least: u32) -> bool {
+    let space = heap.allocator();
+    number < limits.most && space.max_allocs() < limits.max_allocs && unused_nodes(space) < least
+}
+
 // Whether the node limit of a heap has to be raised before a grant, which adds two blocks at most: after it at least
 // three nodes are unused, or the limit is the largest one. A report is then that of the largest limit.
 fn must_raise<T: Tables>(heap: &GuardedOf<T>, number: u32, limits: Limits) -> bool {
-    let space = heap.allocator();
-    number < limits.most && space.max_allocs() < limits.max_allocs && unused_nodes(space) < 5
+    has_few_nodes(heap, number, limits, 5)
 }
 
 /// Doubles the node limit of the heap of a number, where it has to be raised.
@@ -117,13 +122,6 @@ fn free_in<T: Tables>(slot: &mut Option<GuardedOf<T>>, ticket: Ticket) -> bool {
     }
 }
 
-// Whether fewer than four nodes of the heap of a number are unused, and its node limit may still be raised: a range
-// that shrinks might leave too few.
-fn has_few_nodes<T: Tables>(heap: &GuardedOf<T>, number: u32, limits: Limits) -> bool {
-    let space = heap.allocator();
-    number < limits.most && space.max_allocs() < limits.max_allocs && unused_nodes(space) < 4
-}
-
 // Makes the range of a ticket smaller or larger in place, where it is live.
 fn resize_heap<T: Tables>(heap: &mut GuardedOf<T>, ticket: Ticket, how: Resize) -> Option<bool> {
     match how {
@@ -143,7 +141,8 @@ fn resize_in<T: Tables>(
     match slot {
         None => None,
         Some(heap) => {
-            if how.is_less() && has_few_nodes(heap, number, limits) {
+            // a range that shrinks might leave too few nodes
+            if how.is_less() && has_few_nodes(heap, number, limits, 4) {
                 return if heap.is_live(ticket) {
                     Some(false)
                 } else {

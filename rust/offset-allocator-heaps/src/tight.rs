@@ -70,7 +70,7 @@ impl<T: Tables> HeapsOf<T> {
     }
 
     // A request as `allocate_tight_aligned` has it.
-    fn request_tight(&mut self, size: u32, align: u32) -> Result<Granted, Refusal> {
+    fn serve_tight(&mut self, size: u32, align: u32) -> Result<Granted, Refusal> {
         if size == 0 {
             return Err(Refusal::Empty);
         }
@@ -100,8 +100,8 @@ impl<T: Tables> HeapsOf<T> {
     /// Grants `size` units of any free block that holds them from a multiple of `align` on, from 1 on, in its
     /// heap: so heaps that are nearly full are filled.
     ///
-    /// The heap is the first one, by number, that has a free block which holds the request where it begins, and
-    /// unused nodes for it: what `GuardedOf::allocate_tight_aligned` grants there, as it grants it. So a heap that
+    /// It is the first heap, by number, that has a free block which holds the request where it begins, and unused
+    /// nodes for it, and it grants what `GuardedOf::allocate_tight_aligned` grants. So a heap that
     /// has room for the same request of `allocate_aligned` grants this one, and others may. Where none holds it,
     /// another heap is made, exactly as by `allocate_aligned`: a usual one where the last of these has room for
     /// `size` units when it is fresh, else one of exactly `size` units. The node limit of the heap is raised before,
@@ -131,7 +131,7 @@ impl<T: Tables> HeapsOf<T> {
     #[track_caller]
     pub fn allocate_tight_aligned(&mut self, size: u32, align: u32) -> Result<Granted, Refusal> {
         assert!(1 <= align, "the alignment must be at least 1");
-        self.request_tight(size, align)
+        self.serve_tight(size, align)
     }
 
     /// Why `allocate_tight(size)` would be refused now, or `None` where it would be granted, if memory for another

@@ -41,9 +41,9 @@ pub enum Call {
     /// Requests, from the offset that is the first number on, as many units as the second says, as `allocate_at`
     /// does.
     AllocateAt(u32, u32),
-    /// Asks why `Tight` of this many units would be refused now.
+    /// Asks why `AllocateTight` of this many units would be refused now.
     RefusalTight(u32),
-    /// Asks why `TightAligned` of these numbers would be refused now.
+    /// Asks why `AllocateTightAligned` of these numbers would be refused now.
     RefusalTightAligned(u32, u32),
     /// Asks where the range would begin that `Align` of these numbers would grant now, as `would_begin` does;
     /// with 1 as the second number that of `Alloc`.

@@ -64,7 +64,7 @@ fn find<NI: NodeIndex>(
     }
 }
 
-// The reply to `First`.
+// The reply to `FirstLive`.
 #[inline(never)]
 pub(crate) fn first_live<T: Tables>(
     player: &PlayerOf<T>,
@@ -74,7 +74,7 @@ pub(crate) fn first_live<T: Tables>(
     find(&player.handles, player.space.node_count(), numbers, found)
 }
 
-// The reply to `Last`.
+// The reply to `LastLive`.
 #[inline(never)]
 pub(crate) fn last_live<T: Tables>(
     player: &PlayerOf<T>,
@@ -84,7 +84,7 @@ pub(crate) fn last_live<T: Tables>(
     find(&player.handles, player.space.node_count(), numbers, found)
 }
 
-// The reply to `Before`.
+// The reply to `LiveBefore`.
 #[inline(never)]
 pub(crate) fn live_before<T: Tables>(
     player: &PlayerOf<T>,
@@ -98,7 +98,7 @@ pub(crate) fn live_before<T: Tables>(
     find(&player.handles, player.space.node_count(), numbers, found)
 }
 
-// The reply to `After`.
+// The reply to `LiveAfter`.
 #[inline(never)]
 pub(crate) fn live_after<T: Tables>(
     player: &PlayerOf<T>,

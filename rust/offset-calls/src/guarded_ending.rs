@@ -57,17 +57,17 @@ fn numbered(found: Option<Ticket>) -> Reply {
     }
 }
 
-// The reply to `First`.
+// The reply to `FirstLive`.
 pub(crate) fn first_live<T: Tables>(player: &TicketPlayer<T>) -> Reply {
     numbered(player.space.first_live())
 }
 
-// The reply to `Last`.
+// The reply to `LastLive`.
 pub(crate) fn last_live<T: Tables>(player: &TicketPlayer<T>) -> Reply {
     numbered(player.space.last_live())
 }
 
-// The reply to `Before`.
+// The reply to `LiveBefore`.
 pub(crate) fn live_before<T: Tables>(player: &TicketPlayer<T>, ticket: Option<Ticket>) -> Reply {
     let Some(ticket) = ticket else {
         return Reply::Answer(Answer::Gone);
@@ -78,7 +78,7 @@ pub(crate) fn live_before<T: Tables>(player: &TicketPlayer<T>, ticket: Option<Ti
     numbered(player.space.live_before(ticket))
 }
 
-// The reply to `After`.
+// The reply to `LiveAfter`.
 pub(crate) fn live_after<T: Tables>(player: &TicketPlayer<T>, ticket: Option<Ticket>) -> Reply {
     let Some(ticket) = ticket else {
         return Reply::Answer(Answer::Gone);

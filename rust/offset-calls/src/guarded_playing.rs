@@ -51,13 +51,13 @@ fn allocate_aligned<T: Tables>(
     keep(&mut player.tickets, granted)
 }
 
-// The reply to `Tight`.
+// The reply to `AllocateTight`.
 fn allocate_tight<T: Tables>(player: &mut TicketPlayer<T>, size: u32) -> Result<Reply, AllocError> {
     let granted = player.space.allocate_tight(size);
     Ok(Reply::Answer(keep(&mut player.tickets, granted)?))
 }
 
-// The reply to `TightAligned`.
+// The reply to `AllocateTightAligned`.
 fn allocate_tight_aligned<T: Tables>(
     player: &mut TicketPlayer<T>,
     size: u32,

@@ -5,10 +5,10 @@
 //!
 //! `offset_script` plays the commands of a script. Here `shrink`, `grow_in_place`, `compact`, `compact_by`,
 //! `compact_within`, `make_room`, `make_room_by`, `relocate`, `relocate_aligned`, `retract`, `allocate_at` and
-//! the tight requests, and the questions for an offset, for that of a grant, for the reason of a refusal, for
-//! the cost of room, by whole steps too, and for the ranges beside one, are calls too. The replies are proved
-//! to be those of the plain stamped list of blocks, which `specs/Calls.antt` extends by these calls, for every
-//! lawful layout and index type.
+//! the tight requests are calls too, and the questions where a range begins, where a request's grant would
+//! begin, why a request would be refused, what room would cost, by whole steps too, and which live range is the
+//! first, the last, or beside one. The replies are proved to be those of the plain stamped list of blocks, which
+//! `specs/Calls.antt` extends by these calls, for every lawful layout and index type.
 #![doc = include_str!("../README.md")]
 #![forbid(unsafe_code)]
 #![warn(missing_docs)]

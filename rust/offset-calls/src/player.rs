@@ -50,8 +50,8 @@ impl<T: Tables> CallPlayerOf<T> {
     /// Makes one call, and returns its reply. Its alignment and its step, if it has them, have to be at least 1.
     ///
     /// It costs what the call costs in the allocator. Calls that may slide ranges (`Compact`, `CompactBy`,
-    /// `CompactWithin`, `MakeRoom`, `MakeRoomBy`), `First`, `Last`, `Before` and `After` also read the grants
-    /// since the last one of them, and keep 8 bytes for each node.
+    /// `CompactWithin`, `MakeRoom`, `MakeRoomBy`), `FirstLive`, `LastLive`, `LiveBefore` and `LiveAfter` also read
+    /// the grants since the last one of them, and keep 8 bytes for each node.
     ///
     /// # Errors
     ///

@@ -45,7 +45,7 @@ fn offset<T: Tables>(player: &PlayerOf<T>, number: u32) -> Reply {
     }
 }
 
-// The reply to `Tight`.
+// The reply to `AllocateTight`.
 #[inline(never)]
 fn tight<T: Tables>(player: &mut PlayerOf<T>, size: u32) -> Result<Reply, AllocError> {
     player.handles.reserve(1)?;
@@ -53,7 +53,7 @@ fn tight<T: Tables>(player: &mut PlayerOf<T>, size: u32) -> Result<Reply, AllocE
     Ok(Reply::Answer(player.keep(granted)?))
 }
 
-// The reply to `TightAligned`.
+// The reply to `AllocateTightAligned`.
 #[inline(never)]
 fn tight_aligned<T: Tables>(
     player: &mut PlayerOf<T>,
@@ -196,10 +196,10 @@ fn append<T: Tables>(
 /// Plays calls on an allocator of `size` units with the node limit `max_allocs`, and returns the replies in
 /// order, one for each.
 ///
-/// The limit has to be 2 to `T::Index::MAX - 2`, each alignment and each step at least 1. All
-/// replies are kept in memory, and from the first call that may slide ranges, `First`, `Last`, `Before` or
-/// `After` on 8 bytes for each node that was made, twice that while a later one finds that there are more nodes.
-/// Each call costs what it costs in the allocator; these also read the grants since the last one of them.
+/// The limit has to be 2 to `T::Index::MAX - 2`, each alignment and each step at least 1. All replies are kept in
+/// memory. Each call costs what it costs in the allocator. Calls that may slide ranges, `FirstLive`, `LastLive`,
+/// `LiveBefore` and `LiveAfter` also read the grants since the last one of them: from the first of these calls on
+/// 8 bytes are kept for each node that was made, and twice as many while there are more nodes than at the last.
 ///
 /// # Errors
 ///

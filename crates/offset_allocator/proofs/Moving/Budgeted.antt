@@ -1,13 +1,13 @@
 -- A compaction within a budget: where it begins, and how far it comes.
 use Rattle.offset_allocator.proofs.Common.{◌≡◌, ◌≢◌, ℕ, ◌+◌, ◌<◌, ◌≤◌, Bool, true, false, not, ◌&&◌, nat_le, List, [], ◌∷◌, ◌++◌, Some, None, if◌then◌else◌, refl, sym, ap, subst, ◌∙◌, arith, nat_tests, Block, units}
-use Rattle.offset_allocator.proofs.Common.{◌⊎◌, inl, inr, cases_lt, ends_used, first_or, last_or, one, true≢false, used_of, used_units, append_assoc, ChainCells, IsChain, IsSpace, HasPlace, blocks, Option}
+use Rattle.offset_allocator.proofs.Common.{◌⊎◌, inl, inr, cases_lt, ends_used, first_or, last_or, one, true≢false, count_used, used_units, append_assoc, ChainCells, IsChain, IsSpace, HasPlace, blocks, Option}
 use Rattle.offset_allocator.proofs.{Linking.Places.placed, Tallies.tally_append}
 use Rattle.offset_allocator.proofs.{Sound.Fields, Moving.Rooms.apart_few, Views.ViewApart.apart_parts, Common.AreCoalesced, Common.max, Common.◌*◌, Moving.Compacting.live_append, Moving.Stepped.stepped_fewer, Moving.Stepped.stepped_length, Moving.Stepped.stepped_live}
 use Rattle.offset_allocator.proofs.Common.{View, AdmitsBlocks, IsWellFormed, append-nil, free_block, length, length-append, live, starts_free}
 use Rattle.offset_allocator.specs.declared.moves.budget.{Progress.Progress, Reach.Reach}
 use Rattle.offset_allocator.specs.{Accesses.Costs}
 use Rattle.offset_allocator.specs.Moving.{BySteps.given_up, BySteps.stepped}
-use Rattle.offset_allocator.specs.Moving.Budget.{first_from, start_of, IsWithin, IsReached, SlidesWithin, StopsAt}
+use Rattle.offset_allocator.specs.Moving.Budget.{first_from, start_of, IsWithin, IsRunWithin, SlidesWithin, StopsAt}
 
 -- one block more in front
 pub from_here : (s from o : ℕ) (b : Block) (bs : List Block) → bs ≢ [] → (t : Bool) → t ≡ (not b.used && (nat_le s b.size && nat_le from (o + b.size)))
@@ -51,26 +51,26 @@ module _ (rest : List Block) (c : Block) where
   added_units : used_units (rest ++ c ∷ []) ≡ used_units rest + (if c.used then c.size else 0)
   added_units = omega (arith, tally_append (λ (b : Block). if b.used then b.size else 0) rest (c ∷ []))
 
-  added_ranges : used_of (rest ++ c ∷ []) ≡ used_of rest + one c.used
+  added_ranges : count_used (rest ++ c ∷ []) ≡ count_used rest + one c.used
   added_ranges = omega (arith, tally_append (λ (b : Block). one b.used) rest (c ∷ []))
 
   -- a free one
-  pub free_added : c.used ≡ false → (used_units (rest ++ c ∷ []) ≡ used_units rest) × (used_of (rest ++ c ∷ []) ≡ used_of rest)
+  pub free_added : c.used ≡ false → (used_units (rest ++ c ∷ []) ≡ used_units rest) × (count_used (rest ++ c ∷ []) ≡ count_used rest)
   free_added u = (omega (arith, added_units, ap (λ (t : Bool). if t then c.size else 0) u), omega (arith, added_ranges, ap one u))
 
   -- a live one
-  pub live_added : c.used ≡ true → (used_units (rest ++ c ∷ []) ≡ used_units rest + c.size) × (used_of (rest ++ c ∷ []) ≡ used_of rest + 1)
+  pub live_added : c.used ≡ true → (used_units (rest ++ c ∷ []) ≡ used_units rest + c.size) × (count_used (rest ++ c ∷ []) ≡ count_used rest + 1)
   live_added u = (omega (arith, added_units, ap (λ (t : Bool). if t then c.size else 0) u), omega (arith, added_ranges, ap one u))
 
   module _ (u r : ℕ) where
     pub free_within : c.used ≡ false → IsWithin u r rest → IsWithin u r (rest ++ c ∷ [])
     free_within e w = let a = free_added e in elim w [ inl one ↦ inl (a.1 ∙ one) | inr few ↦ inr (omega (arith, a.0, few.0), omega (arith, a.1, few.1)) ]
 
-    pub live_within : c.used ≡ true → ((1 ≤ used_of rest) × ((u < used_units rest + c.size) ⊎ (r ≤ used_of rest)) → ⊥) → IsWithin u r (rest ++ c ∷ [])
-    live_within e h = let a = live_added e in elim (cases_lt 0 (used_of rest)) [
+    pub live_within : c.used ≡ true → ((1 ≤ count_used rest) × ((u < used_units rest + c.size) ⊎ (r ≤ count_used rest)) → ⊥) → IsWithin u r (rest ++ c ∷ [])
+    live_within e h = let a = live_added e in elim (cases_lt 0 (count_used rest)) [
       | inl some ↦ elim (cases_lt u (used_units rest + c.size)) [
         | inl l ↦ absurd (h (some, inl l))
-        | inr m ↦ elim (cases_lt (used_of rest) r) [
+        | inr m ↦ elim (cases_lt (count_used rest) r) [
           | inl k ↦ inr (omega (arith, a.0, m), omega (arith, a.1, k))
           | inr k ↦ absurd (h (some, inr k))
         ]
@@ -78,7 +78,7 @@ module _ (rest : List Block) (c : Block) where
       | inr none ↦ inl (omega (arith, a.1, none))
     ]
 
-    pub not_within : c.used ≡ true → (1 ≤ used_of rest) × ((u < used_units rest + c.size) ⊎ (r ≤ used_of rest)) → IsWithin u r (rest ++ c ∷ []) → ⊥
+    pub not_within : c.used ≡ true → (1 ≤ count_used rest) × ((u < used_units rest + c.size) ⊎ (r ≤ count_used rest)) → IsWithin u r (rest ++ c ∷ []) → ⊥
     not_within e h w = let a = live_added e in elim w [
       | inl one ↦ absurd (omega (arith, a.1, one, h.0))
       | inr few ↦ elim h.1 [ inl l ↦ absurd (omega (arith, l, a.0, few.0)) | inr l ↦ absurd (omega (arith, l, a.1, few.1)) ]
@@ -183,8 +183,8 @@ pub record Run (f : Fields) (x : ℕ) (reach : Reach) (v : View) (s from u r : �
   pub free : first.used ≡ false
   pub end : last_or None (first ∷ rest) ≡ Some reach.end
   pub end_used : ends_used (first ∷ rest) ≡ reach.end_used
-  pub reached : IsReached s from u r v front first rest back
-  pub progress : reach.progress ≡ record { units = used_units rest; ranges = used_of rest; next = start_of (units (front ++ first ∷ rest)) back }
+  pub reached : IsRunWithin s from u r v front first rest back
+  pub progress : reach.progress ≡ record { units = used_units rest; ranges = count_used rest; next = start_of (units (front ++ first ∷ rest)) back }
 
 -- the run is no longer than the budget allows
 pub few_rest : (u r : ℕ) (v : View) → IsWellFormed v → (front : List Block) (b : Block) (rest back : List Block) → v.blocks ≡ front ++ ((b ∷ rest) ++ back) → b.used ≡ false → IsWithin u r rest

@@ -5,7 +5,7 @@ use Rattle.offset_allocator.proofs.{Tallies.one-same, Tallies.tally_append, Tall
 use Rattle.offset_allocator.proofs.{Views.ViewTaken.replicate_none}
 use Rattle.offset_allocator.proofs.Common.{◌≡◌, ℕ, suc, ◌+◌, ◌≤◌, Bool, true, false, not, ◌&&◌, Some, None, List, [], ◌∷◌, ◌++◌, length, replicate, sum, if◌then◌else◌, nat_eq, refl, sym, ap, ap₂}
 use Rattle.offset_allocator.proofs.Common.{subst, ◌∙◌, arith, append-nil, length-append, eq-zero-or-pos, AllByRecursion, nat_tests, length-replicate, ext_get_or, down, Cells, ChainCells, Block, View}
-use Rattle.offset_allocator.proofs.Common.{Place, one, free_block, units, free_sizes, used_of, count_named, count_in_bin, bin_at, push, push_all, AreCoalesced, IsWellFormed, starts_free, live, moves}
+use Rattle.offset_allocator.proofs.Common.{Place, one, free_block, units, free_sizes, count_used, count_named, count_in_bin, bin_at, push, push_all, AreCoalesced, IsWellFormed, starts_free, live, moves}
 use Rattle.offset_allocator.proofs.Common.{move_of, first_free, gathered, Compacts, SameSpace, HasPlace, blocks, IsBinned, bins_in, AreInBins, common_steps, drop, take}
 use Rattle.offset_allocator.proofs.Moving.Sliding.{first_used, first_idle, live_used, live_idle, moves_used, moves_idle}
 use Rattle.offset_allocator.specs.Names.{free_blocks, names_of}
@@ -51,9 +51,9 @@ live_fewer : (bs : List Block) → length (live bs) ≤ length bs
 live_fewer [] = omega arith
 live_fewer (b ∷ bs) = let ih = live_fewer bs in elim b.used as (λ u. length (if u then b ∷ live bs else live bs) ≤ suc (length bs)) [ true ↦ omega arith | false ↦ omega arith ]
 
-used_at_most : (bs : List Block) → used_of bs ≤ length bs
+used_at_most : (bs : List Block) → count_used bs ≤ length bs
 used_at_most [] = omega arith
-used_at_most (b ∷ bs) = let ih = used_at_most bs in elim b.used as (λ u. one u + used_of bs ≤ suc (length bs)) [ true ↦ omega arith | false ↦ omega arith ]
+used_at_most (b ∷ bs) = let ih = used_at_most bs in elim b.used as (λ u. one u + count_used bs ≤ suc (length bs)) [ true ↦ omega arith | false ↦ omega arith ]
 
 -- a free block at the end is beside no other
 apart_end : (bs : List Block) (d : Block) → AreUsed bs → AreCoalesced (bs ++ d ∷ [])

@@ -2,9 +2,9 @@
 use Rattle.offset_allocator.proofs.{Decided.both_leave, Decided.both_stay, Decided.one_name, Moving.DecidedRooms.IsPast, Moving.DecidedRooms.Notes, Moving.DecidedRooms.folds_same, Moving.DecidedRooms.meet}
 use Rattle.offset_allocator.proofs.{Tallies.tally_append, Tallies.one-same}
 use Rattle.offset_allocator.proofs.Common.{◌≡◌, ℕ, ◌+◌, ◌≤◌, true, List, [], ◌∷◌, ◌++◌, Option, Some, None, nat_eq, refl, sym, ap, ap₂, subst, ◌∙◌, inl, inr, arith, length, FoldsTo}
-use Rattle.offset_allocator.proofs.Common.{Block, View, units, one, used_of, used_units, count_named, free_block, replace, append_assoc, IsWellFormed, Move, if◌then◌else◌}
+use Rattle.offset_allocator.proofs.Common.{Block, View, units, one, count_used, used_units, count_named, free_block, replace, append_assoc, IsWellFormed, Move, if◌then◌else◌}
 use Rattle.offset_allocator.specs.Moving.BySteps.{given_up, moves_by, stepped, used_up}
-use Rattle.offset_allocator.specs.Moving.Budget.{CanFollow, CompactsWithin, IsReached, IsWithin, SlidesWithin, StopsAt, first_from, start_of}
+use Rattle.offset_allocator.specs.Moving.Budget.{CanFollow, CompactsWithin, IsRunWithin, IsWithin, SlidesWithin, StopsAt, first_from, start_of}
 use Rattle.offset_allocator.specs.{Names.names_of, Relations.SameState}
 use Rattle.offset_allocator.specs.declared.moves.budget.Progress.{Progress}
 
@@ -37,13 +37,13 @@ goes_on u r rest back rest' back' p stops w = go (subst (StopsAt u r rest) p.bac
     is : rest' ≡ (rest ++ p.block ∷ []) ++ p.between
     is = p.front ∙ sym (append_assoc rest (p.block ∷ []) p.between)
 
-    ranges : used_of rest' ≡ used_of (rest ++ p.block ∷ []) + used_of p.between
-    ranges = omega (arith, ap used_of is, tally_append (λ (b : Block). one b.used) (rest ++ p.block ∷ []) p.between)
+    ranges : count_used rest' ≡ count_used (rest ++ p.block ∷ []) + count_used p.between
+    ranges = omega (arith, ap count_used is, tally_append (λ (b : Block). one b.used) (rest ++ p.block ∷ []) p.between)
 
     live : used_units rest' ≡ used_units (rest ++ p.block ∷ []) + used_units p.between
     live = omega (arith, ap used_units is, tally_append (λ (b : Block). if b.used then b.size else 0) (rest ++ p.block ∷ []) p.between)
 
-    some : p.block.used ≡ true → 1 ≤ used_of (rest ++ p.block ∷ [])
+    some : p.block.used ≡ true → 1 ≤ count_used (rest ++ p.block ∷ [])
     some e = omega (arith, tally_append (λ (b : Block). one b.used) rest (p.block ∷ []), ap one e)
 
     go : StopsAt u r rest (p.block ∷ (p.between ++ back')) → ⊥
@@ -54,8 +54,8 @@ goes_on u r rest back rest' back' p stops w = go (subst (StopsAt u r rest) p.bac
 
 module _ (s from u r : ℕ) (v : View) (known : IsWellFormed v) (a : ℕ) where
   -- the run is one
-  one_run : (fr : List Block) (b : Block) (rest back : List Block) (fr' : List Block) (b' : Block) (rest' back' : List Block) → IsReached s from u r v fr b rest back
-      → IsReached s from u r (record v { accesses = a }) fr' b' rest' back' → (fr ≡ fr') × (b ≡ b') × (rest ≡ rest') × (back ≡ back')
+  one_run : (fr : List Block) (b : Block) (rest back : List Block) (fr' : List Block) (b' : Block) (rest' back' : List Block) → IsRunWithin s from u r v fr b rest back
+      → IsRunWithin s from u r (record v { accesses = a }) fr' b' rest' back' → (fr ≡ fr') × (b ≡ b') × (rest ≡ rest') × (back ≡ back')
   one_run fr b rest back fr' b' rest' back' f k =
       let name : Some b.name ≡ Some b'.name = sym f.begins ∙ k.begins in
       let at = same_named fr fr' b b' (rest ++ back) (rest' ++ back') (sym f.is ∙ k.is) (λ x. subst (λ (l : List Block). count_named x l ≤ 1) f.is (known.distinct x)) (cc) in
@@ -93,7 +93,7 @@ module _ (s from u r : ℕ) (v : View) (known : IsWellFormed v) (a : ℕ) where
     same_moves = ap₂ (λ (front bs : List Block). moves_by s (units front) (units front) bs) at.0 run
 
     abbrev so_far : List Block → List Block → List Block → List Block → Progress
-    so_far front bs rest back = record { units = used_units rest; ranges = used_of rest; next = start_of (units (front ++ bs)) back }
+    so_far front bs rest back = record { units = used_units rest; ranges = count_used rest; next = start_of (units (front ++ bs)) back }
 
     same_progress : p ≡ p'
     same_progress =

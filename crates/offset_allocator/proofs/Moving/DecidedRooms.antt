@@ -2,7 +2,7 @@
 use Rattle.offset_allocator.proofs.{Decided.both_leave, Decided.both_stay, Decided.same_renamed, Tallies.tally_append, Views.ViewApart.ends_free, Views.ViewApart.apart_parts}
 use Rattle.offset_allocator.proofs.{Views.ViewApart.right_false, Common.Move, Common.first_free}
 use Rattle.offset_allocator.proofs.Common.{◌≡◌, ℕ, ◌≤◌, ◌⊎◌, Bool, true, false, not, List, [], ◌∷◌, ◌++◌, Option, Some, None, refl, sym, ap, ap₂, subst, ◌∙◌, inl, inr, arith, drop, sum, FoldsTo}
-use Rattle.offset_allocator.proofs.Common.{cases_lt, true≢false, Block, View, one, units, used_of, free_sizes, free_block, starts_free, ends_used, AreCoalesced, IsWellFormed, replace, live, moves}
+use Rattle.offset_allocator.proofs.Common.{cases_lt, true≢false, Block, View, one, units, count_used, free_sizes, free_block, starts_free, ends_used, AreCoalesced, IsWellFormed, replace, live, moves}
 use Rattle.offset_allocator.specs.{Names.free_blocks, Relations.SameState, Moving.Room.IsAtMost, Moving.Room.IsLess, Moving.Room.IsLeastCost, Moving.Room.CostMore, Moving.Room.MakesRoom}
 use Rattle.offset_allocator.specs.{Moving.Room.SlidesRun, Moving.Room.cost_of}
 use Rattle.offset_allocator.specs.declared.moves.room.RoomCost.{RoomCost}
@@ -81,7 +81,7 @@ pub ends_later : (run back run' back' : List Block) → IsPast run back run' bac
 ends_later run back run' back' p same begins ends apart =
     let sides = apart_parts run (p.block ∷ (p.between ++ back')) (subst (λ l. AreCoalesced (run ++ l)) p.back apart) in
     let used : one p.block.used ≡ 1 = taken_one p.block.used (right_false (ends_free run) (not p.block.used) sides.2 (ends_some run begins ends)) in
-    omega (arith, ap (λ (c : RoomCost). c.ranges) same, ap used_of p.front, tally_append (λ (b : Block). one b.used) run (p.block ∷ p.between), used)
+    omega (arith, ap (λ (c : RoomCost). c.ranges) same, ap count_used p.front, tally_append (λ (b : Block). one b.used) run (p.block ∷ p.between), used)
 
 module _ (want : ℕ) (v : View) (known : IsWellFormed v) (a : ℕ) (w w' : View) (f : SlidesRun want v w) (k : SlidesRun want (record v { accesses = a }) w') (same : cost_of f.run ≡ cost_of k.run) where
   begins_same : (f.front ≡ k.front) × (f.run ++ f.back ≡ k.run ++ k.back)

@@ -2,7 +2,7 @@
 use Rattle.offset_allocator.proofs.{Sound.Fields, Sound.AreSound, Sound.shown, Sound.well_same, Joints.stepped, Joints.free_units-append, Joints.free_units-free, Views.ViewApart.apart_parts}
 use Rattle.offset_allocator.proofs.{Views.ViewApart.apart_append, Views.ViewApart.ends_free, Views.ViewReplaced.well_replaced, Reporting.Nearby.one_used, Reporting.Nearby.other_used, Ranges.cuts_keep}
 use Rattle.offset_allocator.proofs.Common.{◌≡◌, ℕ, zero, suc, ◌+◌, ◌-◌, ◌<◌, ◌≤◌, Bool, true, false, not, ◌&&◌, List, [], ◌∷◌, ◌++◌, length, take, refl, sym, ap, subst, ◌∙◌, arith, inl, inr}
-use Rattle.offset_allocator.proofs.Common.{append-nil, append_assoc, length-append, Block, View, Cells, units, one, down, free_block, used_of, AreCoalesced, IsWellFormed, IsChain, IsBinned, bins_in}
+use Rattle.offset_allocator.proofs.Common.{append-nil, append_assoc, length-append, Block, View, Cells, units, one, down, free_block, count_used, AreCoalesced, IsWellFormed, IsChain, IsBinned, bins_in}
 use Rattle.offset_allocator.proofs.Common.{blocks, push, push_all, remove_all, replace, ends_used, KeepsAll, true≢false}
 use Rattle.offset_allocator.proofs.Tallies.{free_units, free_sum, units-append, tally_append, hit_cases}
 use Rattle.offset_allocator.proofs.Extending.{ends_last, EndsFree, last_of, known_of, last_free, last_left, last_removed}
@@ -70,7 +70,7 @@ module _ {it : Fields} (r : EndsFree it) (less : ℕ) (enough : less ≤ (last_o
         few_used = omega (
           arith,
           w.few_used,
-          ap used_of (last_of r).is,
+          ap count_used (last_of r).is,
           tally_append (λ (c : Block). one c.used) fs (b ∷ []),
           tally_append (λ (c : Block). one c.used) fs (free_block b.name (b.size - less)
               ∷ []),
@@ -131,7 +131,7 @@ module _ {it : Fields} (r : EndsFree it) (less : ℕ) (enough : less ≤ (last_o
           names = λ x l. inl (omega (arith, l));
           apart = subst AreCoalesced others parts.0;
           room = omega (arith, w.room, ap (λ (l : List Block). length l) all_is, length-append gs (a ∷ b ∷ []), length-append gs (a ∷ []));
-          few_used = omega (arith, w.few_used, ap used_of all_is, tally_append (λ (c : Block). one c.used) gs (a ∷ b ∷ []), tally_append (λ (c : Block). one c.used) gs (a ∷ []));
+          few_used = omega (arith, w.few_used, ap count_used all_is, tally_append (λ (c : Block). one c.used) gs (a ∷ b ∷ []), tally_append (λ (c : Block). one c.used) gs (a ∷ []));
         })
         (omega (arith, whole, size_fits)) (omega (arith, w.fits))
 

@@ -4,7 +4,7 @@ use Rattle.offset_allocator.proofs.{Views.ViewFits.HasName, Views.ViewFits.there
 use Rattle.offset_allocator.proofs.{Tallies.units-append, Joints.free_units-append, Joints.free_units-free, Joints.free_units-used, Moving.Compacting.AreUsed, Moving.Compacting.IsFirst}
 use Rattle.offset_allocator.proofs.{Moving.Compacting.first_is, Moving.Runs.single_run, Moving.Runs.run_some, Moving.Runs.run_within}
 use Rattle.offset_allocator.proofs.Common.{◌≡◌, ℕ, ◌^◌, ◌<◌, ◌≤◌, ◌⊎◌, Bool, true, false, not, ◌&&◌, Option, Some, None, List, [], ◌∷◌, ◌++◌, sum, if◌then◌else◌, refl, sym, ap, ap₂, subst, ◌∙◌, arith}
-use Rattle.offset_allocator.proofs.Common.{inl, inr, eq-zero-or-pos, true≢false, not-true, Block, View, IsWellFormed, AreCoalesced, CanGrant, IsWhy, free_sizes, starts_free, ends_used, used_of, one}
+use Rattle.offset_allocator.proofs.Common.{inl, inr, eq-zero-or-pos, true≢false, not-true, Block, View, IsWellFormed, AreCoalesced, CanGrant, IsWhy, free_sizes, starts_free, ends_used, count_used, one}
 use Rattle.offset_allocator.proofs.Common.{value, up, down, times, units, first_free}
 use Rattle.offset_allocator.proofs.{Common.AdmitsBlocks, Common.length, Common.◌↔◌, Moving.DecidedRoomsBySteps.least_by_decided, Moving.Rooms.apart_few, Moving.RoomsBySteps.fit_of, Moving.RoomsBySteps.found_by}
 use Rattle.offset_allocator.proofs.{Moving.Stepping.emptied_free, Moving.Stepping.given_free}
@@ -148,10 +148,10 @@ module _ (v : View) (w : IsWellFormed v) (n : ℕ) (why : IsWhy 1 n v Fragmented
       )
 
   -- it is not one free block
-  not_alone : (run : List Block) → IsRun run v.blocks → used_of run ≡ 0 → value (up n) ≤ sum (free_sizes run) → ⊥
+  not_alone : (run : List Block) → IsRun run v.blocks → count_used run ≡ 0 → value (up n) ≤ sum (free_sizes run) → ⊥
   not_alone run r z l = go run r.front r.back r.is r.begins z l
     where
-      go : (run front back : List Block) → v.blocks ≡ front ++ (run ++ back) → starts_free run ≡ true → used_of run ≡ 0 → value (up n) ≤ sum (free_sizes run) → ⊥
+      go : (run front back : List Block) → v.blocks ≡ front ++ (run ++ back) → starts_free run ≡ true → count_used run ≡ 0 → value (up n) ≤ sum (free_sizes run) → ⊥
       go [] front back is s z l = true≢false (sym s)
       go (b ∷ []) front back is s z l =
           let idle : b.used ≡ false = not-true b.used s in
@@ -180,7 +180,7 @@ module _ (v : View) (w : IsWellFormed v) (t k n : ℕ) where
   short_room : names_short k v ≤ 1 → AdmitsBlocks k v
   short_room l = omega (arith, l)
 
-  none_moves : (run : List Block) → IsRun run v.blocks → Serves t (value (up n)) (names_short k v) run → used_of run ≡ 0 → CanGrant k n v
+  none_moves : (run : List Block) → IsRun run v.blocks → Serves t (value (up n)) (names_short k v) run → count_used run ≡ 0 → CanGrant k n v
   none_moves [] r h z = absurd (true≢false (sym r.begins))
   none_moves (b ∷ d ∷ run) r h z =
       let apart = (apart_parts (b ∷ d ∷ run) r.back (apart_parts r.front ((b ∷ d ∷ run) ++ r.back) (subst AreCoalesced r.is w.apart)).1).0 in

@@ -5,7 +5,7 @@ use Rattle.offset_allocator.proofs.{Linking.Exchange.there-below, Linking.Places
 use Rattle.offset_allocator.proofs.{Views.ViewReplaced.IsReplacement, Views.ViewReplaced.well_replaced, Views.ViewReplaced.bins_replaced, Filing.Filed.share, Filing.Filed.counts_once}
 use Rattle.offset_allocator.proofs.Common.{drop, take, first_free, ◌%◌, ◌*◌, value, up, moves, Move, FoldsTo, CanGrant, ◌≡◌, ◌≢◌, ℕ, ◌+◌, ◌^◌, ◌<◌, ◌≤◌, ◌⊎◌, Bool, true, false, not, ◌&&◌, Some, None}
 use Rattle.offset_allocator.proofs.Common.{List, [], ◌∷◌, ◌++◌, length, sum, if◌then◌else◌, nat_eq, refl, sym, ap, ap₂, subst, ◌∙◌, arith, inl, inr, append_assoc, append-nil, length-append}
-use Rattle.offset_allocator.proofs.Common.{eq-zero-or-pos, true≢false, not-true, down, Cells, Block, View, Place, one, free_block, units, free_sizes, used_of, count_named, count_in_bin, bin_at, push}
+use Rattle.offset_allocator.proofs.Common.{eq-zero-or-pos, true≢false, not-true, down, Cells, Block, View, Place, one, free_block, units, free_sizes, count_used, count_named, count_in_bin, bin_at, push}
 use Rattle.offset_allocator.proofs.Common.{push_all, remove, remove_all, replace, AreCoalesced, IsWellFormed, IsNew, starts_free, ends_used, live, SameSpace, HasPlace, blocks, IsBinned, bins_in}
 use Rattle.offset_allocator.proofs.Common.{AreInBins, IsAmong, last_or, first_or, Node, node}
 use Rattle.offset_allocator.proofs.Moving.Compacting.{free_here, live_whole, live_append, live_units, AreUsed, live_are_used}
@@ -70,13 +70,13 @@ used_are_apart : (bs : List Block) → AreUsed bs → AreCoalesced bs
 used_are_apart [] h = tt
 used_are_apart (b ∷ bs) h = (ap (λ (u : Bool). not u && starts_free bs) h.0, used_are_apart bs h.1)
 
-live_used_of : (bs : List Block) → used_of (live bs) ≡ used_of bs
+live_used_of : (bs : List Block) → count_used (live bs) ≡ count_used bs
 live_used_of [] = refl
 live_used_of (b ∷ bs) = go b.used refl (live_used_of bs)
   where
-    go : (u : Bool) → b.used ≡ u → used_of (live bs) ≡ used_of bs → used_of (live (b ∷ bs)) ≡ used_of (b ∷ bs)
-    go true e ih = omega (arith, ap used_of (live_used b bs e), ih)
-    go false e ih = omega (arith, ap used_of (live_idle b bs e), ih, ap one e)
+    go : (u : Bool) → b.used ≡ u → count_used (live bs) ≡ count_used bs → count_used (live (b ∷ bs)) ≡ count_used (b ∷ bs)
+    go true e ih = omega (arith, ap count_used (live_used b bs e), ih)
+    go false e ih = omega (arith, ap count_used (live_idle b bs e), ih, ap one e)
 
 live_names : (x : ℕ) (bs : List Block) → count_named x (live bs) ≤ count_named x bs
 live_names x [] = omega arith
@@ -105,12 +105,12 @@ ends_free_is b (d ∷ []) k e h = ap not h
 ends_free_is b (d ∷ c ∷ bs) k e h = ends_free_is d (c ∷ bs) k e h
 
 -- blocks of which no two neighbours are free are at most twice as many as the used ones, and one
-pub apart_few : (bs : List Block) → AreCoalesced bs → length bs ≤ 2 * used_of bs + 1
+pub apart_few : (bs : List Block) → AreCoalesced bs → length bs ≤ 2 * count_used bs + 1
 apart_few [] h = omega arith
 apart_few (b ∷ []) h = omega arith
 apart_few (b ∷ d ∷ bs) h = go b.used refl (apart_few (d ∷ bs) h.1) (apart_few bs h.1.1)
   where
-    go : (u : Bool) → b.used ≡ u → length (d ∷ bs) ≤ 2 * used_of (d ∷ bs) + 1 → length bs ≤ 2 * used_of bs + 1 → length (b ∷ d ∷ bs) ≤ 2 * used_of (b ∷ d ∷ bs) + 1
+    go : (u : Bool) → b.used ≡ u → length (d ∷ bs) ≤ 2 * count_used (d ∷ bs) + 1 → length bs ≤ 2 * count_used bs + 1 → length (b ∷ d ∷ bs) ≤ 2 * count_used (b ∷ d ∷ bs) + 1
     go true e ih more = omega (arith, ih, ap one e)
     go false e ih more = omega (arith, more, ap one e, ap one (next d.used refl (ap (λ u. not u && starts_free (d ∷ bs)) (sym e) ∙ h.0)))
       where
@@ -265,10 +265,10 @@ module _ (f : Fields) (s : AreSound f) (want : ℕ) (r : Run) (o : IsOpened want
       few_used = omega (
         arith,
         w.few_used,
-        ap used_of o.is,
+        ap count_used o.is,
         tally_three (λ (b : Block). one b.used) o.front run o.back,
         tally_three (λ (b : Block). one b.used) o.front new o.back,
-        ap used_of new_is,
+        ap count_used new_is,
         tally_append (λ (b : Block). one b.used) (live o.rest) (free_block x n ∷ []),
         live_used_of o.rest,
       );

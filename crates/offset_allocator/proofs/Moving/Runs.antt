@@ -4,7 +4,7 @@ use Rattle.offset_allocator.proofs.{Tallies.units-append, Joints.free_units-appe
 use Rattle.offset_allocator.proofs.{Linking.Places.at_place, Linking.Rows.last_or-append, Common.ends_used, Common.one, Common.common_steps}
 use Rattle.offset_allocator.proofs.Common.{◌^◌, ◌%◌, is_some, get_or_past, View, IsWellFormed, value, up, down, bin_at, ◌≡◌, ℕ, ◌+◌, ◌-◌, ◌*◌, ◌<◌, ◌≤◌, ◌⊎◌, Bool, true, false, not, Option, None}
 use Rattle.offset_allocator.proofs.Common.{Some, IfSome, List, [], ◌∷◌, ◌++◌, length, sum, if◌then◌else◌, refl, sym, ap, subst, ◌∙◌, inl, inr, arith, append_assoc, append-nil, length-append, cases_lt}
-use Rattle.offset_allocator.proofs.Common.{true≢false, not-true, Block, free_sizes, units, used_of, used_units, ChainCells, Node, node, HasPlace, IsSpace, blocks, first_or, last_or, starts_free}
+use Rattle.offset_allocator.proofs.Common.{true≢false, not-true, Block, free_sizes, units, count_used, used_units, ChainCells, Node, node, HasPlace, IsSpace, blocks, first_or, last_or, starts_free}
 use Rattle.offset_allocator.specs.Bins.{IsFoundFrom}
 use Rattle.offset_allocator.specs.Moving.Room.{IsRun, IsAtMost, IsLess, IsCheapest, IsLeastCost, CostMore, IsShortened, IsWindow, cost_of, end_of, end_room}
 use Rattle.std.specs.Prelude.{drop}
@@ -15,8 +15,8 @@ use Rattle.offset_allocator.specs.declared.moves.room.Window.{Window}
 pub used_units-append : (xs ys : List Block) → used_units (xs ++ ys) ≡ used_units xs + used_units ys
 used_units-append xs ys = tally_append (λ (b : Block). if b.used then b.size else 0) xs ys
 
-pub used_of-append : (xs ys : List Block) → used_of (xs ++ ys) ≡ used_of xs + used_of ys
-used_of-append xs ys = tally_append (λ (b : Block). one b.used) xs ys
+pub count_used-append : (xs ys : List Block) → count_used (xs ++ ys) ≡ count_used xs + count_used ys
+count_used-append xs ys = tally_append (λ (b : Block). one b.used) xs ys
 
 pub free_sum-append : (xs ys : List Block) → sum (free_sizes (xs ++ ys)) ≡ sum (free_sizes xs) + sum (free_sizes ys)
 free_sum-append xs ys = omega (arith, free_sum (xs ++ ys), free_sum xs, free_sum ys, free_units-append xs ys)
@@ -31,9 +31,9 @@ shared (b ∷ bs) =
 pub shares : (bs : List Block) → sum (free_sizes bs) + used_units bs ≡ units bs
 shares bs = omega (arith, shared bs, free_sum bs)
 
-pub used_few : (bs : List Block) → used_of bs ≤ length bs
+pub used_few : (bs : List Block) → count_used bs ≤ length bs
 used_few [] = omega arith
-used_few (b ∷ bs) = let ih = used_few bs in elim b.used as (λ u. one u + used_of bs ≤ length (b ∷ bs)) [ true ↦ omega arith | false ↦ omega arith ]
+used_few (b ∷ bs) = let ih = used_few bs in elim b.used as (λ u. one u + count_used bs ≤ length (b ∷ bs)) [ true ↦ omega arith | false ↦ omega arith ]
 
 -- costs
 pub at_most_trans : (a b c : RoomCost) → IsAtMost a b → IsAtMost b c → IsAtMost a c
@@ -45,7 +45,7 @@ less_trans a b c l m = grind arith
 pub longer : (xs ys : List Block) → IsAtMost (cost_of xs) (cost_of (xs ++ ys))
 longer xs ys = elim (cases_lt 0 (used_units ys)) [
   | inl l ↦ inl (omega (arith, l, used_units-append xs ys))
-  | inr l ↦ inr (omega (arith, l, used_units-append xs ys), omega (arith, used_of-append xs ys))
+  | inr l ↦ inr (omega (arith, l, used_units-append xs ys), omega (arith, count_used-append xs ys))
 ]
 
 -- of two lists that begin a third, one begins the other
@@ -118,7 +118,7 @@ window_used {w} {n} b bs u e h = record {
   is = ap (λ l. b ∷ l) h.is;
   room = h.room ∙ ap (λ (v : Bool). sum (if v then free_sizes bs else b.size ∷ free_sizes bs)) (sym u);
   units = omega (arith, h.units, e, ap (λ (v : Bool). (if v then b.size else 0) + used_units bs) u);
-  ranges = omega (arith, h.ranges, ap (λ (v : Bool). one v + used_of bs) u);
+  ranges = omega (arith, h.ranges, ap (λ (v : Bool). one v + count_used bs) u);
 }
 
 pub window_idle : {w : Window} {n : ℕ} (b : Block) (bs : List Block) → b.used ≡ false → b.size ≡ n → IsWindow w bs → IsWindow (record w { room = w.room + n }) (b ∷ bs)
@@ -127,20 +127,20 @@ window_idle {w} {n} b bs u e h = record {
   is = ap (λ l. b ∷ l) h.is;
   room = omega (arith, h.room, e, free_sum (b ∷ bs), free_sum bs, free_units-free b bs u);
   units = omega (arith, h.units, ap (λ (v : Bool). (if v then b.size else 0) + used_units bs) u);
-  ranges = omega (arith, h.ranges, ap (λ (v : Bool). one v + used_of bs) u);
+  ranges = omega (arith, h.ranges, ap (λ (v : Bool). one v + count_used bs) u);
 }
 
 -- what is left of a window without its last block
 pub record IsParted (w : Window) (cs : List Block) : Type 0 where
   pub room : w.room ≡ sum (free_sizes cs) + end_room w
   pub units : w.units ≡ used_units cs + (if w.end_used then w.end_size else 0)
-  pub ranges : w.ranges ≡ used_of cs + one w.end_used
+  pub ranges : w.ranges ≡ count_used cs + one w.end_used
 
 pub parted : {w : Window} {bs : List Block} (cs : List Block) → bs ≡ cs ++ end_of w ∷ [] → IsWindow w bs → IsParted w cs
 parted {w} {bs} cs e h = record {
   room = omega (arith, h.room, free_sum bs, free_sum cs, ap free_units e, free_units-append cs (end_of w ∷ []));
   units = omega (arith, h.units, ap used_units e, used_units-append cs (end_of w ∷ []));
-  ranges = omega (arith, h.ranges, ap used_of e, used_of-append cs (end_of w ∷ []));
+  ranges = omega (arith, h.ranges, ap count_used e, count_used-append cs (end_of w ∷ []));
 }
 
 pub end_fits : {w : Window} {bs : List Block} → IsWindow w bs → end_room w ≤ w.room

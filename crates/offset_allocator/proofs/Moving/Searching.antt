@@ -1,7 +1,7 @@
 -- A search over the runs of blocks, from the first block on, for what they give up by steps.
 use Rattle.offset_allocator.proofs.Common.{◌≡◌, ℕ, ◌+◌, ◌-◌, ◌*◌, ◌%◌, ◌^◌, ◌<◌, ◌≤◌, ◌⊎◌, Bool, true, false, not, ◌&&◌, nat_eq, Option, None, Some, List, [], ◌∷◌, ◌++◌, length, drop, if◌then◌else◌, refl, sym}
-use Rattle.offset_allocator.proofs.Common.{ap, subst, ◌≢◌, ne_eqb, ◌∙◌, inl, inr, arith, append_assoc, append-nil, length-append, true≢false, Block, one, first_or, last_or, starts_free, ends_used, used_of, used_units}
-use Rattle.offset_allocator.proofs.{Linking.Rows.last_or-append, Tallies.tally_append, Moving.Runs.used_units-append, Moving.Runs.used_of-append, Moving.Runs.at_most_trans, Moving.Runs.less_trans}
+use Rattle.offset_allocator.proofs.Common.{ap, subst, ◌≢◌, ne_eqb, ◌∙◌, inl, inr, arith, append_assoc, append-nil, length-append, true≢false, Block, one, first_or, last_or, starts_free, ends_used, count_used, used_units}
+use Rattle.offset_allocator.proofs.{Linking.Rows.last_or-append, Tallies.tally_append, Moving.Runs.used_units-append, Moving.Runs.count_used-append, Moving.Runs.at_most_trans, Moving.Runs.less_trans}
 use Rattle.offset_allocator.proofs.{Common.units, Tallies.units-append, Moving.Runs.used_few, Moving.Runs.longer, Moving.Runs.ends_used-end, Moving.Runs.run_after, Moving.Runs.block_is, Common.cases_lt, Common.HasPlace, Common.IsChain}
 use Rattle.offset_allocator.proofs.{Common.ChainCells, Common.Node, Common.node, Common.IsSpace, Common.blocks, Linking.Places.placed, Linking.Places.at_place, Linking.Places.IsNext, Linking.Places.next_place}
 use Rattle.offset_allocator.specs.Moving.BySteps.{kept, given_up, used_up}
@@ -100,7 +100,7 @@ split_cases (x ∷ xs) ys (p ∷ pre) suf e =
 with_front : (xs ys : List Block) → IsAtMost (cost_of ys) (cost_of (xs ++ ys))
 with_front xs ys = elim (cases_lt 0 (used_units xs)) [
   | inl l ↦ inl (omega (arith, l, used_units-append xs ys))
-  | inr l ↦ inr (omega (arith, l, used_units-append xs ys), omega (arith, used_of-append xs ys))
+  | inr l ↦ inr (omega (arith, l, used_units-append xs ys), omega (arith, count_used-append xs ys))
 ]
 
 at_most_same : (c : RoomCost) → IsAtMost c c
@@ -191,7 +191,7 @@ module _ {s : ℕ} {n : Sums} {bs : List Block} (h : AreSums s n bs) where
       whole = omega (arith, h.whole, whole-append s bs (b ∷ []), ap (λ (t : Bool). if t then 0 else b.size - b.size % s) u);
       names = omega (arith, h.names, all-append s bs (b ∷ []), ap (λ (t : Bool). one (not t && nat_eq (b.size % s) 0)) u);
       units = omega (arith, h.units, is, used_units-append bs (b ∷ []), ap (λ (t : Bool). if t then b.size else 0) u);
-      ranges = omega (arith, h.ranges, used_of-append bs (b ∷ []), ap one u);
+      ranges = omega (arith, h.ranges, count_used-append bs (b ∷ []), ap one u);
     }
 
     pub and_free : b.used ≡ false → (k m : ℕ) → k ≡ n.whole + (size - size % s) → m ≡ n.names + one (nat_eq (size % s) 0)
@@ -208,7 +208,7 @@ module _ {s : ℕ} {n : Sums} {bs : List Block} (h : AreSums s n bs) where
         ap (λ (i : ℕ). one (nat_eq (i % s) 0)) is,
       );
       units = omega (arith, h.units, used_units-append bs (b ∷ []), ap (λ (t : Bool). if t then b.size else 0) u);
-      ranges = omega (arith, h.ranges, used_of-append bs (b ∷ []), ap one u);
+      ranges = omega (arith, h.ranges, count_used-append bs (b ∷ []), ap one u);
     }
 
 -- ---- the best run so far
@@ -536,7 +536,7 @@ drop_back : {run : List Block} (xs ys : List Block) → IsRun run (drop 1 ys) �
 drop_back [] ys r = r
 drop_back (x ∷ xs) ys r = run_back xs (drop_run ys r)
 
-cost_is : (c : RoomCost) (us : List Block) → c.units ≡ used_units us → c.ranges ≡ used_of us → c ≡ cost_of us
+cost_is : (c : RoomCost) (us : List Block) → c.units ≡ used_units us → c.ranges ≡ count_used us → c ≡ cost_of us
 cost_is c us e f = rw (← e, ← f) refl
 
 module _ {s want short : ℕ} {front bs : List Block} {b : Block} {rest : List Block} {h : Span} (known : Option Run)
@@ -581,7 +581,7 @@ module _ {s want short : ℕ} {front bs : List Block} {b : Block} {rest : List B
         let cost : found.cost ≡ cost_of (l.left ++ b ∷ []) =
         ap (λ (v : Run). v.cost) f ∙ cost_is (record { units = h'.sums.units; ranges = h'.sums.ranges }) (l.left ++ b ∷ [])
         (omega (arith, l.span.sums.units, used_units-append l.left (b ∷ []), ap (λ (t : Bool). if t then b.size else 0) free))
-        (omega (arith, l.span.sums.ranges, used_of-append l.left (b ∷ []), ap one free)) in
+        (omega (arith, l.span.sums.ranges, count_used-append l.left (b ∷ []), ap one free)) in
         record {
           front = front ++ l.gone;
           bs = l.left;

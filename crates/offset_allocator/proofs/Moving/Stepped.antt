@@ -8,7 +8,7 @@ use Rattle.offset_allocator.proofs.Tallies.{tally_append, units-append, free_uni
 use Rattle.offset_allocator.proofs.Joints as joints
 use Rattle.offset_allocator.proofs.Common.{◌≡◌, ◌≢◌, ℕ, zero, suc, ◌+◌, ◌-◌, ◌*◌, ◌/◌, ◌%◌, ◌<◌, ◌≤◌, Bool, true, false, not, ◌&&◌, nat_le, Some, None, List, [], ◌∷◌, ◌++◌, if◌then◌else◌, refl, sym}
 use Rattle.offset_allocator.proofs.Common.{ap, subst, ◌∙◌, arith, inl, inr, append_assoc, append-nil, length, length-append, take, AllByRecursion, not-true, not-false, true≢false, leb-true, leb-false, common_steps, last_or, ne_eqb, push_all, remove_all, replace}
-use Rattle.offset_allocator.proofs.Common.{nat_tests, nat_eq, cases_eq, eq-zero-or-pos, Cells, ChainCells, Block, View, one, units, used_of, free_block, free_part, count_named, starts_free, ends_used, live, move_of}
+use Rattle.offset_allocator.proofs.Common.{nat_tests, nat_eq, cases_eq, eq-zero-or-pos, Cells, ChainCells, Block, View, one, units, count_used, free_block, free_part, count_named, starts_free, ends_used, live, move_of}
 use Rattle.offset_allocator.proofs.Common.{down, push, AreInBins, AreCoalesced, IsWellFormed, SameSpace, HasPlace, IsChain, blocks, IsBinned, bins_in}
 use Rattle.offset_allocator.specs.Moving.BySteps.{first_whole, kept, stepped, given_up, used_up, moves_by, CanStep, SlidesBy}
 use Rattle.offset_allocator.specs.{Names.IsTaken, Names.names_of}
@@ -146,16 +146,16 @@ stepped_free_units s (b ∷ bs) = go b.used refl (stepped_free_units s bs)
       kept_most s b.size bs,
     )
 
-pub stepped_used_of : (s : ℕ) (bs : List Block) → used_of (stepped s bs) ≡ used_of bs
+pub stepped_used_of : (s : ℕ) (bs : List Block) → count_used (stepped s bs) ≡ count_used bs
 stepped_used_of s [] = refl
 stepped_used_of s (b ∷ bs) = go b.used refl (stepped_used_of s bs)
   where
-    go : (u : Bool) → b.used ≡ u → used_of (stepped s bs) ≡ used_of bs → used_of (stepped s (b ∷ bs)) ≡ used_of (b ∷ bs)
-    go true u ih = omega (arith, ih, ap used_of (stepped_used s b bs u))
+    go : (u : Bool) → b.used ≡ u → count_used (stepped s bs) ≡ count_used bs → count_used (stepped s (b ∷ bs)) ≡ count_used (b ∷ bs)
+    go true u ih = omega (arith, ih, ap count_used (stepped_used s b bs u))
     go false u ih = omega (
       arith,
       ih,
-      ap used_of (stepped_free s b bs u),
+      ap count_used (stepped_free s b bs u),
       tally_append (λ (d : Block). one d.used) (free_part b.name (kept s b.size bs)) (stepped s bs),
       (part_sums b.name (kept s b.size bs)).2,
       ap one u,
@@ -341,7 +341,7 @@ module _ (f : Fields) (s : AreSound f) (t : ℕ) (front run back : List Block) (
       few_used = omega (
         arith,
         w.few_used,
-        ap used_of is,
+        ap count_used is,
         tally_append (λ (b : Block). one b.used) front (run ++ back),
         tally_append (λ (b : Block). one b.used) run back,
         tally_append (λ (b : Block). one b.used) front ((stepped t run ++ hole ∷ []) ++ back),

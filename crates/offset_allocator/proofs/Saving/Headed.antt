@@ -1,6 +1,6 @@
 -- The numbers that a state begins with, read one by one.
 use Rattle.offset_allocator.proofs.{Saving.Firsts.each_read, Saving.StateWords.length-words}
-use Rattle.offset_allocator.proofs.Common.{◌≡◌, ℕ, ◌+◌, ◌-◌, ◌*◌, ◌/◌, ◌<◌, List, length, take, drop, ap, ap₂, arith, get_or, subst, sym, length-take-le, Block, AreCoalesced, used_of, units, ◌∙◌}
+use Rattle.offset_allocator.proofs.Common.{◌≡◌, ℕ, ◌+◌, ◌-◌, ◌*◌, ◌/◌, ◌<◌, List, length, take, drop, ap, ap₂, arith, get_or, subst, sym, length-take-le, Block, AreCoalesced, count_used, units, ◌∙◌}
 use Rattle.offset_allocator.specs.{Saving.Building.AreEach, Saving.State.IsHeader, Saving.ListFaults.AreFreeNames, Saving.ListFaults.IsWrong, Saving.ListFaults.word, Saving.State.block_words}
 use Rattle.offset_allocator.specs.{Saving.State.freed}
 use Rattle.offset_allocator.specs.Saving.StateFaults.{HasChecksum, HasCounts, HasForm, HasLength, HasLimit, IsHeaded, IsOverused, IsWrongIn, blocks_in, free_in, unused_in}
@@ -81,7 +81,7 @@ module _ {max most : ℕ} {ws : List ℕ} {h : Header} (hd : IsHeader max most w
       (subst (λ n. IsWrong n h.size blocks_cut free_cut unused_cut w) nodes_cut f))))
 
   pub overused : (bs : List Block) → block_words bs ≡ blocks_cut → units bs ≡ h.size → AreEach bs unused_cut → AreFreeNames bs free_cut → AreCoalesced (freed free_cut bs)
-      → h.max_allocs < used_of (freed free_cut bs) + 2 → IsOverused ws
+      → h.max_allocs < count_used (freed free_cut bs) + 2 → IsOverused ws
   overused bs words whole each free apart more =
       let size : h.size ≡ word 2 ws = sym (ap (λ l. get_or l 2 0) hd.words) in
       let limit : h.max_allocs ≡ word 3 ws = sym (ap (λ l. get_or l 3 0) hd.words) in
@@ -94,5 +94,5 @@ module _ {max most : ℕ} {ws : List ℕ} {h : Header} (hd : IsHeader max most w
           free = subst (AreFreeNames bs) same_free free;
           apart = subst (λ fs. AreCoalesced (freed fs bs)) same_free apart;
         },
-        omega (arith, more, limit, ap (λ fs. used_of (freed fs bs)) same_free),
+        omega (arith, more, limit, ap (λ fs. count_used (freed fs bs)) same_free),
       )

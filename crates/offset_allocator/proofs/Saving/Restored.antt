@@ -2,7 +2,7 @@
 use Rattle.offset_allocator.proofs.{Saving.Freed.length-filed, Saving.Freed.bins_agree, Saving.Laying.each_small, Saving.Laying.each_far, Saving.Saved.ordered_filed, Saving.Saved.names_free}
 use Rattle.offset_allocator.proofs.{Saving.Saved.names_bins}
 use Rattle.offset_allocator.proofs.Common.{◌≡◌, ℕ, suc, ◌+◌, ◌-◌, ◌*◌, ◌<◌, ◌≤◌, List, [], ◌∷◌, ◌++◌, length, take, drop, get_or, refl, sym, ap, ap₂, ◌∙◌, arith, append_assoc, length-append}
-use Rattle.offset_allocator.proofs.Common.{length-take-le, take-append-drop, Block, View, IsWellFormed, AreCoalesced, units, count_named, times, used_of, max_size}
+use Rattle.offset_allocator.proofs.Common.{length-take-le, take-append-drop, Block, View, IsWellFormed, AreCoalesced, units, count_named, times, count_used, max_size}
 use Rattle.offset_allocator.proofs.Saving.StateWords.{length-words, count-freed, units-freed, length-freed, freed_same}
 use Rattle.offset_allocator.specs.{Saving.Building.AreEach, Saving.Building.AreOrdered, Saving.State.IsHeader, Relations.SameState}
 use Rattle.offset_allocator.specs.Saving.State.{block_words, checksum_from, filed, freed, state_text, state_words}
@@ -70,7 +70,7 @@ joined ws a b c e =
 -- the view of what is built
 pub well_built : (size limit count : ℕ) (bs : List Block) (free unused : List ℕ) → 1 ≤ length bs → units bs ≡ size → size ≤ max_size → AreEach bs unused → length bs + length unused ≤ limit
     → length bs + 1 ≤ limit
-    → ((x : ℕ) → times x free ≤ count_named x bs) → AreCoalesced (freed free bs) → used_of (freed free bs) + 2 ≤ limit
+    → ((x : ℕ) → times x free ≤ count_named x bs) → AreCoalesced (freed free bs) → count_used (freed free bs) + 2 ≤ limit
     → IsWellFormed (record { size = size; max_allocs = limit; blocks = freed free bs; bins = filed bs free; unused = unused; accesses = count })
 well_built size limit count bs free unused some whole fits each made room once apart spare = record {
   some = omega (arith, some, length-freed free bs);

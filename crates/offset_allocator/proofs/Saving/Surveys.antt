@@ -2,7 +2,7 @@
 use Rattle.offset_allocator.proofs.{Reporting.Listing.ends_in, Linking.Ends.last_none, Linking.Rows.node_at, Linking.Exchange.there-below, Tallies.times-append, Tallies.one-eq}
 use Rattle.offset_allocator.proofs.Common.{◌≡◌, ℕ, zero, suc, ◌+◌, ◌-◌, ◌<◌, ◌≤◌, not, Bool, None, Some, List, [], ◌∷◌, ◌++◌, length, take, drop, sum, refl, sym, ap, ap₂, subst, ◌∙◌, arith, true}
 use Rattle.offset_allocator.proofs.Common.{false, ◌⊎◌, inl, inr, ◌&&◌, true≢false, starts_free, AreCoalesced, length_push, length-take-le, append_assoc, sum_by-cons, common_steps, ChainCells, Node}
-use Rattle.offset_allocator.proofs.Common.{node, IsChain, IsRow, last_or, Block, units, free_sizes, used_of, one, count_named}
+use Rattle.offset_allocator.proofs.Common.{node, IsChain, IsRow, last_or, Block, units, free_sizes, count_used, one, count_named}
 use Rattle.std.proofs.Math.Seq.{drop-append_seam}
 
 -- the next block of the walk: it stands before those that were passed
@@ -36,23 +36,23 @@ next_back {c} {m} {last} {count} bs k x h l e =
     }
 
 -- sums of the blocks from a place on
-pub drop_sums : (bs : List Block) (k : ℕ) → (sum (free_sizes (drop k bs)) ≤ units bs) × (used_of (drop k bs) ≤ length bs)
+pub drop_sums : (bs : List Block) (k : ℕ) → (sum (free_sizes (drop k bs)) ≤ units bs) × (count_used (drop k bs) ≤ length bs)
 drop_sums bs zero = (omega (arith, free_part_sum bs), used_small bs)
   where
     free_part_sum : (bs : List Block) → sum (free_sizes bs) ≤ units bs
     free_part_sum [] = omega arith
     free_part_sum (b ∷ bs) = grind (arith, common_steps, free_part_sum bs)
 
-    used_small : (bs : List Block) → used_of bs ≤ length bs
+    used_small : (bs : List Block) → count_used bs ≤ length bs
     used_small [] = omega arith
     used_small (b ∷ bs) = grind (arith, common_steps, used_small bs)
 drop_sums [] (suc k) = (omega arith, omega arith)
 drop_sums (b ∷ bs) (suc k) = let r = drop_sums bs k in (omega (arith, r.0), omega (arith, r.1))
 
-pub sums_free : (b : Block) (bs : List Block) → b.used ≡ false → (sum (free_sizes (b ∷ bs)) ≡ sum (free_sizes bs) + b.size) × (used_of (b ∷ bs) ≡ used_of bs)
+pub sums_free : (b : Block) (bs : List Block) → b.used ≡ false → (sum (free_sizes (b ∷ bs)) ≡ sum (free_sizes bs) + b.size) × (count_used (b ∷ bs) ≡ count_used bs)
 sums_free b bs e = (grind (arith, common_steps, sum_by-cons), omega (arith, ap one e))
 
-pub sums_used : (b : Block) (bs : List Block) → b.used ≡ true → (sum (free_sizes (b ∷ bs)) ≡ sum (free_sizes bs)) × (used_of (b ∷ bs) ≡ used_of bs + 1)
+pub sums_used : (b : Block) (bs : List Block) → b.used ≡ true → (sum (free_sizes (b ∷ bs)) ≡ sum (free_sizes bs)) × (count_used (b ∷ bs) ≡ count_used bs + 1)
 sums_used b bs e = (grind (arith, common_steps, sum_by-cons), omega (arith, ap one e))
 
 pub joined_apart : (b : Block) (bs : List Block) → ((not b.used ≡ false) ⊎ (starts_free bs ≡ false)) → AreCoalesced bs → AreCoalesced (b ∷ bs)

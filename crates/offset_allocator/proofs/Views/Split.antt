@@ -2,7 +2,7 @@
 use Rattle.offset_allocator.proofs.{Sound.well_same, Views.ViewReplaced.well_replaced, Views.ViewApart.apart_granted}
 use Rattle.std.specs.Prelude.{min}
 use Rattle.offset_allocator.proofs.Common.{◌≡◌, ℕ, zero, suc, ◌+◌, ◌<◌, ◌≤◌, refl, Bool, true, false, not, if◌then◌else◌, ◌⊎◌, List, [], ◌∷◌, ◌++◌, length, nat_eq, sym, ap, ap₂, subst, ◌∙◌, arith}
-use Rattle.offset_allocator.proofs.Common.{length-append, append_assoc, Block, View, Handle, one, used_block, count_named, used_of, AreCoalesced, IsWellFormed, IsNew, free_part, replace, push_all}
+use Rattle.offset_allocator.proofs.Common.{length-append, append_assoc, Block, View, Handle, one, used_block, count_named, count_used, AreCoalesced, IsWellFormed, IsNew, free_part, replace, push_all}
 use Rattle.offset_allocator.proofs.Common.{remove, down, SameSpace, Splits, common_steps}
 use Rattle.offset_allocator.proofs.Tallies.{tally_three, part_sums, tally_append, hit_cases, units-append, new_absent}
 
@@ -19,9 +19,9 @@ part_length y (suc n) = omega arith
 pub one_part : (y n : ℕ) → length (free_part y n) ≤ 1
 one_part y n = omega (arith, part_length y n)
 
-pub used_most : (bs : List Block) → used_of bs ≤ length bs
+pub used_most : (bs : List Block) → count_used bs ≤ length bs
 used_most [] = omega arith
-used_most (b ∷ bs) = let ih = used_most bs in elim b.used as (λ u. one u + used_of bs ≤ suc (length bs)) [ true ↦ omega arith | false ↦ omega arith ]
+used_most (b ∷ bs) = let ih = used_most bs in elim b.used as (λ u. one u + count_used bs ≤ suc (length bs)) [ true ↦ omega arith | false ↦ omega arith ]
 
 -- its name, where it has units, is new
 part_name : (v : View) (y n : ℕ) → (1 ≤ n → IsNew y v) → (x : ℕ) → (count_named x (free_part y n) ≡ 0)
@@ -70,7 +70,7 @@ module _ {needed n : ℕ} {padding_at : ℕ → ℕ} {v u : View} {g : Handle} (
       new_length : length (s.before ++ (new ++ s.after)) ≡ length s.before + (length padding + suc (length remainder) + length s.after)
       new_length = length-append s.before (new ++ s.after) ∙ ap (λ m. length s.before + m) (length-append new s.after ∙ ap (λ m. m + length s.after) lengths)
 
-      used_new : used_of (s.before ++ (new ++ s.after)) ≡ used_of s.before + ((used_of padding + suc (used_of remainder)) + used_of s.after)
+      used_new : count_used (s.before ++ (new ++ s.after)) ≡ count_used s.before + ((count_used padding + suc (count_used remainder)) + count_used s.after)
       used_new = grind (arith, common_steps, tally_three, tally_append)
 
       names_new : (x : ℕ) → count_named x new ≡ count_named x padding + (one (nat_eq x s.block.name) + count_named x remainder)

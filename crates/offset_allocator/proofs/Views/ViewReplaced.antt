@@ -1,6 +1,6 @@
 -- A view stays well formed where some of its blocks give way to others.
 use Rattle.offset_allocator.proofs.Common.{◌≡◌, ℕ, ◌+◌, ◌≤◌, ◌⊎◌, List, ◌++◌, length, nat_eq, ap, ◌∙◌, arith, length-append, eq-zero-or-pos, Block, View, one, units, times, count_named, count_in_bin}
-use Rattle.offset_allocator.proofs.Common.{used_of, bin_at, AreCoalesced, IsWellFormed, IsNew, remove_all, replace, max_size, common_steps}
+use Rattle.offset_allocator.proofs.Common.{count_used, bin_at, AreCoalesced, IsWellFormed, IsNew, remove_all, replace, max_size, common_steps}
 use Rattle.offset_allocator.proofs.{Tallies.tally_three, Tallies.units_three, Tallies.new_absent, Tallies.listed_named, Views.ViewBins.times_put_all, Views.ViewBins.times_remove_all}
 use Rattle.offset_allocator.proofs.{Views.ViewBins.length_put_all, Views.ViewBins.length_remove_all}
 
@@ -12,7 +12,7 @@ pub record IsReplacement (v : View) (before old new after : List Block) : Type 0
   pub names : (x : ℕ) → 1 ≤ count_named x new → (1 ≤ count_named x old) ⊎ IsNew x v
   pub apart : AreCoalesced (before ++ (new ++ after))
   pub room : length (before ++ (new ++ after)) + 1 ≤ v.max_allocs
-  pub few_used : used_of (before ++ (new ++ after)) + 2 ≤ v.max_allocs
+  pub few_used : count_used (before ++ (new ++ after)) + 2 ≤ v.max_allocs
 
 pub bins_replaced : (v : View) (before old new after : List Block) → IsWellFormed v → v.blocks ≡ before ++ (old ++ after) → (c x : ℕ)
     → times x (bin_at (remove_all old v.bins) c) + count_in_bin c x old ≡ times x (bin_at v.bins c)

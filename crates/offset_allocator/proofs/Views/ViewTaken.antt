@@ -1,6 +1,6 @@
 -- A release, more units at the end, and one free block leave a view well formed.
 use Rattle.offset_allocator.proofs.Common.{◌≡◌, ℕ, suc, ◌+◌, ◌<◌, ◌≤◌, false, ◌⊎◌, List, [], ◌∷◌, ◌++◌, replicate, length, refl, sym, ap, subst, ◌∙◌, inl, inr, arith, length-append, append-nil}
-use Rattle.offset_allocator.proofs.Common.{get_or-replicate, get_or_past, length-replicate, cases_lt, down, Block, View, tally, one, max_size, free_block, units, times, count_named, used_of, bin_at}
+use Rattle.offset_allocator.proofs.Common.{get_or-replicate, get_or_past, length-replicate, cases_lt, down, Block, View, tally, one, max_size, free_block, units, times, count_named, count_used, bin_at}
 use Rattle.offset_allocator.proofs.Common.{AreCoalesced, IsWellFormed, IsNew, free_start, without_start, free_end, without_end, push, replace, Frees, common_steps}
 use Rattle.offset_allocator.proofs.Tallies.{tally_three, tally_append, hit_cases}
 use Rattle.offset_allocator.proofs.Views.ViewApart.{ends_free, no_end, apart_parts, apart_coalesced, coalesced_parts, end_parts, start_parts}
@@ -47,11 +47,11 @@ well_coalesced v before old after x n size w e apart_before apart_after name spa
       ap length (start_parts after) ∙ length-append (free_start after) (without_start after),
     )
 
-    used_new : used_of (without_end before ++ (free_block x n ∷ without_start after)) ≡ used_of (without_end before) + used_of (without_start after)
+    used_new : count_used (without_end before ++ (free_block x n ∷ without_start after)) ≡ count_used (without_end before) + count_used (without_start after)
     used_new = omega (arith, tally_append (λ (b : Block). one b.used) (without_end before) (free_block x n ∷ without_start after))
 
-    used_old : used_of (without_end before) + used_of (without_start after) ≤ used_of v.blocks
-    used_old = omega (arith, ap used_of e, tally_three (λ (b : Block). one b.used) before old after, tally_end (λ (b : Block). one b.used) before, tally_start (λ (b : Block). one b.used) after)
+    used_old : count_used (without_end before) + count_used (without_start after) ≤ count_used v.blocks
+    used_old = omega (arith, ap count_used e, tally_three (λ (b : Block). one b.used) before old after, tally_end (λ (b : Block). one b.used) before, tally_start (λ (b : Block). one b.used) after)
 
 -- the used block named x, and free ones beside it, become one free block
 pub well_frees : (x : ℕ) (v w : View) → IsWellFormed v → Frees x v w → IsWellFormed w

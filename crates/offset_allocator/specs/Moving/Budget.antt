@@ -7,7 +7,7 @@ use Rattle.offset_allocator.specs.Moving.Compacting.{Move}
 use Rattle.offset_allocator.specs.Names.{IsTaken, names_of}
 use Rattle.offset_allocator.specs.Relations.{SameSpace, SameState}
 use Rattle.offset_allocator.specs.Requests.{AdmitsBlocks}
-use Rattle.offset_allocator.specs.View.{View, Block, ends_used, free_block, replace, units, used_of, used_units}
+use Rattle.offset_allocator.specs.View.{View, Block, ends_used, free_block, replace, units, count_used, used_units}
 
 -- the name of the first free block of at least a step that ends at an offset or behind it and has a block after it, of
 -- blocks that begin at o
@@ -18,7 +18,7 @@ first_from s from o (b ∷ c ∷ bs) = if not b.used && (nat_le s b.size && nat_
 
 -- the live blocks of these have at most u units, and are at most r; one alone may have more
 abbrev pub IsWithin : ℕ → ℕ → List Block → Type 0
-IsWithin u r bs = (used_of bs ≡ 1) ⊎ ((used_units bs ≤ u) × (used_of bs ≤ r))
+IsWithin u r bs = (count_used bs ≡ 1) ⊎ ((used_units bs ≤ u) × (count_used bs ≤ r))
 
 -- the first of these blocks is live, and with it those before it are no longer within the budget; or there is none
 abbrev pub StopsAt : ℕ → ℕ → List Block → List Block → Type 0
@@ -31,7 +31,7 @@ start_of o [] = None
 start_of o (b ∷ bs) = Some o
 
 -- the run that slides: from the first free block on, as far as the budget goes
-pub record IsReached (s from u r : ℕ) (v : View) (front : List Block) (first : Block) (rest back : List Block) : Type 0 where
+pub record IsRunWithin (s from u r : ℕ) (v : View) (front : List Block) (first : Block) (rest back : List Block) : Type 0 where
   pub is : v.blocks ≡ front ++ (first ∷ (rest ++ back))
   pub begins : first_from s from 0 v.blocks ≡ Some first.name
   pub within : IsWithin u r rest
@@ -43,8 +43,8 @@ pub record SlidesWithin (s from u r : ℕ) (v w : View) (p : Progress) : Type 0 
   pub first : Block
   pub rest : List Block
   pub back : List Block
-  pub reached : IsReached s from u r v front first rest back
-  pub progress : p ≡ record { units = used_units rest; ranges = used_of rest; next = start_of (units (front ++ first ∷ rest)) back }
+  pub reached : IsRunWithin s from u r v front first rest back
+  pub progress : p ≡ record { units = used_units rest; ranges = count_used rest; next = start_of (units (front ++ first ∷ rest)) back }
   pub name : ℕ
   pub left : List ℕ
   pub taken : IsTaken (length v.blocks) v.unused name left
@@ -55,11 +55,11 @@ pub record SlidesWithin (s from u r : ℕ) (v w : View) (p : Progress) : Type 0 
 abbrev pub CanFollow : View → List Block → Type 0
 CanFollow v bs = AdmitsBlocks 1 v ⊎ (ends_used bs ≡ false)
 
--- a call: where no such block is, nothing changes; where no free block can follow the run, it is refused
+-- a call: where `first_from` finds no block, nothing changes; where no free block can follow the run, it is refused
 abbrev pub CompactsWithin : {F : Type 0} → (F → Move → F → Type 0) → ℕ → ℕ → ℕ → ℕ → View → F → Option Progress → View → F → Type 0
 CompactsWithin R s from u r v f None w g =
     SameState v w × (g ≡ f)
-    × ((front : List Block) × (first : Block) × (rest back : List Block) × IsReached s from u r v front first rest back × (CanFollow v (first ∷ rest) → ⊥))
+    × ((front : List Block) × (first : Block) × (rest back : List Block) × IsRunWithin s from u r v front first rest back × (CanFollow v (first ∷ rest) → ⊥))
 CompactsWithin R s from u r v f (Some p) w g =
     ((first_from s from 0 v.blocks ≡ None) × (p ≡ record { units = 0; ranges = 0; next = None }) × SameState v w × (g ≡ f))
     ⊎ ((k : SlidesWithin s from u r v w p) × CanFollow v (k.first ∷ k.rest) × FoldsTo R f (moves_by s (units k.front) (units k.front) (k.first ∷ k.rest)) g)

@@ -24,14 +24,14 @@ pub record WouldBegin (n : ℕ) (v : View) (offset : ℕ) : Type 0 where
   pub newest : bin_at v.bins (down block.size) ≡ block.name ∷ older
   pub begins : offset ≡ units before
 
--- a request for the units of x, where its grant begins before the range of x; nothing changes where it would begin after
--- it, or be refused
+-- a request for the units of x, where its grant begins before the range of x; nothing changes where it would not begin
+-- before it, or be refused
 abbrev pub Relocates : ℕ → View → View → Option Handle → Type 0
 Relocates x v w None = ((o : ℕ) → WouldBegin (size_of x v) v o → offset_of x v ≤ o) × SameState v w
 Relocates x v w (Some g) = Allocates (size_of x v) v w (Some g) × (g.offset < offset_of x v)
 
 -- a request for the units of x from a multiple of align on, where the block that it takes begins before the range of x;
--- nothing changes where that would begin after it, or the request be refused
+-- nothing changes where that would not begin before it, or the request be refused
 abbrev pub RelocatesAligned : ℕ → ℕ → View → View → Option Handle → Type 0
 RelocatesAligned x align v w None =
     ((o : ℕ) → AdmitsBlocks (blocks_needed align) v → WouldBegin (units_needed (size_of x v) align) v o → offset_of x v ≤ o) × SameState v w

@@ -4,7 +4,7 @@ use Rattle.offset_allocator.specs.declared.moves.room.RoomCost.{RoomCost}
 use Rattle.offset_allocator.specs.declared.moves.room.Run.{Run}
 use Rattle.offset_allocator.specs.declared.moves.room.Window.{Window}
 use Rattle.offset_allocator.specs.Chain.{first_or, last_or}
-use Rattle.offset_allocator.specs.View.{View, Block, Place, count_named, ends_used, free_block, free_sizes, replace, starts_free, units, used_of, used_units}
+use Rattle.offset_allocator.specs.View.{View, Block, Place, count_named, ends_used, free_block, free_sizes, replace, starts_free, units, count_used, used_units}
 use Rattle.offset_allocator.specs.Moving.Compacting.{Move, first_free, live, moves}
 use Rattle.offset_allocator.specs.Names.{Renames, free_blocks}
 use Rattle.offset_allocator.specs.Relations.{SameSpace, SameState}
@@ -20,7 +20,7 @@ pub record IsRun (run bs : List Block) : Type 0 where
 
 -- what it costs to slide the live blocks of a run together: their units, and how many they are
 abbrev pub cost_of : List Block → RoomCost
-cost_of run = record { units = used_units run; ranges = used_of run }
+cost_of run = record { units = used_units run; ranges = count_used run }
 
 -- a cost is at most another: it has fewer units, or as many and no more ranges
 abbrev pub IsAtMost : RoomCost → RoomCost → Type 0
@@ -106,7 +106,7 @@ pub record IsWindow (w : Window) (bs : List Block) : Type 0 where
   pub is : bs ≡ front ++ end_of w ∷ []
   pub room : w.room ≡ sum (free_sizes bs)
   pub units : w.units ≡ used_units bs
-  pub ranges : w.ranges ≡ used_of bs
+  pub ranges : w.ranges ≡ count_used bs
 
 -- the first of these blocks, with at least `want` free units, and fewer without the last one
 pub record IsShortened (want : ℕ) (w : Window) (bs : List Block) : Type 0 where

@@ -5,7 +5,7 @@ use Rattle.offset_allocator.specs.Chain.{IsSpace, blocks}
 use Rattle.offset_allocator.specs.Moving.RoomBySteps.{Serves}
 use Rattle.offset_allocator.specs.declared.moves.room_by_steps.Span.{Span}
 use Rattle.offset_allocator.specs.declared.moves.room_by_steps.Sums.{Sums}
-use Rattle.offset_allocator.specs.View.{Block, one, tally, used_of, used_units}
+use Rattle.offset_allocator.specs.View.{Block, one, tally, count_used, used_units}
 
 -- the whole steps of s units of the free ones of blocks
 abbrev pub whole_steps : ℕ → List Block → ℕ
@@ -22,7 +22,7 @@ pub record AreSums (s : ℕ) (n : Sums) (bs : List Block) : Type 0 where
   pub whole : n.whole ≡ whole_steps s bs
   pub names : n.names ≡ all_steps s bs
   pub units : n.units ≡ used_units bs
-  pub ranges : n.ranges ≡ used_of bs
+  pub ranges : n.ranges ≡ count_used bs
 
 -- the first block of a span
 abbrev pub head_of : Span → Block

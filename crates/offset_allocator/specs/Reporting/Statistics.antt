@@ -3,7 +3,7 @@ use Rattle.std.specs.Prelude.{◌≡◌, ℕ, ◌+◌, max, List, [], ◌∷◌,
 use Rattle.offset_allocator.specs.declared.reports.statistics.Statistics.{Statistics}
 use Rattle.offset_allocator.specs.Cells.{ChainCells, node}
 use Rattle.offset_allocator.specs.Reporting.FreeSizes.{largest}
-use Rattle.offset_allocator.specs.View.{View, free_sizes, used_of, used_units}
+use Rattle.offset_allocator.specs.View.{View, free_sizes, count_used, used_units}
 
 -- the largest of some numbers, or 0 where there is none; `largest` of `FreeSizes` is that of the values of their classes
 abbrev pub greatest : List ℕ → ℕ
@@ -16,7 +16,7 @@ sizes_of c xs = map (λ x. (node c x).size) xs
 
 -- these are the numbers of a view, at the node limit too
 pub record AreStatistics (s : Statistics) (v : View) : Type 0 where
-  pub live_ranges : s.live_ranges ≡ used_of v.blocks
+  pub live_ranges : s.live_ranges ≡ count_used v.blocks
   pub live_units : s.live_units ≡ used_units v.blocks
   pub free_blocks : s.free_blocks ≡ length (free_sizes v.blocks)
   pub free_units : s.free_units ≡ sum (free_sizes v.blocks)

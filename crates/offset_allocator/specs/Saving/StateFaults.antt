@@ -3,7 +3,7 @@ use Rattle.std.specs.Prelude.{◌≡◌, ◌≢◌, ℕ, ◌+◌, ◌-◌, ◌*�
 use Rattle.offset_allocator.specs.Saving.Building.{AreEach}
 use Rattle.offset_allocator.specs.Saving.ListFaults.{AreBlocks, AreFreeNames, IsWrong, word}
 use Rattle.offset_allocator.specs.Saving.State.{checksum_from, freed, state_form, state_version, words_in}
-use Rattle.offset_allocator.specs.View.{Block as BlockOf, AreCoalesced, used_of}
+use Rattle.offset_allocator.specs.View.{Block as BlockOf, AreCoalesced, count_used}
 use Rattle.offset_allocator.specs.declared.states.building.Wrong.{Wrong}
 use Rattle.offset_allocator.specs.declared.states.building.Wrong.TheVariants as wrong
 use Rattle.offset_allocator.specs.declared.states.state.ReadError.{ReadError}
@@ -63,7 +63,7 @@ pub record AreListed (ws : List ℕ) (bs : List BlockOf) : Type 0 where
 
 -- more of the blocks are used than the node limit admits
 abbrev pub IsOverused : List ℕ → Type 0
-IsOverused ws = (bs : List BlockOf) × AreListed ws bs × (word 3 ws < used_of (freed (free_in ws) bs) + 2)
+IsOverused ws = (bs : List BlockOf) × AreListed ws bs × (word 3 ws < count_used (freed (free_in ws) bs) + 2)
 
 -- what a fault says, by its kind: the first of these that does not hold, and its place. Where all hold, it is the first word
 -- of the lists that is wrong; and where none is, more of the blocks are used than the node limit admits

@@ -1,6 +1,6 @@
 //! The layout with a table for each field of a node. It alone touches the cells of these tables.
 
-ghost use Rattle.std.specs.Prelude.{◌≡◌, ◌+◌, ◌<◌, [], ◌∷◌, ◌++◌, length};
+ghost use Rattle.std.specs.Prelude.{◌<◌};
 
 use crate::accesses::Accesses;
 use crate::index::{NodeIndex, link_to, mark, no_link, number};

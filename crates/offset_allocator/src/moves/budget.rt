@@ -2,13 +2,12 @@
 //! over several frames. It changes what `compact_by` changes, for a run of blocks.
 ghost use Rattle.std.specs.Prelude.{◌≡◌, ◌↔◌, ◌+◌, ◌*◌, ◌⊎◌, ◌≤◌, ◌<◌, ◌∷◌, ◌++◌, ℕ, List, None, Some, IfSome};
 ghost use Rattle.std.specs.Prelude.{IsTrue, false, length, max};
-ghost use Rattle.std.specs.List.{FoldsTo};
 ghost use Rattle.offset_allocator.specs.Accesses.{Costs};
 ghost use Rattle.offset_allocator.specs.Chain.{IsSpace, blocks, last_or};
 ghost use Rattle.offset_allocator.specs.Moving.Budget.{CompactsWithin, IsWithin, StopsAt, first_from, start_of};
 ghost use Rattle.offset_allocator.specs.Moving.Compacting.{IsCalledWith, KeepsSizes, live};
 ghost use Rattle.offset_allocator.specs.Requests.{AdmitsBlocks};
-ghost use Rattle.offset_allocator.specs.View.{Block, ends_used, units, used_of, used_units};
+ghost use Rattle.offset_allocator.specs.View.{Block, ends_used, units, count_used, used_units};
 
 use crate::accesses::Accesses;
 use crate::index::linked;
@@ -91,7 +90,7 @@ fn run_from<T: Tables>(
         × (ends_used (b ∷ rest) ≡ result.end_used)
         × (result.progress ≡ record {
           units = used_units rest;
-          ranges = used_of rest;
+          ranges = count_used rest;
           next = start_of (units (front ++ b ∷ rest)) back;
         })
         × (count.old ≤ count.new) × (count.new ≤ count.old + 3 * length rest + 4) }

@@ -1,7 +1,7 @@
 //! Slides live ranges to the front by whole steps, of the space or of a run of blocks that makes room, so that
 //! each keeps what its offset leaves of a step, and with it its alignment. It may make a node, changes the chain
 //! by one split and by `gap`, and the bins of the free blocks that are passed and of the one at the end.
-ghost use Rattle.std.specs.Prelude.{ℕ, IsTrue, ◌≡◌, ◌↔◌, ◌≢◌, ◌+◌, ◌*◌, ◌<◌, ◌≤◌, [], ◌∷◌, ◌++◌, List, Some, None, false};
+ghost use Rattle.std.specs.Prelude.{ℕ, IsTrue, ◌≡◌, ◌↔◌, ◌+◌, ◌*◌, ◌<◌, ◌≤◌, [], ◌∷◌, ◌++◌, List, Some, None, false};
 ghost use Rattle.std.specs.Prelude.{IfSome, true, length, if◌then◌else◌, not, ◌&&◌, nat_eq, nat_le};
 ghost use Rattle.offset_allocator.specs.Cells.{node};
 ghost use Rattle.std.specs.List.{FoldsTo};

@@ -1,6 +1,6 @@
 //! Slides every live range to the front of the space, so that all free units are one block at its end. It
 //! changes the chain by `gap`, and makes the bins anew.
-ghost use Rattle.std.specs.Prelude.{ℕ, ◌≡◌, ◌≢◌, ◌+◌, ◌*◌, ◌<◌, ◌≤◌, [], ◌∷◌, ◌++◌, Some, false, Bool, List};
+ghost use Rattle.std.specs.Prelude.{ℕ, ◌≡◌, ◌≢◌, ◌+◌, ◌*◌, ◌<◌, ◌≤◌, [], ◌++◌, Some, false, Bool};
 ghost use Rattle.std.specs.Prelude.{length, sum, unwrap_or};
 ghost use Rattle.std.specs.List.{FoldsTo};
 ghost use Rattle.offset_allocator.specs.Accesses.{Costs};
@@ -8,7 +8,7 @@ ghost use Rattle.offset_allocator.specs.Cells.{node};
 ghost use Rattle.offset_allocator.specs.Names.{free_blocks, names_of};
 ghost use Rattle.offset_allocator.specs.View.{Place, free_block, free_sizes, units, AreInBins};
 ghost use Rattle.offset_allocator.specs.Bins.{IsBinned, bins_in};
-ghost use Rattle.offset_allocator.specs.Chain.{IsSpace, HasPlace, blocks};
+ghost use Rattle.offset_allocator.specs.Chain.{IsSpace, blocks};
 ghost use Rattle.offset_allocator.specs.Moving.Compacting.{live, moves, move_of, Compacts, KeepsSizes};
 ghost use Rattle.offset_allocator.specs.Moving.Compacting.{IsCalledWith, IsStart, first_among, first_free};
 ghost use Rattle.offset_allocator.specs.Moving.Compacting.{newest, until, until_free};

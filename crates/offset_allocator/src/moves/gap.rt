@@ -1,7 +1,7 @@
 //! A free block that is out of the chain while the blocks after it slide to the front of its units, whole or
 //! in part, and the units of the others go into it: so each node is written once. It touches the chain, and
 //! leaves the bins as they are.
-ghost use Rattle.std.specs.Prelude.{ℕ, ◌≡◌, ◌+◌, ◌-◌, ◌≤◌, List, ◌∷◌, ◌++◌, [], length, false};
+ghost use Rattle.std.specs.Prelude.{ℕ, ◌≡◌, ◌+◌, ◌-◌, ◌≤◌, List, ◌∷◌, ◌++◌, [], false};
 ghost use Rattle.offset_allocator.specs.Accesses.{Costs};
 ghost use Rattle.offset_allocator.specs.Cells.{link_of, node};
 ghost use Rattle.offset_allocator.specs.Chain.{HasPlace, first_or};

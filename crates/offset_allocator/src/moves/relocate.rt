@@ -125,7 +125,7 @@ impl<T: Tables> AllocatorOf<T> {
         align: u32,
     ) -> Option<Allocation<T::Index>>
         requires live { IsLive allocation.name self.old }
-        requires some { 1 ≤ align }
+        requires alignment { 1 ≤ align }
         // the public clauses follow from the step and from this
         ensures formed { IsWellFormed self.old }
         ensures step { RelocatesAligned allocation.name align self.old self.new result }

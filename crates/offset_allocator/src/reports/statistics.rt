@@ -3,7 +3,7 @@ ghost use Rattle.std.specs.Prelude.{◌≡◌, ◌≤◌, ◌+◌, ◌*◌, ◌<
 ghost use Rattle.offset_allocator.specs.Accesses.{Costs};
 ghost use Rattle.offset_allocator.specs.Bins.{HasBins, bins_in};
 ghost use Rattle.offset_allocator.specs.Reporting.FreeSizes.{largest};
-ghost use Rattle.offset_allocator.specs.View.{bin_at, free_sizes, used_of, used_units};
+ghost use Rattle.offset_allocator.specs.View.{bin_at, free_sizes, count_used, used_units};
 ghost use Rattle.offset_allocator.specs.Reporting.Statistics.{AreStatistics, greatest, sizes_of};
 
 use crate::accesses::Accesses;
@@ -59,7 +59,7 @@ fn largest_of_class<T: Tables>(tables: &T, class: u32, count: &mut Accesses) -> 
 
 /// As `Allocator::is_empty`. The count grows by at most 8.
 pub fn is_empty_counted<T: Tables>(allocator: &AllocatorOf<T>, count: &mut Accesses) -> bool
-    ensures empty { IsTrue result ↔ (used_of allocator.now.blocks ≡ 0) }
+    ensures empty { IsTrue result ↔ (count_used allocator.now.blocks ≡ 0) }
     ensures accesses { Costs 0 8 count.old count.new }
     ensures accesses_min { result ≡ true → count.old + 1 ≤ count.new }
 {
@@ -151,7 +151,7 @@ impl<T: Tables> AllocatorOf<T> {
     /// assert!(space.is_empty());
     /// ```
     pub fn is_empty(&self) -> bool
-        ensures { IsTrue result ↔ (used_of self.now.blocks ≡ 0) }
+        ensures { IsTrue result ↔ (count_used self.now.blocks ≡ 0) }
     {
         is_empty_counted(self, &mut Accesses::new())
     }

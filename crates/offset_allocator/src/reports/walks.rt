@@ -1,5 +1,5 @@
 //! The live ranges beside one another in space. It reads tables, and counts each cell.
-ghost use Rattle.std.specs.Prelude.{ℕ, ◌≡◌, ◌+◌, ◌*◌, ◌≤◌, [], ◌∷◌, ◌++◌, Some, length, option_map, reverse};
+ghost use Rattle.std.specs.Prelude.{ℕ, ◌≡◌, ◌+◌, ◌*◌, [], ◌∷◌, ◌++◌, Some, length, option_map, reverse};
 ghost use Rattle.offset_allocator.specs.Accesses.{Costs};
 ghost use Rattle.offset_allocator.specs.Reporting.Walking.{first_handle, first_live, last_live, live_before};
 ghost use Rattle.offset_allocator.specs.Reporting.Walking.{live_after};

@@ -14,7 +14,7 @@ ghost use Rattle.offset_allocator.specs.Saving.ListFaults.{IsUnusedFault, IsWron
 ghost use Rattle.offset_allocator.specs.Saving.State.{block_words, filed, freed};
 ghost use Rattle.offset_allocator.specs.Store.{AreBinned, bins_of};
 ghost use Rattle.offset_allocator.specs.View.{Block, AreCoalesced, count_named, free_sizes, push, times};
-ghost use Rattle.offset_allocator.specs.View.{units, used_block, used_of};
+ghost use Rattle.offset_allocator.specs.View.{units, used_block, count_used};
 
 use crate::accesses::Accesses;
 use crate::bins;
@@ -255,7 +255,7 @@ pub(crate) fn look_over<T: Tables>(
     requires all { length (blocks_in (T.cells tables.now).chain last) ≡ blocks }
     ensures found { IfOk result (λ s. AreCoalesced (blocks_in (T.cells tables.now).chain last)
         × (s.free_units ≡ sum (free_sizes (blocks_in (T.cells tables.now).chain last)))
-        × (s.used ≡ used_of (blocks_in (T.cells tables.now).chain last))) }
+        × (s.used ≡ count_used (blocks_in (T.cells tables.now).chain last))) }
     ensures wrong { IsErr result → AreCoalesced (blocks_in (T.cells tables.now).chain last) → ⊥ }
     ensures fault { IfErr result (IsNeighboursFault (blocks_in (T.cells tables.now).chain last)) }
 {
@@ -355,7 +355,7 @@ pub(crate) fn build<T: Tables>(
     ensures built { IfOk result (λ r. IfOk r (λ p.
         IsBuilt T.cells T.Index.MAX size limit blocks.now free.now unused.now p.0
         × (p.1.free_units ≡ sum (free_sizes (blocks_in (T.cells p.0.tables).chain p.0.last)))
-        × (p.1.used ≡ used_of (blocks_in (T.cells p.0.tables).chain p.0.last)))) }
+        × (p.1.used ≡ count_used (blocks_in (T.cells p.0.tables).chain p.0.last)))) }
     ensures wrong { IfOk result (λ r. IsErr r → (bs : List Block) → block_words bs ≡ blocks.now
         → units bs ≡ size
         → AreEach bs unused.now → ((x : ℕ) → times x free.now ≤ count_named x bs)

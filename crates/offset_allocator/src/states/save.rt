@@ -1,5 +1,5 @@
 //! The bytes of the state of a space. It reads the tables, and changes nothing.
-ghost use Rattle.std.specs.Prelude.{◌≡◌, ◌%◌, ◌<◌, ◌≤◌, ◌++◌, ◌∷◌, [], ℕ, List, IfOk, length, take};
+ghost use Rattle.std.specs.Prelude.{◌≡◌, ◌%◌, ◌<◌, ◌≤◌, ◌++◌, ℕ, IfOk, length, take};
 ghost use Rattle.std.specs.List.{concat};
 ghost use Rattle.offset_allocator.specs.Bins.{HasBins, bins_in};
 ghost use Rattle.offset_allocator.specs.Chain.{IsSpace, blocks as blocks_in};
@@ -121,13 +121,15 @@ impl<T: Tables> AllocatorOf<T> {
         let mut count = Accesses::new();
         let names = names_in_bins(alloc, tables, &mut count)?;
         let mut words = Vec::new(alloc);
-        words.push(FORM)?;
-        words.push(VERSION)?;
-        words.push(self.size)?;
-        words.push(self.max_allocs)?;
-        words.push(self.block_count())?;
-        words.push(names.len() as u32)?;
-        words.push(self.store.spare_count)?;
+        words.extend_from_slice(&[
+            FORM,
+            VERSION,
+            self.size,
+            self.max_allocs,
+            self.block_count(),
+            names.len() as u32,
+            self.store.spare_count,
+        ])?;
         push_blocks(
             &mut words,
             tables,

@@ -1,5 +1,5 @@
 //! The numbers of a state: bytes as numbers, their checksum, and their faults. It touches no space.
-ghost use Rattle.std.specs.Prelude.{◌≡◌, ◌++◌, ◌+◌, ◌*◌, ◌%◌, ◌<◌, ◌≤◌, [], ◌∷◌, ℕ, List, IfOk, length};
+ghost use Rattle.std.specs.Prelude.{◌≡◌, ◌+◌, ◌*◌, ◌%◌, ◌<◌, IfOk, length};
 ghost use Rattle.offset_allocator.specs.Saving.State.{checksum_from, words_in};
 ghost use Rattle.offset_allocator.specs.declared.states.state.ReadError.TheVariants.{Memory};
 

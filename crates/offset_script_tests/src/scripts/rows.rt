@@ -1,7 +1,8 @@
 //! Scripts with their answers, read and written in pieces of several lengths, and played on each layout.
 
 use crate::asserts::assert_same_at;
-use crate::playing::{answers_of, expect_answers, run_result, script_of};
+use crate::layouts::expect_answers;
+use crate::playing::{answers_of, run_result, script_of};
 use offset_script::{FromRead, IntoWrite};
 use offset_test_base::devices::{Reader, Writer};
 use std::alloc::Global;

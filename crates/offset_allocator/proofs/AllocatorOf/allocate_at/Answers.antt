@@ -1,6 +1,6 @@
-use Rattle.offset_allocator.proofs.{AtPlace.at_can, AtPlace.at_begins, AtPlace.at_counted, AtPlace.at_grants, AtPlace.none_serves, Sound.Fields, Sound.fields_of, Sound.known_sound, Sound.shown}
+use Rattle.offset_allocator.proofs.{AtOffset.at_can, AtOffset.at_begins, AtOffset.at_counted, AtOffset.at_grants, AtOffset.none_serves, Sound.Fields, Sound.fields_of, Sound.known_sound, Sound.shown}
 use Rattle.offset_allocator.proofs.Common.{◌≡◌, None, false≢true, refl, subst, sym, IsWellFormed, View}
-use Rattle.offset_allocator.specs.AtPlace.{AllocatesAt, CanGrantAt}
+use Rattle.offset_allocator.specs.AtOffset.{AllocatesAt, CanGrantAt}
 use Rattle.offset_allocator.proofs.AllocatorOf.allocate_at.Goals as goal
 use Rattle.offset_allocator.proofs.AllocatorOf.allocate_at.{Goals.After-last_free_to, Goals.After-fill_at, Given.Over}
 

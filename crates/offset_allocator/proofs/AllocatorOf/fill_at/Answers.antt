@@ -1,7 +1,7 @@
-use Rattle.offset_allocator.proofs.{AtPlace.at_counted, AtPlace.serves, Classes.down_small, Granting.found_itself, Holding.first_is, Holding.place_there, Linking.Places.at_place, Linking.Places.placed}
+use Rattle.offset_allocator.proofs.{AtOffset.at_counted, AtOffset.serves, Classes.down_small, Granting.found_itself, Holding.first_is, Holding.place_there, Linking.Places.at_place, Linking.Places.placed}
 use Rattle.offset_allocator.proofs.{Served.split_as, Sound.Fields, Sound.fields_of, Sound.known_sound, Sound.shown, Sound.well_counted, Common.◌++◌, Common.IsWellFormed, Common.HasPlace, Common.IsChain, Common.List}
 use Rattle.offset_allocator.proofs.Common.{◌≡◌, ℕ, ◌-◌, ◌<◌, ◌∷◌, ◌∙◌, None, Some, ap, arith, refl, subst, sym, bin_at, remove, units, value, Block, AdmitsBlocks, Node, node, Place, Splits, View}
-use Rattle.offset_allocator.specs.{AtPlace.AllocatesAt, AtPlace.CanGrantAt, AtPlace.GrantsAt, AtPlace.blocks_added, Tight.with_first}
+use Rattle.offset_allocator.specs.{AtOffset.AllocatesAt, AtOffset.CanGrantAt, AtOffset.GrantsAt, AtOffset.blocks_added, Tight.with_first}
 use Rattle.offset_allocator.proofs.Common.{◌+◌, ◌≤◌, max}
 use Rattle.std.specs.Prelude.{min}
 use Rattle.offset_allocator.proofs.AllocatorOf.fill_at.Goals as goal

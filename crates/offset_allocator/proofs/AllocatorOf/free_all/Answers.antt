@@ -1,4 +1,4 @@
-use Rattle.offset_allocator.proofs.{Common.sym, Common.ap, Common.◌∙◌, Common.arith, Common.View, Common.used_of, Emptied.freed_first, Emptied.freed_none, Emptied.freed_one}
+use Rattle.offset_allocator.proofs.{Common.sym, Common.ap, Common.◌∙◌, Common.arith, Common.View, Common.count_used, Emptied.freed_first, Emptied.freed_none, Emptied.freed_one}
 use Rattle.offset_allocator.proofs.AllocatorOf.free_all.Goals as goal
 
 pub loop-name-init : goal.loop-name-init
@@ -7,7 +7,7 @@ loop-name-init g c = record { freed = λ w f. f; least = omega arith; most = ome
 pub loop-name-smaller : goal.loop-name-smaller
 loop-name-smaller g c =
     let was : View = c.last_used.new.self in
-    omega (arith, freed_one c.in-Some.name was c.release.new.self c.release.ensures.step, ap (λ (u : View). used_of u.blocks) c.last_used.ensures.same)
+    omega (arith, freed_one c.in-Some.name was c.release.new.self c.release.ensures.step, ap (λ (u : View). count_used u.blocks) c.last_used.ensures.same)
 
 pub loop-name-preserved : goal.loop-name-preserved
 loop-name-preserved g c =
@@ -18,7 +18,7 @@ loop-name-preserved g c =
       least = omega (arith, c.release.ensures.accesses.0, c.last_used.ensures.accesses.0, c.loop-name.invariant.least);
       most =
           let fewer = freed_one c.in-Some.name c.last_used.new.self c.release.new.self c.release.ensures.step in
-          omega (arith, fewer, ap (λ (u : View). used_of u.blocks) c.last_used.ensures.same, c.release.ensures.accesses.1, c.last_used.ensures.accesses.1, c.loop-name.invariant.most);
+          omega (arith, fewer, ap (λ (u : View). count_used u.blocks) c.last_used.ensures.same, c.release.ensures.accesses.1, c.last_used.ensures.accesses.1, c.loop-name.invariant.most);
     }
 
 pub returns-clause-freed : goal.returns-clause-freed

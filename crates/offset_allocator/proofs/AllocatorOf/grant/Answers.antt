@@ -58,7 +58,7 @@ divide-requires-clause-place g c =
       _,
       kept_place c.pop-name.ensures.chain (held p refl),
       rw c.pop-name.ensures.lists (unlisted p),
-      omega (arith, enough, all, c.self.invariant.memory, c.requires.some),
+      omega (arith, enough, all, c.self.invariant.memory, c.requires.alignment),
       λ l. omega (arith, enough, all, c.self.invariant.memory, two c.args.align c.offset-offset.result (omega (arith, l))),
     )
 
@@ -121,8 +121,8 @@ done g c p holds k f e =
     let place = c.divide.ensures.place _ _ h in
     let room = subst (AdmitsBlocks (blocks_needed c.args.align))
     (sym c.self.view_is) c.requires.enough in
-    rw (e, oe) (granted p c.args.size (padding_to c.args.align) holds (blocks_needed c.args.align) room (omega (arith, c.requires.some))
-    (omega (arith, c.requires.some, two c.args.align (units (got p).place.before))) _ _ _ _ _ (rw (oe, we) at place) c.divide.ensures.binned (rw (oe, we, c.pop-name.ensures.lists) at c.divide.ensures.lists)
+    rw (e, oe) (granted p c.args.size (padding_to c.args.align) holds (blocks_needed c.args.align) room (omega (arith, c.requires.alignment))
+    (omega (arith, c.requires.alignment, two c.args.align (units (got p).place.before))) _ _ _ _ _ (rw (oe, we) at place) c.divide.ensures.binned (rw (oe, we, c.pop-name.ensures.lists) at c.divide.ensures.lists)
     (rw (kept_unused c.pop-name.ensures.chain, oe, we) at (c.divide.ensures.unused _ _ h)))
 
 pub invariant_of-self : goal.invariant_of-self

@@ -1,5 +1,5 @@
 use Rattle.std.specs.Prelude.{max, min}
-use Rattle.offset_allocator.proofs.{AtPlace.IsWhole, Sound.shown, Sound.AreSound, Sound.Fields, Sound.fields_of, Linking.Places.at_place, Linking.Places.kept_place, Linking.Names.kept_unused}
+use Rattle.offset_allocator.proofs.{AtOffset.IsWhole, Sound.shown, Sound.AreSound, Sound.Fields, Sound.fields_of, Linking.Places.at_place, Linking.Places.kept_place, Linking.Names.kept_unused}
 use Rattle.offset_allocator.proofs.{Tallies.one-same, Filing.Uses.removed_unlisted, Common.length, Common.◌≢◌, Common.[], Common.◌∷◌, Common.Splits}
 use Rattle.offset_allocator.proofs.Common.{◌≡◌, ◌+◌, ◌-◌, ◌∙◌, ℕ, ap, arith, refl, subst, sym, up, Handle, Node, View, IsFoundFrom, Some, AdmitsBlocks, units, bin_at}
 use Rattle.offset_allocator.proofs.Granting.{Call, got, held, unlisted, units_free, granted}

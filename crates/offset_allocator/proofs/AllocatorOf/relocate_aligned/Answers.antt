@@ -1,8 +1,8 @@
 use Rattle.offset_allocator.proofs.Moving.Begins.{relocated_aligned, relocated_grants, relocated_before, relocated_same}
 use Rattle.offset_allocator.proofs.AllocatorOf.relocate_aligned.Goals as goal
 
-pub relocate_to-requires-clause-some : goal.relocate_to-requires-clause-some
-relocate_to-requires-clause-some g c = c.requires.alignment
+pub relocate_to-requires-clause-alignment : goal.relocate_to-requires-clause-alignment
+relocate_to-requires-clause-alignment g c = c.requires.alignment
 
 pub returns-clause-grants : goal.returns-clause-grants
 returns-clause-grants g c =

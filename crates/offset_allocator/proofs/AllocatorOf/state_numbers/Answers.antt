@@ -27,13 +27,7 @@ returns g c =
     length-take-le c.self.inside.store.spare_count (g.T.Tables.cells c.self.inside.store.tables).chain.spare (omega (arith, chain.full, chain.stack)) in
     let bs : List Block = blocks (g.T.Tables.cells c.self.inside.store.tables).chain c.self.inside.store.last in
     let head : List ℕ = 1414742351 ∷ 1 ∷ c.self.inside.size ∷ c.self.inside.max_allocs ∷ c.block_count.result ∷ c.len.result ∷ c.self.inside.store.spare_count ∷ [] in
-    let begun : c.push-7.new.self.items ≡ head =
-    c.in_ok-push-7.ensures.items ∙ ap (λ l. l ++ c.self.inside.store.spare_count ∷ [])
-    (c.in_ok-push-6.ensures.items ∙ ap (λ l. l ++ c.len.result ∷ [])
-    (c.in_ok-push-5.ensures.items ∙ ap (λ l. l ++ c.block_count.result ∷ [])
-    (c.in_ok-push-4.ensures.items ∙ ap (λ l. l ++ c.self.inside.max_allocs ∷ [])
-    (c.in_ok-push-3.ensures.items ∙ ap (λ l. l ++ c.self.inside.size ∷ [])
-    (c.in_ok-push-2.ensures.items ∙ ap (λ l. l ++ 1 ∷ []) (c.in_ok-push.ensures.items ∙ ap (λ l. l ++ 1414742351 ∷ []) c.new-words.ensures.items)))))) in
+    let begun : c.extend_from_slice.new.self.items ≡ head = c.in_ok-extend_from_slice.ensures.items ∙ ap (λ l. l ++ head) c.new-words.ensures.items in
     let size : c.self.inside.size ≡ v.size = ap (λ (u : View). u.size) c.self.view_is in
     let limit : c.self.inside.max_allocs ≡ v.max_allocs = ap (λ (u : View). u.max_allocs) c.self.view_is in
     let count : c.block_count.result ≡ length v.blocks = c.block_count.ensures in
@@ -42,7 +36,7 @@ returns g c =
     let left : c.self.inside.store.spare_count ≡ length v.unused = sym long ∙ ap length unused in
     let same_head : head ≡ 1414742351 ∷ 1 ∷ v.size ∷ v.max_allocs ∷ length v.blocks ∷ length (concat v.bins) ∷ length v.unused ∷ [] = cc in
     c.in_ok-push_unused.ensures
-    ∙ ap (λ l. l ++ us) (c.in_ok-extend_from_slice.ensures.items
+    ∙ ap (λ l. l ++ us) (c.in_ok-extend_from_slice-2.ensures.items
     ∙ ap₂ (λ (l m : List ℕ). l ++ m) (c.in_ok-push_blocks.ensures ∙ ap (λ l. l ++ block_words bs) begun) (c.deref.ensures.value ∙ names))
     ∙ append_assoc (head ++ block_words bs) (concat v.bins) us ∙ append_assoc head (block_words bs) (concat v.bins ++ us)
     ∙ ap₂ (λ (h t : List ℕ). h ++ t) same_head (ap₂ (λ (l : List Block) (m : List ℕ). block_words l ++ (concat v.bins ++ m)) same unused)

@@ -1,4 +1,4 @@
-use Rattle.offset_allocator.proofs.{AtPlace.free_where_clear}
+use Rattle.offset_allocator.proofs.{AtOffset.free_where_clear}
 use Rattle.offset_allocator.proofs.laws.units_are_free_or_in_the_way.Goals as goal
 
 pub returns : goal.returns

@@ -8,8 +8,8 @@ returns-then-size-allocator-clause-granted g c =
     let v = c.args.allocator.now in
     (λ e. absurd (cc), λ h. absurd (omega (arith, hold_fits v c.formed.ensures c.args.size c.args.align h, c.if-size-allocator.true, ap (λ (u : View). u.size) c.allocator.view_is)))
 
-pub choose-requires-clause-some : goal.choose-requires-clause-some
-choose-requires-clause-some g c = c.requires.alignment
+pub choose-requires-clause-alignment : goal.choose-requires-clause-alignment
+choose-requires-clause-alignment g c = c.requires.alignment
 
 pub returns-in-Some-clause-granted : goal.returns-in-Some-clause-granted
 returns-in-Some-clause-granted g c =

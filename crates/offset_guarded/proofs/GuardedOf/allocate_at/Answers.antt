@@ -1,5 +1,5 @@
 use Rattle.std.proofs.Common.{Some, ap, refl, subst, sym}
-use Rattle.offset_allocator.specs.{AtPlace.AllocatesAt, View.Handle}
+use Rattle.offset_allocator.specs.{AtOffset.AllocatesAt, View.Handle}
 use Rattle.offset_guarded.specs.Guard.{Guard, handle_in}
 use Rattle.offset_guarded.proofs.Guards.{can_grant_at, granted_as, issued, same_limit_at}
 use Rattle.offset_guarded.proofs.GuardedOf.allocate_at.Goals as goal

@@ -7,7 +7,7 @@ pub returns-clause-first : goal.returns-clause-first
 returns-clause-first g c = rw (← c.self.view_is)
     (first_fits g.T.Index.NodeIndex.MAX c.self.inside.slots c.self.inside.limits c.self.inside.made c.self.inside.index c.self.invariant c.self.inside.realm c.self.inside.accesses
     c.args.units c.args.align
-    c.first_fit.result c.requires.power c.first_fit.ensures.one c.first_fit.ensures.two)
+    c.first_fit.result c.requires.alignment c.first_fit.ensures.one c.first_fit.ensures.two)
 
 pub returns-clause-there : goal.returns-clause-there
 returns-clause-there g c = rw (← c.self.view_is)
@@ -16,7 +16,7 @@ returns-clause-there g c = rw (← c.self.view_is)
     c.first_fit.result c.requires.some
     (first_fits g.T.Index.NodeIndex.MAX c.self.inside.slots c.self.inside.limits c.self.inside.made c.self.inside.index c.self.invariant c.self.inside.realm c.self.inside.accesses
     c.args.units c.args.align
-    c.first_fit.result c.requires.power c.first_fit.ensures.one c.first_fit.ensures.two))
+    c.first_fit.result c.requires.alignment c.first_fit.ensures.one c.first_fit.ensures.two))
 
 pub returns-clause-accesses : goal.returns-clause-accesses
 returns-clause-accesses g c bits enough =

@@ -8,7 +8,7 @@ returns-in-Some-clause-after g c live =
     after_of c.args.place.heap c.args.self.now.realm c.args.place.ticket c.in-Some.guarded.now (heap_at c.args.place.heap c.args.self.now) c.live_after.result c.place_at.result
     (sym (c.in-Some.ensures.heap refl)) (c.live_after.ensures.after (subst IsSome c.in-Some.ensures.range live)) c.place_at.ensures
 
-pub returns-in-Some-clause-gone : goal.returns-in-Some-clause-gone
-returns-in-Some-clause-gone g c dead =
+pub returns-in-Some-clause-not_live : goal.returns-in-Some-clause-not_live
+returns-in-Some-clause-not_live g c dead =
     none_of c.args.place.heap c.args.self.now.realm c.live_after.result c.place_at.result
-    (c.live_after.ensures.gone (λ live. dead (subst IsSome (sym c.in-Some.ensures.range) live))) c.place_at.ensures
+    (c.live_after.ensures.not_live (λ live. dead (subst IsSome (sym c.in-Some.ensures.range) live))) c.place_at.ensures

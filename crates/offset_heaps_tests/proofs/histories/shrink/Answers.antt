@@ -3,4 +3,4 @@ use Rattle.offset_heaps_tests.proofs.Steps.{resizes}
 use Rattle.offset_heaps_tests.proofs.histories.shrink.Goals as goal
 
 pub returns : goal.returns
-returns c = resizes c.args.heaps.now c.shrink.new.self (Shrunk c.args.size) c.args.place c.shrink.result c.shrink.ensures.gone c.shrink.ensures.step
+returns c = resizes c.args.heaps.now c.shrink.new.self (Shrunk c.args.size) c.args.place c.shrink.result c.shrink.ensures.not_live c.shrink.ensures.step

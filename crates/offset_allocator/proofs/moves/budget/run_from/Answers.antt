@@ -1,5 +1,5 @@
 use Rattle.offset_allocator.proofs.Common.{◌≡◌, ◌+◌, ◌*◌, ◌<◌, ◌≤◌, ◌⊎◌, ◌∙◌, ℕ, true, false, List, [], ◌∷◌, ◌++◌, Some, None, length, refl, sym, ap, subst, arith, inl, inr, append_assoc, length-append, Node, Block, IsChain}
-use Rattle.offset_allocator.proofs.Common.{HasPlace, IsSpace, blocks, ends_used, last_or, used_of, used_units, ap₂, true≢false}
+use Rattle.offset_allocator.proofs.Common.{HasPlace, IsSpace, blocks, ends_used, last_or, count_used, used_units, ap₂, true≢false}
 use Rattle.offset_allocator.proofs.{Extending.ends_last, Linking.Places.at_place, Linking.Places.end_fits, Linking.Places.placed, Tallies.units-append}
 use Rattle.offset_allocator.proofs.Moving.Budgeted.{Started, started, started_place, none_left, last_added, free_added, live_added, free_within, live_within, not_within, used_fit}
 use Rattle.offset_allocator.specs.declared.moves.budget.{Progress.Progress, Reach.Reach}
@@ -43,7 +43,7 @@ record Met (g : Over) (c : After-is_used-used g) (last spare : ℕ) (front : Lis
   within : IsWithin c.args.most_units c.args.most_ranges rest
   ends : last_or None (b ∷ rest) ≡ Some c.loop-at.reach.end
   used_end : ends_used (b ∷ rest) ≡ c.loop-at.reach.end_used
-  so_far : c.loop-at.reach.progress ≡ record { units = used_units rest; ranges = used_of rest; next = None }
+  so_far : c.loop-at.reach.progress ≡ record { units = used_units rest; ranges = count_used rest; next = None }
   counted : c.is_used-used.new.count ≤ c.after.new.count + 3 * length rest + 2
 
 met : (g : Over) (c : After-is_used-used g) (last spare : ℕ) (front : List Block) (b : Block) (after : List Block) → IsSpace (g.T.Tables.cells c.args.tables.now).chain last spare
@@ -95,7 +95,7 @@ returns-then-is_beyond g c = record {
   place = λ last spare front b after space is name idle.
       let m = met g (goal.at.returns-then-is_beyond g c).After-is_used-used last spare front b after space is name idle in
       let far = c.is_beyond.ensures.beyond.0 c.if-is_beyond.true in
-      let past : (1 ≤ used_of m.rest) × ((c.args.most_units < used_units m.rest + m.next.size) ⊎ (c.args.most_ranges ≤ used_of m.rest)) = (
+      let past : (1 ≤ count_used m.rest) × ((c.args.most_units < used_units m.rest + m.next.size) ⊎ (c.args.most_ranges ≤ count_used m.rest)) = (
         omega (arith, far.0, ap (λ (p : Progress). p.ranges) m.so_far),
         elim far.1
             [ inl l ↦ inl (omega (arith, l, m.size, ap (λ (p : Progress). p.units) m.so_far)) | inr l ↦ inr (omega (arith, l, ap (λ (p : Progress). p.ranges) m.so_far)) ],
@@ -109,7 +109,7 @@ returns-then-is_beyond g c = record {
         m.ends,
         m.used_end,
         ap (λ (p : Progress). let q : Progress = record { units = p.units; ranges = p.ranges; next = Some c.offset.result } in q) m.so_far
-            ∙ ap (λ (n : ℕ). let q : Progress = record { units = used_units m.rest; ranges = used_of m.rest; next = Some n } in q) (c.offset.ensures.cell ∙ ap (λ (n : Node). n.offset) (at_place m.place)),
+            ∙ ap (λ (n : ℕ). let q : Progress = record { units = used_units m.rest; ranges = count_used m.rest; next = Some n } in q) (c.offset.ensures.cell ∙ ap (λ (n : Node). n.offset) (at_place m.place)),
         omega (arith, c.loop-at.invariant.grows, c.after.ensures.accesses, c.size-size.ensures.accesses, c.is_used-used.ensures.accesses, c.offset.ensures.accesses),
         omega (arith, m.counted, c.after.ensures.accesses, c.offset.ensures.accesses),
       );
@@ -138,7 +138,7 @@ loop-at-preserved g c = record {
   at = λ last spare front b after space is name idle.
       let m = met g (goal.at.loop-at-preserved g c).After-is_used-used last spare front b after space is name idle in
       let more : List Block = m.rest ++ m.next ∷ [] in
-      let both : IsWithin c.args.most_units c.args.most_ranges more × (c.if-used.reach.progress ≡ record { units = used_units more; ranges = used_of more; next = None }) = elim c.if-used.branch [
+      let both : IsWithin c.args.most_units c.args.most_ranges more × (c.if-used.reach.progress ≡ record { units = used_units more; ranges = count_used more; next = None }) = elim c.if-used.branch [
         | then-used+else-is_beyond w ↦
             let live : m.next.used ≡ true = sym m.used ∙ w.if-used.true in
             let a = live_added m.rest m.next live in (

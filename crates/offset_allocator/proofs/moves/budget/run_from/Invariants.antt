@@ -1,4 +1,4 @@
-use Rattle.offset_allocator.proofs.Common.{◌≡◌, ◌+◌, ◌-◌, ◌*◌, ◌≤◌, ℕ, List, ◌++◌, ◌∷◌, None, Some, false, length, Block, IsSpace, blocks, ends_used, first_or, last_or, used_of, used_units}
+use Rattle.offset_allocator.proofs.Common.{◌≡◌, ◌+◌, ◌-◌, ◌*◌, ◌≤◌, ℕ, List, ◌++◌, ◌∷◌, None, Some, false, length, Block, IsSpace, blocks, ends_used, first_or, last_or, count_used, used_units}
 use Rattle.offset_allocator.specs.Moving.Budget.{IsWithin}
 use Rattle.offset_allocator.proofs.moves.budget.run_from.Given as goal
 
@@ -10,7 +10,7 @@ invariant-loop-at g l = record {
       → blocks (g.T.Tables.cells l.tables).chain last ≡ front ++ b ∷ after → b.name ≡ l.first → b.used ≡ false
       → (rest left : List Block) × (after ≡ rest ++ left) × (first_or None left ≡ l.at) × IsWithin l.most_units l.most_ranges rest
       × (last_or None (b ∷ rest) ≡ Some l.reach.end) × (ends_used (b ∷ rest) ≡ l.reach.end_used)
-      × (l.reach.progress ≡ record { units = used_units rest; ranges = used_of rest; next = None })
+      × (l.reach.progress ≡ record { units = used_units rest; ranges = count_used rest; next = None })
       × (l.count ≤ l.initial.count + 3 * length rest);
 }
 

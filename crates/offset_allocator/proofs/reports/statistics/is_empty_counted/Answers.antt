@@ -1,4 +1,4 @@
-use Rattle.offset_allocator.proofs.Common.{ap, arith, refl, sym, ◌∙◌, length, used_of, View, nat_tests}
+use Rattle.offset_allocator.proofs.Common.{ap, arith, refl, sym, ◌∙◌, length, count_used, View, nat_tests}
 use Rattle.offset_allocator.proofs.{Sound.shown, Sound.fields_of, Sound.known_sound, Linking.Places.end_place, Always.none_live, Always.some_live}
 use Rattle.offset_allocator.proofs.reports.statistics.is_empty_counted.Goals as goal
 
@@ -13,7 +13,7 @@ returns-then-block_count-eq1-clause-empty g c =
     let one = c.block_count.ensures in
     let here = ap (λ (v : View). length v.blocks) c.allocator.view_is in
     let r = none_live (shown f) known.0 c.allocator.inside.store.last s.space.ends (omega (arith, one, here, c.if-block_count-eq1.true)) c.is_used.result (c.is_used.ensures.used _ _ s.space) in
-    let live = ap (λ (v : View). used_of v.blocks) c.allocator.view_is in
+    let live = ap (λ (v : View). count_used v.blocks) c.allocator.view_is in
     (λ t. sym live ∙ r.0 t, λ e. r.1 (live ∙ e))
 
 pub returns-else-block_count-eq1-clause-empty : goal.returns-else-block_count-eq1-clause-empty

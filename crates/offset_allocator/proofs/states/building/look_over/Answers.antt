@@ -1,4 +1,4 @@
-use Rattle.offset_allocator.proofs.Common.{◌≡◌, ◌∙◌, ◌+◌, ◌-◌, ◌∷◌, ap, sym, subst, not, None, Some, inl, inr, take, drop, sum, arith, ℕ, List, Block, last_or, free_sizes, used_of, starts_free}
+use Rattle.offset_allocator.proofs.Common.{◌≡◌, ◌∙◌, ◌+◌, ◌-◌, ◌∷◌, ap, sym, subst, not, None, Some, inl, inr, take, drop, sum, arith, ℕ, List, Block, last_or, free_sizes, count_used, starts_free}
 use Rattle.offset_allocator.proofs.Common.{AreCoalesced, length}
 use Rattle.offset_allocator.proofs.Saving.Surveys.{next_back, drop_sums, sums_free, sums_used, joined_apart, not_apart, drop_apart, name_next}
 use Rattle.offset_allocator.specs.Chain.{blocks as blocks_in}
@@ -97,8 +97,8 @@ loop-i-preserved g c =
         )
       ];
       used = elim c.if-is_free-2.branch [
-        | then-is_free-2 w ↦ omega (arith, ap (λ (f : Overview). f.used) w.found-is, i.used, ap used_of passed, (sums_free r.block (drop k bs) (sym used ∙ w.if-is_free-2.true)).1)
-        | else-is_free-2 w ↦ omega (arith, ap (λ (f : Overview). f.used) w.found-is, i.used, ap used_of passed, (sums_used r.block (drop k bs) (sym used ∙ w.if-is_free-2.false)).1)
+        | then-is_free-2 w ↦ omega (arith, ap (λ (f : Overview). f.used) w.found-is, i.used, ap count_used passed, (sums_free r.block (drop k bs) (sym used ∙ w.if-is_free-2.true)).1)
+        | else-is_free-2 w ↦ omega (arith, ap (λ (f : Overview). f.used) w.found-is, i.used, ap count_used passed, (sums_used r.block (drop k bs) (sym used ∙ w.if-is_free-2.false)).1)
       ];
     }
 

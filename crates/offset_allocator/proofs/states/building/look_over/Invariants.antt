@@ -1,4 +1,4 @@
-use Rattle.offset_allocator.proofs.Common.{◌≡◌, ◌-◌, ◌≤◌, None, Some, take, drop, sum, last_or, starts_free, free_sizes, used_of, AreCoalesced, Block, List}
+use Rattle.offset_allocator.proofs.Common.{◌≡◌, ◌-◌, ◌≤◌, None, Some, take, drop, sum, last_or, starts_free, free_sizes, count_used, AreCoalesced, Block, List}
 use Rattle.offset_allocator.specs.Chain.{blocks as blocks_in}
 use Rattle.offset_allocator.proofs.states.building.look_over.Given as goal
 
@@ -11,5 +11,5 @@ invariant-loop-i g l =
       apart : AreCoalesced (drop (l.blocks - l.i) bs);
       first : l.is_free_after ≡ starts_free (drop (l.blocks - l.i) bs);
       free_units : l.found.free_units ≡ sum (free_sizes (drop (l.blocks - l.i) bs));
-      used : l.found.used ≡ used_of (drop (l.blocks - l.i) bs);
+      used : l.found.used ≡ count_used (drop (l.blocks - l.i) bs);
     }

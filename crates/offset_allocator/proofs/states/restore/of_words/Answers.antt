@@ -1,7 +1,7 @@
 use Rattle.offset_allocator.proofs.{Saving.Restored.AreParts, Saving.Restored.text_parts, Saving.Restored.well_built, Saving.Restored.text_shown, Sound.well_unused, Saving.StateWords.freed_same}
 use Rattle.offset_allocator.proofs.{Saving.StateWords.length-words, Saving.StateWords.length-freed, Saving.StateWords.units-freed, Views.ViewChain.blocks-chain, Views.ViewChain.space-chain, Saving.Saved.names_once}
 use Rattle.offset_allocator.proofs.{Saving.Saved.names_free, Saving.Saved.names_ordered}
-use Rattle.offset_allocator.proofs.Common.{◌+◌, ◌*◌, ◌-◌, ◌≤◌, ◌++◌, [], ◌≡◌, ◌∙◌, ap, ap₂, refl, sym, subst, take, drop, get_or, length, arith, ℕ, List, Block, View, AreCoalesced, used_of}
+use Rattle.offset_allocator.proofs.Common.{◌+◌, ◌*◌, ◌-◌, ◌≤◌, ◌++◌, [], ◌≡◌, ◌∙◌, ap, ap₂, refl, sym, subst, take, drop, get_or, length, arith, ℕ, List, Block, View, AreCoalesced, count_used}
 use Rattle.offset_allocator.proofs.Common.{count_named, times, view_of, IsWellFormed, length-take-le, inr}
 use Rattle.offset_allocator.proofs.Saving.Headed.{counted, formed, headed, limited, long, overused, wrong_in}
 use Rattle.offset_allocator.specs.{Saving.Building.AreEach, Saving.Building.AreOrdered, Saving.State.IsHeader, Saving.StateFaults.IsFaultOf}
@@ -50,7 +50,7 @@ returns-then-found-header-clause-refused g c _ v w names admitted asked t =
     let p = parts v hd t in
     let b = rw c.in-Ok-2.is at c.in_ok-wrong.ensures.built in
     let same = blocks-chain _ _ _ _ _ b.0.chain ∙ freed_same _ b.0.all v.blocks (b.0.words ∙ p.first) ∙ ap (λ l. freed l v.blocks) p.second ∙ names_free v w in
-    omega (arith, c.if-found-header.true, b.2, ap used_of same, w.few_used, same_limit v hd t)
+    omega (arith, c.if-found-header.true, b.2, ap count_used same, w.few_used, same_limit v hd t)
 
 pub returns-then-checksum-words-clause-fault : goal.returns-then-checksum-words-clause-fault
 returns-then-checksum-words-clause-fault g c =
@@ -83,7 +83,7 @@ returns-then-found-header-clause-fault g c =
     let hd = subst (λ m. IsHeader m c.args.most_allocs c.args.words.now c.in-Ok.header) c.MAX.ensures c.in-Ok.ensures.header in
     let b = rw c.in-Ok-2.is at c.in_ok-wrong.ensures.built in
     let same = blocks-chain _ _ _ _ _ b.0.chain in
-    let over = overused hd b.0.all b.0.words b.0.whole b.0.each (b.0.once, b.0.ordered) b.0.apart (omega (arith, c.if-found-header.true, b.2, ap used_of same)) in
+    let over = overused hd b.0.all b.0.words b.0.whole b.0.each (b.0.once, b.0.ordered) b.0.apart (omega (arith, c.if-found-header.true, b.2, ap count_used same)) in
     (refl, formed hd, limited hd, inr (headed hd (sym c.checksum.ensures ∙ c.if-checksum-words.false), over))
 
 pub invariant_of-result : goal.invariant_of-result
@@ -122,7 +122,7 @@ invariant_of-result g c =
             b.0.count,
             length-freed (take (7 + 2 * c.in-Ok.header.blocks + c.in-Ok.header.free - (7 + 2 * c.in-Ok.header.blocks)) (drop (7 + 2 * c.in-Ok.header.blocks) c.args.words.now)) b.0.all,
           ))
-          (omega (arith, hd.room, count)) b.0.once b.0.apart (omega (arith, c.if-found-header.false, b.2, ap used_of same)))));
+          (omega (arith, hd.room, count)) b.0.once b.0.apart (omega (arith, c.if-found-header.false, b.2, ap count_used same)))));
       total = sym b.1;
     }
 

@@ -1,7 +1,7 @@
 use Rattle.offset_allocator.proofs.{Reporting.Listing.length-placed}
 use Rattle.offset_allocator.proofs.Common.{◌≡◌, ◌∙◌, length, length-reverse, ap, arith, placed, refl, List, View}
 use Rattle.offset_allocator.specs.Reporting.Listing.{Placed, listing}
-use Rattle.offset_allocator.proofs.at_place.in_the_way_counted.Goals as goal
+use Rattle.offset_allocator.proofs.at_offset.in_the_way_counted.Goals as goal
 
 long : (v : View) → length (listing v) ≡ length v.blocks
 long v = length-reverse (placed 0 v.blocks) ∙ length-placed 0 v.blocks

@@ -1,5 +1,5 @@
 use Rattle.offset_heaps.proofs.Grants.{granted_if_since}
-use Rattle.offset_heaps.proofs.HeapsOf.request.Goals as goal
+use Rattle.offset_heaps.proofs.HeapsOf.serve.Goals as goal
 
 pub returns-in-None-clause-grants : goal.returns-in-None-clause-grants
 returns-in-None-clause-grants g c =

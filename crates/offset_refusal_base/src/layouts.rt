@@ -1,10 +1,9 @@
 //! The layouts of the tables. The choice of one is proved here once, and not anew in each call.
 
-use crate::numbers::Cells;
+use crate::cells::Cells;
 use crate::outcomes::Failure;
-use crate::scripts::script;
 use offset_allocator::{Allocation, ByField, ByNode, Tables};
-use offset_script::{IndexWidth, Script};
+use offset_script::{IndexWidth, Script, parse};
 use std::alloc::Global;
 
 /// A place for a handle. The places take no memory from the allocator of the call.
@@ -26,6 +25,14 @@ pub trait Work {
         kept: &mut [Kept<T::Index>],
         cells: &mut Cells<'_>,
     ) -> Result<(), Failure>;
+}
+
+/// The script of a text. Any fault is `Unfit`, so that `OutOfMemory` comes only from the call after it.
+pub fn script(alloc: Global, text: &[u8]) -> Result<Script, Failure> {
+    match parse(alloc, text) {
+        Ok(script) => Ok(script),
+        Err(_) => Err(Failure::Unfit),
+    }
 }
 
 /// Does the work for the script of a text. Handles have a type for each index width.

@@ -1,7 +1,7 @@
 use Rattle.std.proofs.Common.{◌≡◌, refl}
 use Rattle.offset_heaps.specs.Heaps.{IsNext}
 use Rattle.offset_heaps.proofs.Holders.{filled_if_since, granted_when, made_since, not_filled, not_made, why_first_since, why_since}
-use Rattle.offset_heaps.proofs.HeapsOf.request_tight.Goals as goal
+use Rattle.offset_heaps.proofs.HeapsOf.serve_tight.Goals as goal
 
 pub returns-in-Some-clause-fills : goal.returns-in-Some-clause-fills
 returns-in-Some-clause-fills g c =

@@ -1,8 +1,8 @@
-use Rattle.offset_allocator.proofs.{AtPlace.passed, Linking.Ends.Ended, Linking.Ends.ended, Linking.Ends.last_none, Linking.Places.at_place, Moving.Sliding.walked, Tallies.units-append}
+use Rattle.offset_allocator.proofs.{AtOffset.passed, Linking.Ends.Ended, Linking.Ends.ended, Linking.Ends.last_none, Linking.Places.at_place, Moving.Sliding.walked, Tallies.units-append}
 use Rattle.offset_allocator.proofs.Common.{◌≡◌, ℕ, subst, List, [], ◌∷◌, ◌++◌, Some, None, sym, ap, ◌∙◌, arith, append-nil, append_assoc, Node, Block, blocks, last_or, units, placed}
-use Rattle.offset_allocator.specs.AtPlace.{BeginAfter}
-use Rattle.offset_allocator.proofs.at_place.last_free_to.Goals as goal
-use Rattle.offset_allocator.proofs.at_place.last_free_to.Goals.{then-not-is_used+else-offset, else-not-is_used}
+use Rattle.offset_allocator.specs.AtOffset.{BeginAfter}
+use Rattle.offset_allocator.proofs.at_offset.last_free_to.Goals as goal
+use Rattle.offset_allocator.proofs.at_offset.last_free_to.Goals.{then-not-is_used+else-offset, else-not-is_used}
 
 pub loop-at-init : goal.loop-at-init
 loop-at-init g c = record {

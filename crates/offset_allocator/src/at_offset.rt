@@ -3,8 +3,8 @@
 ghost use Rattle.std.specs.Prelude.{◌≡◌, ◌≢◌, ◌↔◌, ◌+◌, ◌-◌, ◌*◌, ◌<◌, ◌≤◌, ◌++◌, ◌∷◌, ℕ, [], List, None, Some};
 ghost use Rattle.std.specs.Prelude.{false, length, max, min, nat_lt, ◌&&◌, IsSome, IfSome, IsTrue};
 ghost use Rattle.offset_allocator.specs.Accesses.{Costs};
-ghost use Rattle.offset_allocator.specs.AtPlace.{AllocatesAt, BeginAfter, CanGrantAt, HoldsAt, IsFreeAt};
-ghost use Rattle.offset_allocator.specs.AtPlace.{blocks_added, in_the_way};
+ghost use Rattle.offset_allocator.specs.AtOffset.{AllocatesAt, BeginAfter, CanGrantAt, IsFreeAt};
+ghost use Rattle.offset_allocator.specs.AtOffset.{in_the_way};
 ghost use Rattle.offset_allocator.specs.Bins.{IsFoundFrom};
 ghost use Rattle.offset_allocator.specs.Chain.{IsSpace, blocks};
 ghost use Rattle.offset_allocator.specs.Classes.{up};

@@ -1,9 +1,9 @@
-use Rattle.offset_allocator.proofs.{AtPlace.none_serves, AtPlace.serves, Linking.Places.at_place, Linking.Places.placed}
+use Rattle.offset_allocator.proofs.{AtOffset.none_serves, AtOffset.serves, Linking.Places.at_place, Linking.Places.placed}
 use Rattle.offset_allocator.proofs.Common.{◌≡◌, ℕ, ◌+◌, ◌∷◌, ◌++◌, ◌∙◌, None, Some, false≢true, IsChain, HasPlace, List, ap, arith, refl, subst, sym, blocks, is_some, ◌-◌, ◌↔◌, IfSome, Block, Node, Place, View}
 use Rattle.std.specs.Prelude.{IsTrue}
-use Rattle.offset_allocator.specs.AtPlace.{IsFreeAt}
-use Rattle.offset_allocator.proofs.at_place.is_free_at_counted.Goals as goal
-use Rattle.offset_allocator.proofs.at_place.is_free_at_counted.{Goals.After-last_free_to, Given.Over}
+use Rattle.offset_allocator.specs.AtOffset.{IsFreeAt}
+use Rattle.offset_allocator.proofs.at_offset.is_free_at_counted.Goals as goal
+use Rattle.offset_allocator.proofs.at_offset.is_free_at_counted.{Goals.After-last_free_to, Given.Over}
 
 -- a block of the space, in the tables
 held : (g : Over) (c : After-last_free_to g) (p : Place) (x : ℕ) → blocks (g.T.Tables.cells c.allocator.inside.store.tables).chain c.allocator.inside.store.last ≡ p.before ++ (p.block ∷ p.after) → p.block.name ≡ x

@@ -1,6 +1,6 @@
 use Rattle.offset_allocator.proofs.Common.{◌≡◌, ◌+◌, ◌-◌, ◌*◌, ◌≤◌, List, ◌++◌, None, length, Block, blocks, last_or, units, placed}
-use Rattle.offset_allocator.specs.AtPlace.{BeginAfter}
-use Rattle.offset_allocator.proofs.at_place.last_free_to.Given as goal
+use Rattle.offset_allocator.specs.AtOffset.{BeginAfter}
+use Rattle.offset_allocator.proofs.at_offset.last_free_to.Given as goal
 
 -- the blocks in front are left, and none of those in `met` is free and begins at the offset or before
 abbrev pub invariant-loop-at : goal.invariant-loop-at

@@ -1,7 +1,7 @@
 //! The ways in which a call can fail.
 
 ghost use Rattle.std.specs.Prelude.{◌≡◌};
-ghost use Rattle.offset_refusals.specs.declared.outcomes.Failure.TheVariants.{OutOfMemory};
+ghost use Rattle.offset_refusal_base.specs.declared.outcomes.Failure.TheVariants.{OutOfMemory};
 
 use std::alloc::AllocError;
 

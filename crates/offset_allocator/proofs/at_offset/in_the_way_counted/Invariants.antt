@@ -1,7 +1,7 @@
 use Rattle.offset_allocator.proofs.Common.{◌≡◌, ◌+◌, ◌*◌, ◌≤◌, length}
 use Rattle.std.specs.List.{find}
-use Rattle.offset_allocator.specs.{AtPlace.is_in_the_way, Reporting.Listing.listing}
-use Rattle.offset_allocator.proofs.at_place.in_the_way_counted.Given as goal
+use Rattle.offset_allocator.specs.{AtOffset.is_in_the_way, Reporting.Listing.listing}
+use Rattle.offset_allocator.proofs.at_offset.in_the_way_counted.Given as goal
 
 -- no block so far is in the way
 abbrev pub invariant-loop-block : goal.invariant-loop-block

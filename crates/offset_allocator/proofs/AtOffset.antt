@@ -6,7 +6,7 @@ use Rattle.offset_allocator.proofs.{Decided.both_stay, Decided.splits_same, Hold
 use Rattle.offset_allocator.proofs.{Views.Split.well_divided, Views.Split.part_length}
 use Rattle.offset_allocator.proofs.Common.{◌≡◌, ◌↔◌, ℕ, ◌+◌, ◌-◌, ◌<◌, ◌≤◌, ◌⊎◌, inl, inr, Bool, true, false, List, [], ◌∷◌, ◌++◌, length, Option, Some, None, IsSome, IfSome, if◌then◌else◌, refl, sym, ap, ap₂, subst, ◌∙◌, arith, cases_lt, reverse, reverse-append}
 use Rattle.offset_allocator.proofs.Common.{false≢true, AreCoalesced, Block, View, Place, Placed, placed_at, Handle, Grants, IsWellFormed, Splits, bin_at, free_part, down, units, value, placed}
-use Rattle.offset_allocator.specs.{AtPlace.AllocatesAt, AtPlace.BeginAfter, AtPlace.CanGrantAt, AtPlace.GrantsAt, AtPlace.HoldsAt, AtPlace.IsFreeAt, AtPlace.blocks_added, AtPlace.in_the_way, AtPlace.is_in_the_way}
+use Rattle.offset_allocator.specs.{AtOffset.AllocatesAt, AtOffset.BeginAfter, AtOffset.CanGrantAt, AtOffset.GrantsAt, AtOffset.HoldsAt, AtOffset.IsFreeAt, AtOffset.blocks_added, AtOffset.in_the_way, AtOffset.is_in_the_way}
 use Rattle.offset_allocator.specs.{Relations.SameState, Reporting.Listing.listing, Tight.with_first}
 
 -- ---- the walk

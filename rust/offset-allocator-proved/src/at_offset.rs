@@ -1,4 +1,4 @@
-// Printed by rust/erase from crates/offset_allocator/src/at_place.rt: change it there.
+// Printed by rust/erase from crates/offset_allocator/src/at_offset.rt: change it there.
 
 //! Requests at an offset that the caller names, and what is there. It walks the blocks back from the last one,
 //! then grants of one block, by `neighbours` and `bins`.
