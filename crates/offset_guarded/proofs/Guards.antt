@@ -113,6 +113,10 @@ module _ (max n realm : ℕ) (v w : View) (t u : Table) (h : Handle) (is : IsGua
   pub granted_as : (g : Guard) (z : Ticket) → guard v t realm ≡ g → z ≡ ticket → Grants n g (guard w u realm) z
   granted_as g z shows same = subst (λ g. Grants n g (guard w u realm) z) shows (subst (λ z. Grants n (guard v t realm) (guard w u realm) z) (sym same) granted)
 
+-- what holds of a name in the space of the fields holds of it in what they show
+pub shown : (P : ℕ → View → Type 0) (x y : ℕ) (g h : Guard) → g ≡ h → x ≡ y → P x g.space → P y h.space
+shown P x y g h shows same p = subst (λ (k : Guard). P y k.space) shows (subst (λ z. P z g.space) same p)
+
 -- the answer to a request that is granted
 pub can_grant : (blocks units : ℕ) (g h : Guard) → g ≡ h → g.given < last_serial → CanGrant blocks units g.space
     → (true ≡ true → (h.given < last_serial) × CanGrant blocks units h.space) × ((h.given < last_serial) × CanGrant blocks units h.space → true ≡ true)

@@ -11,6 +11,10 @@ pub marked : (max : ℕ) (used : Bool) → 1 ≤ max → eqb (mark_of max used) 
 marked max true l = eq-eqb (max - 1) (max - 1) refl
 marked max false l = ne_eqb max (max - 1) (λ e. omega (arith, e, l))
 
+-- what is read of a list, when one more is at its end
+pub map_push : {A B : Type 0} (f : A → B) (ns ms : List A) (m : A) {ks : List B} {k : B} → ms ≡ ns ++ m ∷ [] → map f ns ≡ ks → f m ≡ k → map f ms ≡ ks ++ k ∷ []
+map_push f ns ms m e l q = let a = map-append f ns (m ∷ []) in cc
+
 module _ {A : Type 0} (max : ℕ) (number : A → ℕ) where
   pub length-nodes_of : (ns : List (Entry A)) → length (nodes_of max number ns) ≡ length ns
   unfolding nodes_of
@@ -126,6 +130,12 @@ module _ {A B : Type 0} (max : ℕ) (number : A → ℕ) (t : Inside A B) {c : C
   within-older x l = below-older max number ns e x l
 
   -- the same as bounds of a read or a write
+  pub bound : (x : ℕ) → x < length c.chain.nodes → x < vec_len t.nodes
+  bound x l = omega (arith, within x l, t.nodes.ok.0)
+
+  pub bound-newer : (x : ℕ) → x < length c.bins.newer → x < vec_len t.nodes
+  bound-newer x l = omega (arith, within-links x l, t.nodes.ok.0)
+
   pub bound-older : (x : ℕ) → x < length c.bins.older → x < vec_len t.nodes
   bound-older x l = omega (arith, within-older x l, t.nodes.ok.0)
 

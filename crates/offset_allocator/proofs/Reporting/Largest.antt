@@ -2,7 +2,7 @@
 use Rattle.offset_allocator.proofs.{Sound.Fields, Sound.AreSound, Sound.shown, Linking.Rows.node_at, Tallies.units-append, Tallies.hit_cases, Tallies.one-same, Tallies.tally_append, Taken.taken_among}
 use Rattle.offset_allocator.proofs.Common.{◌≡◌, ◌≢◌, ℕ, ◌*◌, ◌<◌, ◌≤◌, ◌^◌, true, false, List, [], ◌∷◌, ◌++◌, length, map, max, Some, None, refl, sym, ap, subst, ◌∙◌, inl, inr, arith, append_assoc}
 use Rattle.offset_allocator.proofs.Common.{append-nil, get_or_past, length-append, slice_index, cases_lt, value, down, Block, View, units, times, count_in_bin, bin_at, free_sizes, IsWellFormed}
-use Rattle.offset_allocator.proofs.Common.{IsFoundLast, BinCells, node, IsLinked, first_of, if◌then◌else◌, sum, sum_by-cons, largest, Node, IsRow}
+use Rattle.offset_allocator.proofs.Common.{IsFoundLast, HasBins, BinCells, node, IsLinked, first_of, if◌then◌else◌, sum, sum_by-cons, largest, Node, IsRow}
 use Rattle.offset_allocator.proofs.Classes.{value_small, value_grows, value_down, near_best, down_law}
 use Rattle.offset_allocator.specs.Reporting.Statistics.{greatest}
 
@@ -13,6 +13,9 @@ pub record IsWalked (none : ℕ) (t : BinCells) (name : ℕ) (met whole : List �
   pub chain : IsLinked none t before rest
   pub is : name ≡ first_of none rest
   pub parts : whole ≡ met ++ rest
+
+pub walk_begins : {none : ℕ} {t : BinCells} {ls : List (List ℕ)} {c name : ℕ} → HasBins none t ls → c < 256 → name ≡ slice_index t.heads c → IsWalked none t name [] (bin_at ls c)
+walk_begins {none} {t} {ls} {c} h l e = record { before = none; rest = bin_at ls c; chain = h.links c l; is = e ∙ h.heads c l; parts = refl }
 
 pub walk_next : {none : ℕ} {t : BinCells} {name : ℕ} {met whole : List ℕ} → IsWalked none t name met whole → name ≢ none → (name < length t.newer) × (length met < length whole)
     × IsWalked none t (slice_index t.older name) (met ++ name ∷ []) whole

@@ -1,10 +1,18 @@
-use Rattle.offset_allocator.proofs.Common.{◌∙◌, ap, sym, arith, refl, set_past, first_of, common_steps}
+use Rattle.offset_allocator.proofs.Common.{◌∙◌, ap, sym, arith, refl, set_past, first_of}
 use Rattle.offset_allocator.proofs.{Filing.Binned.head, Filing.Binned.without_head, Filing.Binned.past_none, Filing.Binned.without_newest, Filing.Binned.changed, Filing.Masks.flag_full}
-use Rattle.offset_allocator.proofs.{Filing.Masks.masked_same, Filing.Uses.no_mark, Filing.Uses.second_idle}
+use Rattle.offset_allocator.proofs.{Filing.Masks.masked_same, Filing.Uses.second_idle}
 use Rattle.offset_allocator.proofs.bins.remove_newest.Goals as goal
 
 pub set_newer-requires : goal.set_newer-requires
-set_newer-requires g c = grind (arith, common_steps, second_idle, no_mark)
+set_newer-requires g c =
+    let e = c.set_head.ensures.cells in
+    let made = rw e at (c.if-not-has.ensures.made refl) in
+    record {
+      name = rw e (omega (arith, made, c.shape.ensures.newer));
+      idle = rw e (second_idle c.shape.ensures c.requires.binned.linked c.args.class c.requires.classed c.requires.some (c.number-next.ensures.number ∙ c.requires.older)
+          (λ z. omega (arith, z, made, c.shape.ensures.within, c.shape.ensures.limit)));
+      link = λ z. omega (arith, z, c.no_link.ensures.number, c.shape.ensures.limit);
+    }
 
 pub returns-then-not-has : goal.returns-then-not-has
 returns-then-not-has g c =

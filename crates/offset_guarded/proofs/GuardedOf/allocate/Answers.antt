@@ -1,4 +1,7 @@
-use Rattle.std.proofs.Common.{refl}
+use Rattle.std.proofs.Common.{Some, refl, subst, sym}
+use Rattle.offset_allocator.specs.Relations.{Allocates}
+use Rattle.offset_guarded.specs.declared.ticket.Ticket.{Ticket}
+use Rattle.offset_guarded.specs.Guard.{Guard, handle_in}
 use Rattle.offset_guarded.proofs.Guards.{can_grant, granted_as, issued, same_limit_plain}
 use Rattle.offset_guarded.proofs.GuardedOf.allocate.Goals as goal
 
@@ -14,3 +17,8 @@ pub returns-in-Some-clause-grants : goal.returns-in-Some-clause-grants
 returns-in-Some-clause-grants g c =
     granted_as g.T.Index.NodeIndex.MAX c.args.size c.self.inside.realm c.self.inside.space c.allocate.new.self c.self.inside.serials c.ticket_for.new.serials c.in-Some.handle
     c.self.invariant c.in-Some.ensures.grants c.ticket_for.ensures.cells c.ticket_for.ensures.given _ _ c.self.view_is c.ticket_for.ensures.ticket
+
+pub returns-in-Some-clause-step : goal.returns-in-Some-clause-step
+returns-in-Some-clause-step g c left =
+    subst (λ (t : Ticket). Allocates c.args.size c.args.self.now.space c.allocate.new.self (Some (handle_in t))) (sym c.ticket_for.ensures.ticket)
+    (subst (λ (k : Guard). Allocates c.args.size k.space c.allocate.new.self (Some c.in-Some.handle)) c.self.view_is c.in-Some.ensures.step)

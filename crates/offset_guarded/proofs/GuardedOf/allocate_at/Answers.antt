@@ -1,5 +1,6 @@
-use Rattle.std.proofs.Common.{Some, ap, refl, subst, sym}
-use Rattle.offset_allocator.specs.{AtOffset.AllocatesAt, View.Handle}
+use Rattle.std.proofs.Common.{◌≡◌, Some, refl, subst, sym}
+use Rattle.offset_allocator.specs.AtOffset.{AllocatesAt}
+use Rattle.offset_guarded.specs.declared.ticket.Ticket.{Ticket}
 use Rattle.offset_guarded.specs.Guard.{Guard, handle_in}
 use Rattle.offset_guarded.proofs.Guards.{can_grant_at, granted_as, issued, same_limit_at}
 use Rattle.offset_guarded.proofs.GuardedOf.allocate_at.Goals as goal
@@ -20,5 +21,8 @@ returns-in-Some-clause-grants g c =
 pub returns-in-Some-clause-step : goal.returns-in-Some-clause-step
 returns-in-Some-clause-step g c left =
     let w = c.allocate_at.new.self in
-    subst (λ (h : Handle). AllocatesAt c.args.offset c.args.size c.args.self.now.space w (Some h)) (sym (ap handle_in c.ticket_for.ensures.ticket))
+    subst (λ (t : Ticket). AllocatesAt c.args.offset c.args.size c.args.self.now.space w (Some (handle_in t))) (sym c.ticket_for.ensures.ticket)
     (subst (λ (k : Guard). AllocatesAt c.args.offset c.args.size k.space w (Some c.in-Some.handle)) c.self.view_is c.in-Some.ensures.step)
+
+pub returns-in-Some-clause-begins : goal.returns-in-Some-clause-begins
+returns-in-Some-clause-begins g c = subst (λ (t : Ticket). t.offset ≡ c.args.offset) (sym c.ticket_for.ensures.ticket) c.in-Some.ensures.begins

@@ -1,5 +1,6 @@
-use Rattle.std.proofs.Common.{Some, ap, refl, subst, sym}
-use Rattle.offset_allocator.specs.{Tight.AlignsTight, View.Handle}
+use Rattle.std.proofs.Common.{◌≡◌, ◌%◌, Some, refl, subst, sym}
+use Rattle.offset_allocator.specs.Tight.{AlignsTight}
+use Rattle.offset_guarded.specs.declared.ticket.Ticket.{Ticket}
 use Rattle.offset_guarded.specs.Guard.{Guard, handle_in}
 use Rattle.offset_guarded.proofs.Guards.{can_hold, granted_as, issued, same_limit_tight}
 use Rattle.offset_guarded.proofs.GuardedOf.allocate_tight_aligned.Goals as goal
@@ -20,5 +21,8 @@ returns-in-Some-clause-grants g c =
 pub returns-in-Some-clause-step : goal.returns-in-Some-clause-step
 returns-in-Some-clause-step g c left =
     let w = c.allocate_tight_aligned.new.self in
-    subst (λ (h : Handle). AlignsTight c.args.size c.args.align c.args.self.now.space w (Some h)) (sym (ap handle_in c.ticket_for.ensures.ticket))
+    subst (λ (t : Ticket). AlignsTight c.args.size c.args.align c.args.self.now.space w (Some (handle_in t))) (sym c.ticket_for.ensures.ticket)
     (subst (λ (k : Guard). AlignsTight c.args.size c.args.align k.space w (Some c.in-Some.handle)) c.self.view_is c.in-Some.ensures.step)
+
+pub returns-in-Some-clause-aligned : goal.returns-in-Some-clause-aligned
+returns-in-Some-clause-aligned g c = subst (λ (t : Ticket). t.offset % c.args.align ≡ 0) (sym c.ticket_for.ensures.ticket) c.in-Some.ensures.aligned

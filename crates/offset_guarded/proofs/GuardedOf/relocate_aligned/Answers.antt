@@ -1,4 +1,4 @@
-use Rattle.std.proofs.Common.{◌≡◌, ◌∙◌, ℕ, None, Some, ap, subst, sym}
+use Rattle.std.proofs.Common.{◌≡◌, ◌∙◌, ◌%◌, ℕ, None, Some, ap, subst, sym}
 use Rattle.offset_allocator.specs.Ranges.{size_of}
 use Rattle.offset_allocator.specs.Moving.Relocating.{RelocatesAligned}
 use Rattle.offset_guarded.specs.declared.ticket.Ticket.{Ticket}
@@ -29,3 +29,6 @@ pub returns-in-None-clause-step : goal.returns-in-None-clause-step
 returns-in-None-clause-step g c live left =
     subst (λ (x : ℕ). RelocatesAligned x c.args.align c.args.self.now.space c.relocate_aligned.new.self None) c.in_ok-handle.ensures.range.0
     (subst (λ (k : Guard). RelocatesAligned c.in_ok-handle.handle.name c.args.align k.space c.relocate_aligned.new.self None) c.self.view_is c.in-None.ensures.step)
+
+pub returns-in-Some-clause-aligned : goal.returns-in-Some-clause-aligned
+returns-in-Some-clause-aligned g c = subst (λ (t : Ticket). t.offset % c.args.align ≡ 0) (sym c.ticket_for.ensures.ticket) c.in-Some.ensures.aligned

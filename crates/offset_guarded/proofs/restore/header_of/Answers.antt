@@ -20,3 +20,15 @@ returns-then-checksum-number-clause-wrong c _ g w st =
     let count : c.number-stored.result ≡ length g.serials = c.number-stored.ensures ∙ p.count in
     c.if-checksum-number.true
     (c.checksum.ensures ∙ subst (λ n. checksum_from 0 (numbers (5 + n) bs) ≡ number_at bs (5 + n)) (sym count) (sym p.sum) ∙ sym c.number-2.ensures)
+
+pub returns-clause-header : goal.returns-clause-header
+returns-clause-header c = record {
+  long = omega (arith, c.if-stored-bytes.false, c.if-bytes-lt48.false);
+  form = sym c.number.ensures ∙ c.if-number-ne-FORM.false;
+  version = sym c.number-else-number-ne-FORM.ensures ∙ c.if-number-ne-VERSION.false;
+  count = sym c.number-stored.ensures;
+  given = sym c.number-given.ensures;
+  realm = sym c.number-realm.ensures;
+  fits = c.if-realm.false;
+  sum = sym c.checksum.ensures ∙ c.if-checksum-number.false ∙ c.number-2.ensures;
+}

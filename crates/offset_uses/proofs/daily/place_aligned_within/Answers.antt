@@ -1,4 +1,4 @@
-use Rattle.std.proofs.Common.{◌≡◌, ℕ, true, false, List, Option, Some, None, IsSome, IfSome, sym, subst, ◌∙◌}
+use Rattle.std.proofs.Common.{ℕ, List, Option, Some, None, IfSome, sym, subst, ◌∙◌}
 use Rattle.offset_allocator.specs.Classes.{up, value}
 use Rattle.offset_allocator.specs.Moving.RoomBySteps.{IsLeastCostBy, names_short}
 use Rattle.offset_allocator.specs.Requests.{blocks_needed, units_needed}

@@ -29,3 +29,18 @@ pub returns-clause-names : goal.returns-clause-names
 returns-clause-names g c =
     let i = c.loop-a.invariant in
     rw (c.finish.ensures.all _ i.a, c.finish-2.ensures.all _ i.b, c.finish-3.ensures.all _ i.c, c.finish-4.ensures.all _ i.d) refl
+
+pub loop-a-preserved : goal.loop-a-preserved
+loop-a-preserved g c =
+    let i = c.loop-a.invariant in
+    record {
+      a = c.step.ensures.tail _ i.a;
+      b = c.step-in-loop-a.ensures.tail _ i.b;
+      c = c.step-in-loop-a-2.ensures.tail _ i.c;
+      d = c.step-in-loop-a-3.ensures.tail _ i.d;
+      accesses = omega (arith, i.accesses, c.step.ensures.accesses, c.step-in-loop-a.ensures.accesses, c.step-in-loop-a-2.ensures.accesses, c.step-in-loop-a-3.ensures.accesses);
+    }
+
+pub returns-clause-accesses : goal.returns-clause-accesses
+returns-clause-accesses g c =
+    omega (arith, c.loop-a.invariant.accesses, c.finish.ensures.accesses, c.finish-2.ensures.accesses, c.finish-3.ensures.accesses, c.finish-4.ensures.accesses)

@@ -1,5 +1,6 @@
-use Rattle.offset_allocator.proofs.Common.{◌≡◌, ◌∙◌, ap, Some, Cells, Block, arith, one, count_named, ◌∷◌, List, used_block}
+use Rattle.offset_allocator.proofs.Common.{ℕ, length, ◌≡◌, ◌∙◌, ap, Some, Cells, Block, arith, one, count_named, ◌∷◌, List, used_block}
 use Rattle.offset_allocator.proofs.Saving.Backwards.{backed, first_below, some_below, two_length, row_prepended, marks_prepended, made_prepended}
+use Rattle.offset_allocator.proofs.Linking.Nodes.{length-put}
 use Rattle.offset_allocator.proofs.states.building.prepend.Goals as goal
 
 pub point_back-requires-clause-link : goal.point_back-requires-clause-link
@@ -24,3 +25,15 @@ returns-clause-back g c o bs h first e =
 pub returns-clause-made : goal.returns-clause-made
 returns-clause-made g c n m h = made_prepended _ _ _ _ _ h c.requires.named c.set_block.ensures.cells c.set_used.ensures.cells
     c.point_back.ensures.nodes c.point_back.ensures.cells c.point_back.ensures.bins
+
+pub set_block-requires : goal.set_block-requires
+set_block-requires g c = record { name = c.requires.named; idle = c.requires.idle }
+
+pub set_used-requires : goal.set_used-requires
+set_used-requires g c = omega (arith, c.requires.named, ap (λ (k : Cells). length k.chain.nodes) c.set_block.ensures.cells ∙ length-put (g.T.Tables.cells c.args.tables.now).chain c.args.name _)
+
+pub returns-clause-nodes : goal.returns-clause-nodes
+returns-clause-nodes g c =
+    let count : Cells → ℕ = λ k. length k.chain.nodes in
+    c.point_back.ensures.nodes ∙ ap count c.set_used.ensures.cells ∙ length-put (g.T.Tables.cells c.set_block.new.self).chain c.args.name _ ∙ ap count c.set_block.ensures.cells
+    ∙ length-put (g.T.Tables.cells c.args.tables.now).chain c.args.name _

@@ -1,6 +1,12 @@
-use Rattle.offset_allocator.proofs.Arranging.Entries.{wrote-links}
+use Rattle.offset_allocator.proofs.Arranging.Entries.{bound-newer, even_set, wrote-links}
 use Rattle.offset_allocator.proofs.layouts.by_node.ByNodeTables.set_links.Goals as goal
 
 pub returns-clause-cells : goal.returns-clause-cells
 returns-clause-cells g c =
     wrote-links _ _ _ c.self.view_is c.args.name c.index_mut-node.result.now c.args.newer c.args.older c.requires.name c.index_mut-node.ensures.value c.requires.idle c.requires.link
+
+pub index_mut-node-requires : goal.index_mut-node-requires
+index_mut-node-requires g c = bound-newer g.NI.NodeIndex.MAX g.NI.NodeIndex.number c.self.inside c.self.view_is c.args.name c.requires.name
+
+pub invariant_of-self : goal.invariant_of-self
+invariant_of-self g c = even_set _ _ c.self.invariant c.args.name _
