@@ -1,6 +1,6 @@
 -- After each call the handles that are kept are live, and no two have one name.
 use Rattle.offset_script.proofs.Common.{◌≡◌, ◌≢◌, ℕ, zero, suc, ◌+◌, ◌-◌, ◌<◌, List, [], ◌∷◌, ◌++◌, length, Option, Some, None, IfSome, is_some, slice_set, nat_eq, if◌then◌else◌}
-use Rattle.offset_script.proofs.Common.{refl, sym, ap, subst, subst₂, ◌∙◌, inl, inr, arith, eq-eqb, ne_eqb, cases_eq, View, Handle, SameSpace, kept_name, true, false≢true}
+use Rattle.offset_script.proofs.Common.{refl, sym, ap, subst, subst₂, ◌∙◌, inl, inr, arith, eq-eqb, ne_eqb, cases_eq, View, Handle, SameSpace, kept_name, false≢true}
 use Rattle.offset_allocator.specs.Ranges.{Grants, IsLive, KeepsAll, KeepsOthers, range_of}
 use Rattle.offset_script.specs.Steps.{AreHeld, MayBeKept, Stays}
 use Rattle.offset_script.proofs.Simulation.{kept_push, kept_set, kept_within}
