@@ -83,7 +83,8 @@ abbrev pub IsBelow : ℕ → Option ℕ → Option ℕ → Type 0
 IsBelow limit None kept = kept ≡ None
 IsBelow limit (Some k) kept = ((k < limit) × (kept ≡ Some k)) ⊎ ((limit ≤ k) × (kept ≡ None))
 
--- of two heaps with so many live units the one with fewer, and of equal ones the later; where only one has any, that one
+-- which of two heaps is kept: the one with fewer live units, or the second where both have the same number. A heap in which
+-- nothing is live is not kept
 abbrev pub IsEmptier : Option (ℕ × ℕ) → ℕ → Option ℕ → Option (ℕ × ℕ) → Type 0
 IsEmptier found k None kept = kept ≡ found
 IsEmptier None k (Some n) kept = kept ≡ Some (k, n)
