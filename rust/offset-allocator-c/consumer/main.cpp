@@ -10,7 +10,7 @@ int main() {
     std::unordered_map<int, OffsetAllocator::Allocation> meshes;
     for (int id = 0; id < 300; id++) {
         OffsetAllocator::Allocation range = vertices.allocate(4000 + id);
-        if (range.offset == OffsetAllocator::Allocation::NO_SPACE) {
+        if (range.metadata == OffsetAllocator::Allocation::NO_SPACE) {
             std::printf("mesh %d does not fit, reason %d\n", id, int(vertices.refusal(4000 + id)));
             break;
         }
@@ -25,5 +25,5 @@ int main() {
     }
     OffsetAllocator::Allocation large = vertices.allocate(50000);
     std::printf("%zu meshes, and one of 50000 vertices at %u\n", meshes.size(), large.offset);
-    return large.offset == OffsetAllocator::Allocation::NO_SPACE;
+    return large.metadata == OffsetAllocator::Allocation::NO_SPACE;
 }

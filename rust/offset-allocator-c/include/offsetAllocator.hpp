@@ -43,6 +43,8 @@ static constexpr uint32 NUM_TOP_BINS = 32;
 static constexpr uint32 BINS_PER_LEAF = 8;
 static constexpr uint32 NUM_LEAF_BINS = NUM_TOP_BINS * BINS_PER_LEAF;
 
+// Of a refused request both parts are NO_SPACE. A name, `metadata`, never is; the offset of a range of no units at the end of
+// a space of 4294967295 units is that number too.
 struct Allocation {
     static constexpr uint32 NO_SPACE = 0xffffffff;
 
@@ -98,6 +100,12 @@ struct RoomCost {
     uint32 ranges;
 };
 
+// Where a range would begin; where the request would not be granted, the offset is 0.
+struct Beginning {
+    bool granted;
+    uint32 offset;
+};
+
 enum class Refusal { granted, nodes, tooLarge, space, fragmented, badCall, serials };
 
 struct Move {
@@ -143,6 +151,8 @@ inline Statistics of(const oa_totals &from) {
 inline Progress of(oa_progress from) { return {from.done, from.more, from.units, from.ranges, from.next}; }
 
 inline RoomCost of(oa_room from) { return {from.possible, from.units, from.ranges}; }
+
+inline Beginning of(oa_beginning from) { return {from.granted, from.offset}; }
 
 inline StorageReportFull of(const oa_report_full &from) {
     StorageReportFull report;
@@ -371,14 +381,14 @@ public:
     // Calls seen(Allocation) for each live range, from the first one on or from the last one back, until it returns false.
     // It takes no memory. The next range is asked for before, so seen may free the one that it is called with.
     template <class F> void eachLive(F &&seen) const {
-        for (Allocation at = firstLive(); at.offset != Allocation::NO_SPACE;) {
+        for (Allocation at = firstLive(); at.metadata != Allocation::NO_SPACE;) {
             const Allocation next = liveAfter(at);
             if (!seen(at)) return;
             at = next;
         }
     }
     template <class F> void eachLiveBack(F &&seen) const {
-        for (Allocation at = lastLive(); at.offset != Allocation::NO_SPACE;) {
+        for (Allocation at = lastLive(); at.metadata != Allocation::NO_SPACE;) {
             const Allocation next = liveBefore(at);
             if (!seen(at)) return;
             at = next;
@@ -449,8 +459,8 @@ public:
     Statistics statistics() const { return detail::of(oa_statistics(space)); }
     StorageReport storageReport() const { return detail::of(oa_storage_report(space)); }
     StorageReportFull storageReportFull() const { return detail::of(oa_storage_report_full(space)); }
-    // Allocation::NO_SPACE where allocateAligned would refuse, and where align is 0: align is at least 1
-    uint32 wouldBegin(uint32 size, uint32 align) const { return oa_would_begin(space, size, align); }
+    // Not granted where allocateAligned would refuse, and where align is 0: align is at least 1.
+    Beginning wouldBegin(uint32 size, uint32 align) const { return detail::of(oa_would_begin(space, size, align)); }
     Refusal refusal(uint32 size) const { return Refusal(oa_refusal(space, size)); }
     Refusal refusalAligned(uint32 size, uint32 align) const { return Refusal(oa_refusal_aligned(space, size, align)); }
     Refusal refusalTight(uint32 size) const { return Refusal(oa_refusal_tight(space, size)); }
@@ -640,7 +650,7 @@ public:
     Statistics statistics() const { return detail::of(oag_statistics(space)); }
     StorageReport storageReport() const { return detail::of(oag_storage_report(space)); }
     StorageReportFull storageReportFull() const { return detail::of(oag_storage_report_full(space)); }
-    uint32 wouldBegin(uint32 size, uint32 align) const { return oag_would_begin(space, size, align); }
+    Beginning wouldBegin(uint32 size, uint32 align) const { return detail::of(oag_would_begin(space, size, align)); }
     Refusal refusal(uint32 size) const { return Refusal(oag_refusal(space, size)); }
     Refusal refusalAligned(uint32 size, uint32 align) const { return Refusal(oag_refusal_aligned(space, size, align)); }
     Refusal refusalTight(uint32 size) const { return Refusal(oag_refusal_tight(space, size)); }

@@ -44,8 +44,8 @@ typedef struct oa_allocator oa_allocator;
 
 /* A handle of a granted range. It is two numbers: it may be stored, copied, and compared by both.
  * offset: where the range began when the handle was made. metadata: its name; only this counts in calls.
- * For a refused request both are OA_NO_SPACE. A name never is; an offset is only that of a range of no units at the end
- * of a space of 4294967295 units. */
+ * For a refused request both are OA_NO_SPACE. A name never is, so test metadata; the offset of a range of no units at the
+ * end of a space of 4294967295 units is that number too. */
 typedef struct oa_allocation {
     uint32_t offset;
     uint32_t metadata;
@@ -91,6 +91,12 @@ typedef struct oa_room {
     uint32_t units;
     uint32_t ranges;
 } oa_room;
+
+/* Where a range would begin. granted: whether the request would be granted; if not, offset is 0. */
+typedef struct oa_beginning {
+    bool granted;
+    uint32_t offset;
+} oa_beginning;
 
 /* The free blocks by size class. size: the smallest size of the class (from class 240 on, where no block is, modulo
  * 2 to the power of 32). count: how many free blocks it has. */
@@ -384,9 +390,9 @@ oa_report oa_storage_report(const oa_allocator *space);
 /* The free blocks by class; all 0 for null. Cost: 512 accesses, and 2 a free block. */
 oa_report_full oa_storage_report_full(const oa_allocator *space);
 
-/* Where the range would begin that oa_allocate_aligned would grant now; with an `align` of 1, oa_allocate. OA_NO_SPACE where it
+/* Where the range would begin that oa_allocate_aligned would grant now; with an `align` of 1, oa_allocate. Not granted where it
  * would refuse, and for null or an `align` of 0: align is at least 1. Nothing is taken. At most 4 accesses. */
-uint32_t oa_would_begin(const oa_allocator *space, uint32_t size, uint32_t align);
+oa_beginning oa_would_begin(const oa_allocator *space, uint32_t size, uint32_t align);
 
 /* Why oa_allocate would be refused now. At most 8 accesses. */
 oa_reason oa_refusal(const oa_allocator *space, uint32_t size);
@@ -617,7 +623,7 @@ bool oag_is_spent(const oag_allocator *space);
 uint32_t oag_realm(const oag_allocator *space);
 
 /* As oa_would_begin. */
-uint32_t oag_would_begin(const oag_allocator *space, uint32_t size, uint32_t align);
+oa_beginning oag_would_begin(const oag_allocator *space, uint32_t size, uint32_t align);
 
 /* Why oag_allocate and oag_allocate_aligned would be refused now. */
 oa_reason oag_refusal(const oag_allocator *space, uint32_t size);

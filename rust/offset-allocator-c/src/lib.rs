@@ -110,6 +110,14 @@ pub struct Room {
     ranges: u32,
 }
 
+/// Where a range would begin.
+#[repr(C)]
+#[derive(Default)]
+pub struct Beginning {
+    granted: bool,
+    offset: u32,
+}
+
 /// One size class.
 #[repr(C)]
 #[derive(Clone, Copy)]
@@ -297,6 +305,10 @@ fn progressed(found: Option<Progress>) -> Progressed {
 
 fn room(cost: Option<RoomCost>) -> Room {
     cost.map_or(Room::default(), |cost| Room { possible: true, units: cost.units, ranges: cost.ranges })
+}
+
+fn beginning(offset: Option<u32>) -> Beginning {
+    offset.map_or(Beginning::default(), |offset| Beginning { granted: true, offset })
 }
 
 fn full(space: &Allocator) -> FullReport {
@@ -668,9 +680,9 @@ exports! {
         room(space.room_cost_by(size, align, step))
     } else Room::default();
 
-    fn oa_would_begin([space: &Space], size: u32, align: u32) -> u32 {
-        if align != 0 { space.would_begin(size, align).unwrap_or(NO_SPACE) } else { NO_SPACE }
-    } else NO_SPACE;
+    fn oa_would_begin([space: &Space], size: u32, align: u32) -> Beginning {
+        beginning(if align != 0 { space.would_begin(size, align) } else { None })
+    } else Beginning::default();
 
     fn oa_min_allocator_size(size: u32) -> u32 {
         if size <= 4_026_531_840 { min_allocator_size(size) } else { 0 }
@@ -942,7 +954,7 @@ exports! {
         room(space.allocator().room_cost_by(size, align, step))
     } else Room::default();
 
-    fn oag_would_begin([space: &GuardedSpace], size: u32, align: u32) -> u32 {
-        if align != 0 { space.would_begin(size, align).unwrap_or(NO_SPACE) } else { NO_SPACE }
-    } else NO_SPACE;
+    fn oag_would_begin([space: &GuardedSpace], size: u32, align: u32) -> Beginning {
+        beginning(if align != 0 { space.would_begin(size, align) } else { None })
+    } else Beginning::default();
 }

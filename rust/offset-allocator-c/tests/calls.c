@@ -490,6 +490,23 @@ static void room(void) {
     oa_drop(space);
 }
 
+static bool begins(oa_beginning found, uint32_t offset) { return found.granted && found.offset == offset; }
+
+static bool begins_nowhere(oa_beginning found) { return !found.granted && !found.offset; }
+
+/* In the largest space a range of no units may begin behind all units, at the number that a refused request has for its offset:
+ * a live one there is walked over, and where one is free a request for no units would begin there. */
+static void at_the_last_number(void) {
+    oa_allocator *space = oa_new(OA_NO_SPACE, 8);
+    oa_allocation end = oa_allocate_at(space, OA_NO_SPACE, 0), all = oa_allocate_tight(space, OA_NO_SPACE);
+    CHECK(end.offset == OA_NO_SPACE && end.metadata != OA_NO_SPACE && oa_is_live(space, end) && all.offset == 0);
+    CHECK(same(oa_last_live(space), end) && same(oa_live_after(space, all), end) && same(oa_live_before(space, end), all));
+    CHECK(oa_allocation_offset(space, end) == OA_NO_SPACE && begins_nowhere(oa_would_begin(space, 0, 1)));
+    CHECK(oa_free(space, end) && begins(oa_would_begin(space, 0, 1), OA_NO_SPACE) && begins_nowhere(oa_would_begin(space, 1, 1)));
+    CHECK(oa_allocate(space, 0).offset == OA_NO_SPACE && oa_statistics(space).live_ranges == 2);
+    oa_drop(space);
+}
+
 /* 30 free units, 10 live at 30, 8 live at 40, 52 free: steps of 8 give up 24 of the 30, so 76 are together */
 static void room_by_steps(void) {
     oa_allocator *space = oa_new(100, 16);
@@ -510,13 +527,13 @@ static void room_by_steps(void) {
     CHECK(!data.moves && oa_refusal_aligned(space, 57, 16) == OA_FRAGMENTED);
     CHECK(costs(oa_make_room_by(space, 57, 16, 8, copy, &data), 18, 2) && data.moves == 2 && data.last.offset == 16);
     CHECK(!memcmp(data.bytes + 6, "aaaaaaaaaabbbbbbbb", 18) && oa_allocation_offset(space, a) == 6 && oa_allocation_offset(space, b) == 16);
-    CHECK(oa_block_count(space) == 4 && oa_would_begin(space, 57, 16) == 32 && oa_allocate_aligned(space, 57, 16).offset == 32);
+    CHECK(oa_block_count(space) == 4 && begins(oa_would_begin(space, 57, 16), 32) && oa_allocate_aligned(space, 57, 16).offset == 32);
     /* 57 units at a multiple of 16 are taken, from 32 on: 11 are free behind them, and 8 before */
-    CHECK(oa_would_begin(space, 11, 1) == 89 && oa_would_begin(space, 8, 1) == 24 && oa_would_begin(space, 4, 4) == 24);
-    CHECK(oa_would_begin(space, 12, 1) == OA_NO_SPACE && oa_would_begin(space, 1, 0) == OA_NO_SPACE);
+    CHECK(begins(oa_would_begin(space, 11, 1), 89) && begins(oa_would_begin(space, 8, 1), 24) && begins(oa_would_begin(space, 4, 4), 24));
+    CHECK(begins_nowhere(oa_would_begin(space, 12, 1)) && begins_nowhere(oa_would_begin(space, 1, 0)));
     /* 12 units are in no free block, and 7 in the one from 24 on */
-    CHECK(oa_would_begin(space, 1, 12) == OA_NO_SPACE && oa_would_begin(space, 1, 7) == 28);
-    CHECK(oa_would_begin(space, 5, 4) == 24 && oa_would_begin(space, 6, 4) == 92 && oa_allocate_aligned(space, 6, 4).offset == 92);
+    CHECK(begins_nowhere(oa_would_begin(space, 1, 12)) && begins(oa_would_begin(space, 1, 7), 28));
+    CHECK(begins(oa_would_begin(space, 5, 4), 24) && begins(oa_would_begin(space, 6, 4), 92) && oa_allocate_aligned(space, 6, 4).offset == 92);
     oa_drop(space);
     /* 12 free units, 8 live, 20 free, at the node limit: a run that leaves one block gives back a node; one of the two that an
      * alignment may need is still missing, and by steps of 5 two units stay before the range */
@@ -555,7 +572,7 @@ static void nulls(void) {
     CHECK(is_nothing(oa_allocate_tight(NULL, 1)) && is_nothing(oa_allocate_tight_aligned(NULL, 1, 1)));
     CHECK(oa_refusal_tight(NULL, 0) == OA_BAD_CALL && oa_refusal_tight_aligned(NULL, 0, 1) == OA_BAD_CALL);
     CHECK(!oa_room_cost(NULL, 0).possible && !oa_make_room(NULL, 0, copy, NULL).possible);
-    CHECK(oa_would_begin(NULL, 0, 1) == OA_NO_SPACE && !oa_room_cost_by(NULL, 0, 1, 1).possible && !oa_make_room_by(NULL, 0, 1, 1, copy, NULL).possible);
+    CHECK(begins_nowhere(oa_would_begin(NULL, 0, 1)) && !oa_room_cost_by(NULL, 0, 1, 1).possible && !oa_make_room_by(NULL, 0, 1, 1, copy, NULL).possible);
     CHECK(is_nothing(oa_relocate_aligned(NULL, a, 1)));
     CHECK(!oa_retract(NULL, 0) && is_nothing(oa_relocate(NULL, a)) && is_nothing(oa_last_live(NULL)) && is_nothing(oa_first_live(NULL)));
     CHECK(is_nothing(oa_live_before(NULL, a)) && is_nothing(oa_live_after(NULL, a)));
@@ -703,6 +720,7 @@ int main(void) {
     statistics();
     room();
     room_by_steps();
+    at_the_last_number();
     tight();
     aligned();
     places();

@@ -187,6 +187,26 @@ static void emptyTheEnd() {
     CHECK(!copyInPieces(Move{4, 4, 1, last}, 1, [](Piece) {}));
 }
 
+// In the largest space a range of no units may begin behind all units, at NO_SPACE: a walk meets it, and a request for no units
+// would begin there where it is free.
+static void atTheLastNumber() {
+    const uint32 most = Allocation::NO_SPACE;
+    Allocator a(most, 8);
+    GuardedAllocator g(most, 8, 3);
+    Allocation end = a.allocateAt(most, 0);
+    Ticket last = g.allocateAt(most, 0);
+    const auto offset = [&](Allocation at) { return a.allocationOffset(at); };
+    const auto offsetOf = [&](Ticket at) { return g.offsetOf(at); };
+    walkToTheEnd<Allocation>(a, offset, {most});
+    walkToTheEnd<Ticket>(g, offsetOf, {most});
+    CHECK(a.allocateTight(most).offset == 0 && g.offsetOf(g.allocateTight(most)) == 0);
+    walkToTheEnd<Allocation>(a, offset, {0, most});
+    walkToTheEnd<Ticket>(g, offsetOf, {0, most});
+    CHECK(!a.wouldBegin(0, 1).granted && !g.wouldBegin(0, 1).granted && a.free(end) && g.free(last));
+    CHECK(a.wouldBegin(0, 1).granted && a.wouldBegin(0, 1).offset == most && g.wouldBegin(0, 1).granted && g.wouldBegin(0, 1).offset == most);
+    CHECK(!a.wouldBegin(1, 1).granted && !a.wouldBegin(1, 1).offset && !g.wouldBegin(1, 1).granted && !g.wouldBegin(0, 0).granted);
+}
+
 static void minSize() {
     for (uint32 needed : {0u, 1u, 7u, 8u, 9u, 100u, 118u, 1024u, 529445u, 1048575u, 4026531840u}) {
         uint32 size = minAllocatorSize(needed);
@@ -320,8 +340,8 @@ static void beside() {
     Allocator aligned = a.clone();
     CHECK(aligned.roomCostBy(33, 8, 16).ranges == 1 && !aligned.roomCostBy(33, 8, 0).possible && !aligned.roomCostBy(42, 1, 16).possible);
     made = aligned.makeRoomBy(33, 8, 16, [&](Move m) { to.push_back(m.to); CHECK(m.from == 24 && m.size == 24); });
-    CHECK(made.possible && made.units == 24 && to == std::vector<uint32>{8} && aligned.wouldBegin(33, 8) == 32);
-    CHECK(aligned.allocateAligned(33, 8).offset == 32 && aligned.wouldBegin(33, 8) == Allocation::NO_SPACE && aligned.wouldBegin(1, 0) == Allocation::NO_SPACE);
+    CHECK(made.possible && made.units == 24 && to == std::vector<uint32>{8} && aligned.wouldBegin(33, 8).granted && aligned.wouldBegin(33, 8).offset == 32);
+    CHECK(aligned.allocateAligned(33, 8).offset == 32 && !aligned.wouldBegin(33, 8).granted && !aligned.wouldBegin(1, 0).granted);
     CHECK(!aligned.makeRoomBy(1, 0, 1, [](Move) {}).possible);
     to.clear();
     a.compact([&](Move m) { to.push_back(m.to); CHECK(m.allocation.offset == m.to && m.size == 24 && m.to < m.from); });
@@ -449,7 +469,7 @@ static void tickets() {
     std::vector<uint32> to;
     CHECK(g.makeRoom(1, [&](Move m) { to.push_back(m.to); }).ranges == 0 && to.empty());
     CHECK(g.roomCostBy(1, 1, 1).possible && g.makeRoomBy(1, 1, 1, [&](Move m) { to.push_back(m.to); }).ranges == 0 && to.empty());
-    CHECK(g.wouldBegin(1, 1) == 0 && g.wouldBegin(1, 0) == Allocation::NO_SPACE);
+    CHECK(g.wouldBegin(1, 1).granted && g.wouldBegin(1, 1).offset == 0 && !g.wouldBegin(1, 0).granted);
     // 32 units are three steps of 10, and 2
     GuardedAllocator bit = g.clone();
     CHECK(bit.compactWithin(10, 0, 1, 1, [&](Move m) { CHECK(m.to == 2); }).units == 10 && bit.offsetOf(v) == 2);
@@ -582,6 +602,7 @@ int main() {
     sideTable();
     relocateToAMultiple();
     emptyTheEnd();
+    atTheLastNumber();
     raised();
     states();
     dumps();

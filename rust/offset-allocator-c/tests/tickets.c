@@ -135,11 +135,24 @@ static void room_by_steps(void) {
     CHECK(!oag_make_room_by(space, 700, 0, 256, count, &moves).possible && !oag_make_room_by(space, 700, 64, 0, count, &moves).possible);
     room = oag_make_room_by(space, 700, 64, 256, count, &moves);
     CHECK(room.possible && room.ranges == 1 && moves == 1 && oag_offset_of(space, mesh) == 44);
-    CHECK(oag_would_begin(space, 700, 64) == 192 && oag_offset_of(space, oag_allocate_aligned(space, 700, 64)) == 192);
-    CHECK(oag_would_begin(space, 700, 64) == OA_NO_SPACE && oag_would_begin(space, 1, 0) == OA_NO_SPACE && oag_would_begin(NULL, 1, 1) == OA_NO_SPACE);
+    CHECK(oag_would_begin(space, 700, 64).offset == 192 && oag_offset_of(space, oag_allocate_aligned(space, 700, 64)) == 192);
+    CHECK(!oag_would_begin(space, 700, 64).granted && !oag_would_begin(space, 1, 0).granted && !oag_would_begin(NULL, 1, 1).granted);
     /* 89 units are rounded up to 96, which the 108 from 892 on have */
-    CHECK(oag_would_begin(space, 40, 50) == 900);
+    CHECK(oag_would_begin(space, 40, 50).offset == 900);
     CHECK(!oag_room_cost_by(NULL, 0, 1, 1).possible && !oag_make_room_by(NULL, 0, 1, 1, count, &moves).possible && moves == 1);
+    oag_drop(space);
+}
+
+/* in the largest space a range of no units may begin behind all units, at the number of a missing offset */
+static void at_the_last_number(void) {
+    oag_allocator *space = oag_new(OA_NO_SPACE, 8, 9);
+    oag_ticket end = oag_allocate_at(space, OA_NO_SPACE, 0), all = oag_allocate_tight(space, OA_NO_SPACE);
+    CHECK(end.serial == 1 && oag_is_live(space, end) && oag_offset_of(space, end) == OA_NO_SPACE);
+    CHECK(same(oag_last_live(space), end) && same(oag_live_after(space, all), end) && same(oag_live_before(space, end), all));
+    oa_beginning begins = oag_would_begin(space, 0, 1);
+    CHECK(!begins.granted && !begins.offset && oag_free(space, end));
+    begins = oag_would_begin(space, 0, 1);
+    CHECK(begins.granted && begins.offset == OA_NO_SPACE && !oag_would_begin(space, 1, 1).granted && !oag_would_begin(space, 0, 0).granted);
     oag_drop(space);
 }
 
@@ -392,6 +405,7 @@ int main(void) {
     to_a_multiple();
     by_steps();
     room_by_steps();
+    at_the_last_number();
     from_the_end();
     states();
     tight();
