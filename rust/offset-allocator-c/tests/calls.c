@@ -159,6 +159,9 @@ static void tight(void) {
     /* 30 units from 0 on, and 36 from 64 on */
     CHECK(oa_refusal_tight(space, 37) == OA_FRAGMENTED && oa_refusal_tight(space, 67) == OA_SPACE);
     CHECK(is_nothing(oa_allocate_aligned(space, 36, 64)) && oa_refusal_tight_aligned(space, 36, 64) == OA_GRANTED);
+    /* 31 units at a multiple of 7 would begin at 70, where 30 are left */
+    CHECK(oa_refusal_tight(space, 31) == OA_GRANTED && oa_refusal_tight_aligned(space, 31, 7) == OA_FRAGMENTED);
+    CHECK(oa_refusal_tight_aligned(space, 30, 7) == OA_GRANTED && oa_refusal_tight_aligned(space, 31, 8) == OA_GRANTED);
     CHECK(oa_allocate_tight_aligned(space, 36, 64).offset == 64);
     CHECK(oa_refusal_tight_aligned(space, 31, 2) == OA_SPACE && oa_refusal_tight_aligned(space, 1, 0) == OA_BAD_CALL);
     CHECK(is_nothing(oa_allocate_tight_aligned(space, 1, 0)) && oa_allocate_tight(space, 30).offset == 0);
@@ -327,6 +330,14 @@ static void compacts_within(void) {
     CHECK(oa_allocation_offset(space, b) == 24 && oa_allocation_offset(space, c) == 16 && oa_block_count(space) == 6);
     CHECK(!oa_compact_within(space, 8, 0, 100, 100, copy, &data).ranges && oa_compact_within(space, 1, 0, 100, 100, NULL, NULL).ranges == 3);
     oa_drop(space);
+    /* 10 and 8 units are two ranges: either budget alone stops before the second */
+    static const uint32_t budgets[][3] = {{18, 2, 2}, {17, 2, 1}, {18, 1, 1}, {2, 18, 1}};
+    for (int i = 0; i < 4; i++) {
+        space = oa_new(100, 16);
+        hole = oa_allocate(space, 30), oa_allocate(space, 10), oa_allocate(space, 8);
+        CHECK(oa_free(space, hole) && oa_compact_within(space, 1, 0, budgets[i][0], budgets[i][1], NULL, NULL).ranges == budgets[i][2]);
+        oa_drop(space);
+    }
     /* a free block behind the first range that moves has no node, and needs none where the last block is free */
     space = oa_new(20, 5);
     hole = oa_allocate(space, 6);
@@ -370,15 +381,19 @@ static void places(void) {
     CHECK(same(oa_live_at(space, 40), middle) && same(oa_live_at(space, 59), middle));
     CHECK(is_nothing(oa_live_at(space, 39)) && is_nothing(oa_live_at(space, 60)) && is_nothing(oa_live_at(space, 100)));
     CHECK(oa_is_free_at(space, 0, 40) && !oa_is_free_at(space, 0, 41) && !oa_is_free_at(space, 59, 1) && oa_is_free_at(space, 60, 40));
+    /* no units are free from the start of a free block to its end, and nowhere else */
+    CHECK(oa_is_free_at(space, 0, 0) && oa_is_free_at(space, 40, 0) && !oa_is_free_at(space, 41, 0) && !oa_is_free_at(space, 59, 0));
+    CHECK(oa_is_free_at(space, 60, 0) && oa_is_free_at(space, 100, 0) && !oa_is_free_at(space, 101, 0));
     CHECK(is_nothing(oa_allocate_at(space, 30, 20)) && same(oa_in_the_way(space, 30, 20), middle));
     CHECK(is_nothing(oa_in_the_way(space, 0, 40)) && is_nothing(oa_in_the_way(space, 60, 4294967295u)));
     /* behind the end there is no unit, and nothing in the way */
     CHECK(is_nothing(oa_allocate_at(space, 90, 11)) && is_nothing(oa_in_the_way(space, 90, 11)) && oa_block_count(space) == 3);
     oa_allocation start = oa_allocate_at(space, 0, 10), end = oa_allocate_at(space, 90, 10);
     CHECK(start.offset == 0 && end.offset == 90 && same(oa_in_the_way(space, 0, 100), end) && same(oa_in_the_way(space, 5, 80), middle));
+    CHECK(same(oa_live_at(space, 9), start) && is_nothing(oa_live_at(space, 10)) && same(oa_live_at(space, 50), middle) && same(oa_live_at(space, 90), end));
     CHECK(oa_free(space, oa_live_at(space, 50)) && is_nothing(oa_in_the_way(space, 10, 80)));
     CHECK(oa_allocate_at(space, 10, 80).offset == 10 && oa_free_units(space) == 0 && oa_block_count(space) == 3);
-    CHECK(is_nothing(oa_allocate_at(space, 50, 0)));
+    CHECK(is_nothing(oa_allocate_at(space, 50, 0)) && !oa_is_free_at(space, 50, 0) && !oa_is_free_at(space, 0, 0) && !oa_is_free_at(space, 100, 0));
     oa_drop(space);
     space = oa_new(100, 4);
     middle = oa_allocate_at(space, 25, 50);

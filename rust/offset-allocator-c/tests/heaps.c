@@ -259,6 +259,9 @@ static void filled(void) {
     CHECK(oah_free(heaps, rest) && oah_free(heaps, other.place));
     oah_compact(heaps, note_move_in, NULL);
     CHECK(moved_in[0] == 4 && moved_in[1] == 40 && oah_offset_of(heaps, last) == 21);
+    /* 75 units from 25 on are free in the first heap, and 90 from 40 on in the second, of which 62 are from 68 on */
+    CHECK(oah_refusal_tight(heaps, 62) == OAH_GRANTED && oah_refusal_tight_aligned(heaps, 62, 17) == OAH_GRANTED);
+    CHECK(oah_refusal_tight_aligned(heaps, 63, 68) == OAH_FULL && oah_refusal_tight_aligned(heaps, 62, 68) == OAH_GRANTED);
     /* a heap that is larger than the limits say is read again */
     oa_state *state = oah_write_state(heaps);
     oah_read read = oah_read_state(state, 2, 8);

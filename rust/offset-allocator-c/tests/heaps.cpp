@@ -88,6 +88,26 @@ int main() {
     std::vector<std::pair<uint32, uint32>> slid;
     filled.compact([&](uint32 number, Move it) { slid.push_back({number, it.size}); });
     CHECK(slid.size() == 1 && slid[0].first == 0 && slid[0].second == 16 && filled.offsetOf(behind) == 21);
+    // each heap has its number: 30 units of the first slide by 60, and 20 of the second by 50
+    Heaps sliding({100, 8, 2, 0});
+    Place holes[] = {sliding.allocate(60).place, sliding.allocate(30).place, sliding.allocate(50).place, sliding.allocate(20).place};
+    CHECK(holes[1].heap == 0 && holes[2].heap == 1 && holes[3].heap == 1 && sliding.free(holes[0]) && sliding.free(holes[2]));
+    slid.clear();
+    sliding.compact([&](uint32 number, Move it) { slid.push_back({number, it.size}); CHECK(it.to == 0 && it.from == (number ? 50 : 60)); });
+    CHECK((slid == std::vector<std::pair<uint32, uint32>>{{0, 30}, {1, 20}}));
+    // of 70 units from 30 on, and 80 from 20 on, no 68 begin at a multiple of 33, and 66 do
+    CHECK(sliding.refusalTight(80) == HeapRefusal::granted && sliding.refusalTightAligned(68, 33) == HeapRefusal::full);
+    CHECK(sliding.refusalTightAligned(66, 33) == HeapRefusal::granted && sliding.refusalTightAligned(80, 20) == HeapRefusal::granted);
+    // swapped with an empty one, from either side
+    Heaps gone(std::move(sliding));
+    swap(gone, sliding);
+    CHECK(!gone && sliding && sliding.offsetOf(holes[3]) == 0);
+    swap(gone, sliding);
+    CHECK(gone && !sliding && gone.offsetOf(holes[3]) == 0 && sliding.firstHeap() == Allocation::NO_SPACE);
+    sliding.swap(gone);
+    Heaps none(std::move(gone));
+    swap(none, gone);
+    CHECK(!none && !gone && sliding.isLive(holes[1]));
     // a page at an alignment fits a page
     Heaps pages({1024, 8, 1, 0});
     Granted page = pages.allocateAligned(1024, 256);
@@ -95,8 +115,8 @@ int main() {
     CHECK(pages.allocateAligned(1024, 256).refusal == HeapRefusal::full && pages.allocateAligned(1025, 256).refusal == HeapRefusal::tooLarge);
     // heaps 0 and 1 have 70 and 30 live units of 96: the second is emptied into the first, as far as that has room
     Heaps two({96, 8, 2, 0}, 1);
-    Place first = two.allocate(70).place, gone = two.allocate(26).place, old = two.allocate(20).place, last = two.allocate(10).place;
-    CHECK(two.free(gone) && two.emptiest() == 1 && two.lastLive(1) == last && two.liveBefore(last) == old);
+    Place first = two.allocate(70).place, freed = two.allocate(26).place, old = two.allocate(20).place, last = two.allocate(10).place;
+    CHECK(two.free(freed) && two.emptiest() == 1 && two.lastLive(1) == last && two.liveBefore(last) == old);
     CHECK(two.liveBefore(old).ticket.serial == 0 && two.lastLive(2).ticket.serial == 0);
     Place second = two.relocate(last);
     CHECK(second.heap == 0 && two.offsetOf(second) == 70 && two.isLive(last) && two.free(last));

@@ -141,6 +141,29 @@ int main(void) {
     }
     if (raised < 3 || oah_statistics(growing, 0).unused_nodes != 11) return printf("no heap grew\n"), 1;
     oah_drop(growing);
+    /* units are added to a heap of few nodes, whose last block is free or not: it says so, or nothing has changed */
+    int unextended = 0;
+    for (int i = 0; i < 2; i++) {
+        growing = oah_new((oah_limits){.size = i ? 7 : 200, .max_allocs = 100, .most = 1, .first_allocs = 8}, 1);
+        for (int k = 0; k < 3; k++) oah_allocate(growing, i ? 1 : 10);
+        for (int k = 0; k < 20; k++) {
+            bool done = false;
+            for (left = 0; !done; unextended += !done) {
+                long before = held, next = left;
+                uint32_t units = oah_units_of_heap(growing, 0);
+                done = oah_extend_heap(growing, 0, 1);
+                if (oah_units_of_heap(growing, 0) != units + done || oah_totals(growing).units != units + done) return printf("oah_extend_heap says otherwise\n"), 1;
+                if (!done && held != before) return printf("oah_extend_heap keeps memory\n"), 1;
+                left = done ? -1 : next + 1;
+            }
+            /* without memory this may be refused, and then the next units find fewer nodes */
+            left = i ? 0 : -1;
+            oah_allocate(growing, 1);
+            left = -1;
+        }
+        oah_drop(growing);
+    }
+    if (!unextended) return printf("no heap was refused units\n"), 1;
     /* no other call takes memory */
     left = 0;
     oa_allocation a = oa_allocate(space, 20);

@@ -29,10 +29,10 @@ static std::string read(const std::string &path) {
 }
 
 static void byHand(const std::string &path) {
-    std::FILE *file = std::fopen(path.c_str(), "w");
+    std::FILE *file = std::fopen(path.c_str(), "wb");
     {
         Recorded<GuardedAllocator> heap(file, 1000, 32);
-        heap.name("texture: rock\nalbedo");
+        heap.name("texture: rock\ralbedo");
         Ticket rock = heap.allocate(100);
         Ticket other = heap.allocateAligned(50, 64);
         check(heap->offsetOf(other) == 128, "the second range is aligned");
@@ -56,7 +56,7 @@ static void byHand(const std::string &path) {
         auto step = [&](Move move) { check(move.from == move.to + 48, "a multiple of 16"); };
         check(!moved.compactBy(0, step) && moved.compactBy(16, step), "compacted by 16");
         check(moved->offsetOf(again) == 2 && moved->offsetOf(aligned) == 16, "both moved");
-        Progress progress = moved.compactWithin(1, 0, 1, 1, [](Move) {});
+        Progress progress = moved.compactWithin(1, 0, 7, 1, [](Move) {});
         check(progress.done && progress.ranges == 1 && progress.units == 1 && progress.more && progress.next == 16, "one range of a pass");
         check(!moved.compactWithin(0, 0, 1, 1, [](Move) {}).done && !moved.makeRoomBy(1000, 1, 0, [](Move) {}).possible, "no step");
         check(!moved.makeRoom(1000, [](Move) {}).possible && moved.retract(24) && moved.extend(24), "the end");
@@ -69,7 +69,7 @@ static void byHand(const std::string &path) {
         check(moved->offsetOf(moved.allocateTightAligned(7, 48)) == 48, "at a multiple of 48");
     }
     std::fclose(file);
-    check(read(path) == "space 1000 nodes 32 index 32\n# texture: rock albedo\nalloc 100\nalign 50 64\nshrink 1 40\ngrow 1 60\nalloc 5000\nfree 1\nfree 0\n# refused\n\ncompact\nextend 24\nalloc 1\nalign 32 32\nfree 2\nrelocate 4 16\nfree 5\ncompact 16\ncompact 1 0 1 1\nroom 1000\nretract 24\nextend 24\nrelocate 3\ntight 5\nroom 800 64 16\ntight 800 64\nreset\nalloc 5\nalign 10 12\ntight 7 48\n", "all lines");
+    check(read(path) == "space 1000 nodes 32 index 32\n# texture: rock albedo\nalloc 100\nalign 50 64\nshrink 1 40\ngrow 1 60\nalloc 5000\nfree 1\nfree 0\n# refused\n\ncompact\nextend 24\nalloc 1\nalign 32 32\nfree 2\nrelocate 4 16\nfree 5\ncompact 16\ncompact 1 0 7 1\nroom 1000\nretract 24\nextend 24\nrelocate 3\ntight 5\nroom 800 64 16\ntight 800 64\nreset\nalloc 5\nalign 10 12\ntight 7 48\n", "all lines");
     // no file, and a file that cannot be written
     Recorded<Allocator> none(nullptr, 100, 8);
     check(none.isFailed() && none.allocate(10).offset == 0, "without a file calls go on");
@@ -89,6 +89,20 @@ static std::string of(std::FILE *file, const std::string &path) {
     return read(path);
 }
 
+// 30 free units, 10 live, 8 live, 52 free: either budget alone stops before the second range, and the line has what was passed.
+template <class A> static void budgets(const std::string &path) {
+    struct Row { uint32 units, ranges, moved; };
+    for (Row row : {Row{18, 2, 2}, Row{17, 2, 1}, Row{18, 1, 1}, Row{2, 18, 1}}) {
+        std::FILE *file = std::fopen(path.c_str(), "wb");
+        Recorded<A> heap(file, 100, 16);
+        auto hole = heap.allocate(30);
+        heap.allocate(10), heap.allocate(8);
+        check(heap.free(hole) && heap.compactWithin(1, 0, row.units, row.ranges, [](Move) {}).ranges == row.moved, "as many ranges as the budget allows");
+        check(of(file, path) == "space 100 nodes 16 index 32\nalloc 30\nalloc 10\nalloc 8\nfree 1\ncompact 1 0 " + std::to_string(row.units) + " " + std::to_string(row.ranges) + "\n",
+              "the budget as it was passed");
+    }
+}
+
 template <class A, class H> static void made(A &space, std::vector<H> &held) {
     for (uint32_t size : {10u, 5u, 5u, 5u, 5u}) held.push_back(space.allocate(size));
     space.free(held[3]);
@@ -104,11 +118,11 @@ static void beginnings(const std::string &path) {
         std::vector<Ticket> held;
         made(space, held);
         check(space.save(bytes), "a state");
-        std::FILE *file = std::fopen(path.c_str(), "w");
+        std::FILE *file = std::fopen(path.c_str(), "wb");
         Recorded<GuardedAllocator> copied(file, space.clone());
         check(copied->offsetOf(copied.allocate(5)) == 10 && copied.free(held[2]), "a copy");
         check(of(file, path) == begun + "alloc 5\nfree 2\n", "begins with a copy");
-        file = std::fopen(path.c_str(), "w");
+        file = std::fopen(path.c_str(), "wb");
         Recorded<GuardedAllocator> loaded(file, std::move(GuardedAllocator::load(bytes.data(), bytes.size()).space));
         check(loaded.free(held[4]), "a ticket from before");
         check(of(file, path) == begun + "free 3\n", "begins with a state");
@@ -117,14 +131,14 @@ static void beginnings(const std::string &path) {
         Allocator space(100, 16);
         std::vector<Allocation> held;
         made(space, held);
-        std::FILE *file = std::fopen(path.c_str(), "w");
+        std::FILE *file = std::fopen(path.c_str(), "wb");
         Recorded<Allocator> heap(file, std::move(space));
         heap.name("named");
         heap.frameEnd();
         heap.time(18446744073709551615u);
         heap.thread(3);
         heap.unit(256);
-        heap.mark("a level\nnamed x");
+        heap.mark("a level\rnamed x");
         check(heap.allocateAt(90, 10).offset == 90 && heap.allocateAt(90, 1).offset == Allocation::NO_SPACE, "at a place");
         check(heap.raiseLimit(20) && !heap.raiseLimit(19) && heap->maxAllocs() == 20, "a larger limit");
         check(heap.free(held[0]), "an old handle");
@@ -136,7 +150,7 @@ static void beginnings(const std::string &path) {
     Allocation first = full.allocateAt(0, 10);
     check(full.allocateAt(10, 20).offset == 10 && full.allocateAt(30, 70).offset == Allocation::NO_SPACE, "no node is left");
     full.free(first);
-    std::FILE *file = std::fopen(path.c_str(), "w");
+    std::FILE *file = std::fopen(path.c_str(), "wb");
     Recorded<Allocator> heap(file, std::move(full));
     check(!heap.isFailed(), "it begins");
     check(of(file, path) == "space 100 nodes 4 index 32\nat 0 10\nat 10 90\nshrink 2 20\nfree 1\n#! begun\n", "the oldest first");
@@ -148,13 +162,13 @@ static void beginnings(const std::string &path) {
 
 // Names that ranges get after their grants.
 static void named(const std::string &path) {
-    std::FILE *file = std::fopen(path.c_str(), "w");
+    std::FILE *file = std::fopen(path.c_str(), "wb");
     {
         GuardedAllocator space(100, 16, 7);
         Ticket first = space.allocate(10);
         Recorded<GuardedAllocator> heap(file, std::move(space));
         Ticket second = heap.allocate(20);
-        heap.nameLive(first, "mesh: rock\nand moss");
+        heap.nameLive(first, "mesh: rock\rand moss");
         heap.nameLive(second, "second");
         check(heap.free(second), "freed");
         heap.nameLive(second, "gone");
@@ -164,7 +178,7 @@ static void named(const std::string &path) {
         check(!heap.isFailed(), "named");
     }
     check(of(file, path) == "space 100 nodes 16 index 32\nat 0 100\nshrink 1 10\n#! begun\nalloc 20\n#! name 1 mesh: rock and moss\n#! name 2 second\nfree 2\n#! name 1 rock\n", "the names");
-    file = std::fopen(path.c_str(), "w");
+    file = std::fopen(path.c_str(), "wb");
     {
         Recording recording(file);
         Recorded<GuardedAllocator> meshes(recording, 100, 8);
@@ -178,7 +192,7 @@ static void named(const std::string &path) {
     }
     check(of(file, path) == "heap 0 space 100 nodes 8 index 32\nheap 1 space 50 nodes 8 index 32\nheap 1 alloc 5\nheap 0 alloc 6\n#! thread 2\n#! heap 1 name 1 texture\n"
           "# the next\nheap 1 alloc 7\n", "of one of several");
-    file = std::fopen(path.c_str(), "w");
+    file = std::fopen(path.c_str(), "wb");
     {
         RecordedHeaps heaps(file, {100, 16, 2, 0}, 1);
         Place rock = heaps.allocate(60).place, moss = heaps.allocate(30).place;
@@ -186,7 +200,7 @@ static void named(const std::string &path) {
         Place sky = heaps.allocate(90).place;
         heaps.nameLive(rock, "rock");
         heaps.nameLive(moss, "moss");
-        heaps.nameLive(moss, "moss,\nwet");
+        heaps.nameLive(moss, "moss,\rwet");
         heaps.nameLive(moss, nullptr);
         check(heaps.free(rock), "freed");
         heaps.nameLive(rock, "gone");
@@ -197,10 +211,10 @@ static void named(const std::string &path) {
 }
 
 static void several(const std::string &path) {
-    std::FILE *file = std::fopen(path.c_str(), "w");
+    std::FILE *file = std::fopen(path.c_str(), "wb");
     Recording recording(file);
     Recorded<GuardedAllocator> meshes(recording, 100, 8);
-    recording.name("the\ntextures");
+    recording.name("the\rtextures");
     Recorded<Allocator> textures(recording, 50, 8u);
     Recorded<GuardedAllocator> third(recording, 9, 8, 5);
     check(third->realm() == 5, "the realm");
@@ -209,7 +223,7 @@ static void several(const std::string &path) {
     textures.unit(65536);
     recording.frameEnd();
     recording.time(18446744073709551615u);
-    recording.mark("a\nlevel");
+    recording.mark("a\rlevel");
     textures.frameEnd();
     textures.name("lost");
     check(textures.allocateAligned(1, 0).offset == Allocation::NO_SPACE, "no alignment");
@@ -222,7 +236,7 @@ static void several(const std::string &path) {
 
 // Each heap of one file has the thread of its own calls, also where a line of another is between.
 static void threads(const std::string &path) {
-    std::FILE *file = std::fopen(path.c_str(), "w");
+    std::FILE *file = std::fopen(path.c_str(), "wb");
     Recording *recording = new Recording(file);
     Recorded<GuardedAllocator> meshes(*recording, 100, 8), textures(*recording, 100, 8), sounds(*recording, 100, 8);
     sounds.allocate(1);
@@ -251,7 +265,7 @@ static void threads(const std::string &path) {
 }
 
 static void manyHeaps(const std::string &path) {
-    std::FILE *file = std::fopen(path.c_str(), "w");
+    std::FILE *file = std::fopen(path.c_str(), "wb");
     RecordedHeaps heaps(file, {1000, 16, 2, 1}, 1);
     heaps.name("mesh: rock\nand moss");
     Granted rock = heaps.allocate(300);
@@ -313,7 +327,7 @@ template <class A> static void frees(const A &space, std::vector<bool> &order) {
 
 template <class A, class H> static void randomCalls(uint64_t seed, const std::string &path) {
     uint64_t state = seed;
-    std::FILE *file = std::fopen((path + ".script").c_str(), "w"), *answers = std::fopen((path + ".answers").c_str(), "w");
+    std::FILE *file = std::fopen((path + ".script").c_str(), "wb"), *answers = std::fopen((path + ".answers").c_str(), "wb");
     uint32_t grants = 0;
     std::vector<H> live;
     {
@@ -410,7 +424,7 @@ template <class A, class H> static void randomCalls(uint64_t seed, const std::st
 // Random calls on heaps that may have been there before; a grant is known by its heap and its offset.
 static void randomHeaps(uint64_t seed, const std::string &path) {
     uint64_t state = seed;
-    std::FILE *file = std::fopen((path + ".script").c_str(), "w"), *answers = std::fopen((path + ".answers").c_str(), "w");
+    std::FILE *file = std::fopen((path + ".script").c_str(), "wb"), *answers = std::fopen((path + ".answers").c_str(), "wb");
     HeapLimits limits = {200 + below(state, 2000), 4 + below(state, 30), below(state, 5), below(state, 4)};
     // of some the first heaps are small
     if (seed % 3 == 0) limits.firstSize = 1 + limits.size / 9;
@@ -458,6 +472,8 @@ static void randomHeaps(uint64_t seed, const std::string &path) {
 int main(int, char **arguments) {
     std::string folder = arguments[1];
     byHand(folder + "/hand.script");
+    budgets<Allocator>(folder + "/budgets.script");
+    budgets<GuardedAllocator>(folder + "/budgets.script");
     beginnings(folder + "/begun.script");
     named(folder + "/named.script");
     several(folder + "/several.script");

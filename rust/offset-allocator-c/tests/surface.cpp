@@ -207,6 +207,71 @@ static void atTheLastNumber() {
     CHECK(!a.wouldBegin(1, 1).granted && !a.wouldBegin(1, 1).offset && !g.wouldBegin(1, 1).granted && !g.wouldBegin(0, 0).granted);
 }
 
+// Two ranges of 100 and 50 units behind a hole: either budget alone stops a compaction before the second.
+template <class A> static void budgets() {
+    struct Row { uint32 units, ranges, moved; };
+    for (Row row : {Row{150, 2, 2}, Row{149, 2, 1}, Row{150, 1, 1}, Row{2, 150, 1}}) {
+        A space(1000, 16);
+        auto hole = space.allocate(300);
+        space.allocate(100), space.allocate(50);
+        CHECK(space.free(hole) && space.compactWithin(1, 0, row.units, row.ranges, [](Move) {}).ranges == row.moved);
+    }
+}
+
+// A walk may free each range that it is called with, from either end, and goes on: it meets all four.
+template <class A> static void freesOnTheWay() {
+    for (bool back : {false, true}) {
+        A space(100, 16);
+        for (int i = 0; i < 4; i++) space.allocate(10);
+        std::vector<uint32> sizes;
+        auto seen = [&](decltype(space.allocate(0)) at) {
+            CHECK(space.free(at) && !space.isLive(at));
+            sizes.push_back(space.statistics().liveRanges);
+            return true;
+        };
+        if (back) space.eachLiveBack(seen);
+        else space.eachLive(seen);
+        CHECK(sizes == (std::vector<uint32>{3, 2, 1, 0}) && space.isEmpty());
+    }
+}
+
+// Spaces, or heaps, of 100 and 200 units are swapped, also with an empty one, and two empty ones, from either side.
+template <class A, class F> static void swaps(F make, uint32 (*sizeOf)(const A &)) {
+    A a = make(100), b = make(200), empty = make(100);
+    A(std::move(empty));
+    swap(a, b);
+    CHECK(sizeOf(a) == 200 && sizeOf(b) == 100);
+    swap(a, empty);
+    CHECK(!a && sizeOf(a) == 0 && empty && sizeOf(empty) == 200);
+    swap(a, empty);
+    CHECK(a && sizeOf(a) == 200 && !empty && sizeOf(empty) == 0);
+    empty.swap(b);
+    CHECK(!b && sizeOf(empty) == 100);
+    empty.swap(b);
+    CHECK(!empty && sizeOf(b) == 100);
+    A other = make(100);
+    A(std::move(other));
+    swap(empty, other);
+    CHECK(!empty && !other);
+    swap(a, a);
+    CHECK(a && sizeOf(a) == 200);
+}
+
+static void swapsOfBoth() {
+    swaps<Allocator>([](uint32 size) { return Allocator(size, 16); }, [](const Allocator &of) { return of.size(); });
+    swaps<GuardedAllocator>([](uint32 size) { return GuardedAllocator(size, 16); }, [](const GuardedAllocator &of) { return of.size(); });
+}
+
+// 30 free units, 34 live, 36 free from 64 on: 31 at a multiple of 7 would begin at 70, where 30 are left.
+template <class A> static void tightRefusals() {
+    A space(100, 16);
+    auto first = space.allocate(30);
+    space.allocateTight(34);
+    CHECK(space.free(first));
+    CHECK(space.refusalTight(31) == Refusal::granted && space.refusalTightAligned(31, 7) == Refusal::fragmented);
+    CHECK(space.refusalTightAligned(30, 7) == Refusal::granted && space.refusalTightAligned(31, 8) == Refusal::granted);
+}
+
 static void minSize() {
     for (uint32 needed : {0u, 1u, 7u, 8u, 9u, 100u, 118u, 1024u, 529445u, 1048575u, 4026531840u}) {
         uint32 size = minAllocatorSize(needed);
@@ -292,10 +357,17 @@ static void places() {
     CHECK(mesh.offset == 40 && a.allocationSize(mesh) == 20 && a.liveAt(59) == mesh && a.liveAt(60).offset == Allocation::NO_SPACE);
     CHECK(a.isFreeAt(0, 40) && !a.isFreeAt(0, 41) && a.inTheWay(0, 41) == mesh && a.inTheWay(0, 40).offset == Allocation::NO_SPACE);
     CHECK(a.allocateAt(30, 20).offset == Allocation::NO_SPACE && a.blockCount() == 3);
-    CHECK(a.free(a.liveAt(50)) && a.allocateAt(30, 20).offset == 30);
+    CHECK(a.isFreeAt(40, 0) && !a.isFreeAt(41, 0) && a.isFreeAt(100, 0) && !a.isFreeAt(101, 0));
+    Allocation start = a.allocateAt(0, 10), end = a.allocateAt(90, 10);
+    CHECK(a.liveAt(9) == start && a.liveAt(39) == Allocation() && a.liveAt(50) == mesh && a.liveAt(90) == end && a.inTheWay(0, 100) == end);
+    CHECK(a.free(start) && a.free(end) && a.free(a.liveAt(50)) && a.allocateAt(30, 20).offset == 30);
     GuardedAllocator g(100, 8, 3);
     Ticket range = g.allocateAt(40, 20);
     CHECK(range && g.offsetOf(range) == 40 && g.liveAt(59) == range && !g.liveAt(60) && g.inTheWay(0, 41) == range && !g.inTheWay(0, 40));
+    CHECK(g.isFreeAt(40, 0) && !g.isFreeAt(41, 0) && g.isFreeAt(100, 0) && !g.isFreeAt(101, 0));
+    Ticket before = g.allocateAt(0, 10), behind = g.allocateAt(90, 10);
+    CHECK(g.liveAt(9) == before && !g.liveAt(39) && g.liveAt(50) == range && g.liveAt(90) == behind && g.inTheWay(0, 100) == behind);
+    CHECK(g.free(before) && g.free(behind));
     CHECK(g.isFreeAt(60, 40) && !g.isFreeAt(59, 1) && !g.allocateAt(30, 20) && g.free(g.liveAt(50)) && !g.free(range) && g.allocateAt(30, 20));
     CHECK(!Allocator(0, 1).isFreeAt(0, 0) && Allocator(0, 1).allocateAt(0, 0).offset == Allocation::NO_SPACE);
 }
@@ -603,6 +675,13 @@ int main() {
     relocateToAMultiple();
     emptyTheEnd();
     atTheLastNumber();
+    budgets<Allocator>();
+    budgets<GuardedAllocator>();
+    freesOnTheWay<Allocator>();
+    freesOnTheWay<GuardedAllocator>();
+    swapsOfBoth();
+    tightRefusals<Allocator>();
+    tightRefusals<GuardedAllocator>();
     raised();
     states();
     dumps();

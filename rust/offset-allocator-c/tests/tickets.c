@@ -113,6 +113,14 @@ static void by_steps(void) {
     far = oag_compact_within(space, 256, far.next, 49, 0, NULL, NULL);
     CHECK(far.done && !far.more && far.units == 50 && far.next == 0 && oag_offset_of(space, next) == 144);
     oag_drop(space);
+    /* 100 and 50 units are two ranges: either budget alone stops before the second */
+    static const uint32_t budgets[][3] = {{150, 2, 2}, {149, 2, 1}, {150, 1, 1}, {2, 150, 1}};
+    for (int i = 0; i < 4; i++) {
+        space = oag_new(1000, 16, 9);
+        hole = oag_allocate(space, 300), oag_allocate(space, 100), oag_allocate(space, 50);
+        CHECK(oag_free(space, hole) && oag_compact_within(space, 256, 0, budgets[i][0], budgets[i][1], NULL, NULL).ranges == budgets[i][2]);
+        oag_drop(space);
+    }
     /* no node is left for a free block at the end */
     space = oag_new(20, 4, 9);
     hole = oag_allocate(space, 12);
@@ -253,8 +261,14 @@ static void places(void) {
     CHECK(same(oag_live_at(space, 40), mesh) && same(oag_live_at(space, 59), mesh) && !oag_live_at(space, 60).serial);
     CHECK(oag_is_free_at(space, 0, 40) && !oag_is_free_at(space, 0, 41) && same(oag_in_the_way(space, 0, 41), mesh));
     CHECK(!oag_in_the_way(space, 0, 40).serial && !oag_allocate_at(space, 30, 20).serial && oag_block_count(space) == 3);
+    CHECK(oag_is_free_at(space, 40, 0) && !oag_is_free_at(space, 41, 0) && oag_is_free_at(space, 100, 0) && !oag_is_free_at(space, 101, 0));
+    /* with a range before it and one behind, each unit has its own, and what is between none */
+    oag_ticket start = oag_allocate_at(space, 0, 10), end = oag_allocate_at(space, 90, 10);
+    CHECK(same(oag_live_at(space, 9), start) && !oag_live_at(space, 10).serial && !oag_live_at(space, 39).serial && same(oag_live_at(space, 50), mesh));
+    CHECK(same(oag_live_at(space, 90), end) && !oag_live_at(space, 100).serial && same(oag_in_the_way(space, 0, 100), end));
+    CHECK(oag_free(space, start) && oag_free(space, end));
     CHECK(oag_free(space, oag_live_at(space, 50)) && !oag_free(space, mesh) && oag_is_free_at(space, 0, 100));
-    CHECK(oag_allocate_at(space, 30, 20).serial == 2 && !oag_is_live(space, mesh));
+    CHECK(oag_allocate_at(space, 30, 20).serial == 4 && !oag_is_live(space, mesh));
     CHECK(!oag_allocate_at(NULL, 0, 1).serial && !oag_is_free_at(NULL, 0, 0) && !oag_live_at(NULL, 0).serial && !oag_in_the_way(NULL, 0, 1).serial);
     oag_drop(space);
 }
@@ -271,6 +285,9 @@ static void tight(void) {
     oag_ticket rest = oag_allocate_tight_aligned(space, 68, 32);
     CHECK(oag_offset_of(space, rest) == 32 && !oag_allocate_tight_aligned(space, 1, 0).serial);
     CHECK(oag_refusal_tight_aligned(space, 1, 0) == OA_BAD_CALL);
+    /* 50 units from 32 on: 40 begin at 40, and 40 at a multiple of 48 at 48, where 34 are left */
+    CHECK(oag_free(space, rest) && oag_allocate_at(space, 82, 18).serial);
+    CHECK(oag_refusal_tight(space, 40) == OA_GRANTED && oag_refusal_tight_aligned(space, 40, 20) == OA_GRANTED && oag_refusal_tight_aligned(space, 40, 48) == OA_FRAGMENTED);
     oag_drop(space);
 }
 

@@ -174,6 +174,10 @@ const ROWS: &[(&str, &str)] = &[
     ("why tight 40", "granted"),
     ("why tight 41", "no free block is large enough until the space is compacted"),
     ("why tight 8 8", "granted"),
+    // of 40 units at 60, 36 are from 64 on
+    ("why tight 37", "granted"),
+    ("why tight 37 64", "no free block is large enough until the space is compacted"),
+    ("why tight 36 64", "granted"),
     ("where 10", "offset 0"),
     ("where 11", "offset 60"),
     ("where 40 1", "offset 60"),
@@ -245,6 +249,29 @@ const ROWS: &[(&str, &str)] = &[
     ("relocate 10 16", "none"),
     ("relocate 8 4", "gone"),
 ];
+
+// 30 free units, 10 live, 8 live, 52 free: either budget alone stops before the second range.
+#[test]
+fn a_compaction_has_two_budgets() {
+    for (line, answer) in [("18 2", "ranges 2 units 18 end"), ("17 2", "ranges 1 units 10 next 40"), ("18 1", "ranges 1 units 10 next 40"), ("2 18", "ranges 1 units 10 next 40")] {
+        let text = format!("space 100 nodes 16 index 32\nalloc 30\nalloc 10\nalloc 8\nfree 1\ncompact 1 0 {line}\n");
+        assert!(ours(text.as_bytes()).unwrap().ends_with(format!("freed\n{answer}\n").as_bytes()), "{line}");
+    }
+    let found = offset_allocator_recorded::call(b"compact 1 2 3 4");
+    assert_eq!(found, Some(offset_allocator_recorded::Call::CompactWithin(1, 2, 3, 4)));
+}
+
+// Each number is one from which a pass may go on, and the word for its end is none of them.
+#[test]
+fn a_pass_ends_or_goes_on() {
+    let call = offset_allocator_recorded::Call::CompactWithin(1, 0, 1, 1);
+    for (next, end) in [(None, "end"), (Some(0), "next 0"), (Some(u32::MAX), "next 4294967295")] {
+        let reply = offset_allocator_recorded::Reply::CompactedWithin(next, offset_calls::memory::Vec::new(Global));
+        let mut out = offset_calls::memory::Vec::new(Global);
+        offset_allocator_recorded::put_reply(&mut out, call, &reply).unwrap();
+        assert_eq!(out.as_slice(), format!("ranges 0 units 0 {end}\n").as_bytes());
+    }
+}
 
 #[test]
 fn a_compaction_by_steps_can_be_refused() {

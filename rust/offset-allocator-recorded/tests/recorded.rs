@@ -79,7 +79,7 @@ fn each_call_is_a_line() {
     assert!(heap.compact_by(16, |it| moved.push((it.from, it.to))));
     assert_eq!(moved, [(50, 2), (64, 16)]);
     // again 2 to 3, aligned 16 to 48
-    let pass = heap.compact_within(1, 0, 1, 1, |_| ()).unwrap();
+    let pass = heap.compact_within(1, 0, 7, 1, |_| ()).unwrap();
     assert_eq!((pass.ranges, pass.units, pass.next), (1, 1, Some(16)));
     assert!(heap.make_room(1000, |_| ()).is_none());
     assert!(heap.retract(24) && heap.extend(24));
@@ -97,7 +97,7 @@ fn each_call_is_a_line() {
     assert!(out.is_ok());
     let expected = "space 1000 nodes 32 index 16\n# texture: rock_albedo\nalloc 100\nalign 50 64\nshrink 1 40\ngrow 1 60\n\
         alloc 5000\nfree 1\nextend 24\ncompact\n# two lines \nalloc 1\nalign 32 32\nfree 2\nrelocate 4 16\nfree 5\ncompact 16\n\
-        compact 1 0 1 1\nroom 1000\nretract 24\nextend 24\nrelocate 3\ntight 5\nroom 800 64 16\ntight 800 64\nfree 3\nreset\n";
+        compact 1 0 7 1\nroom 1000\nretract 24\nextend 24\nrelocate 3\ntight 5\nroom 800 64 16\ntight 800 64\nfree 3\nreset\n";
     assert_eq!(seen.text(), expected);
     assert_eq!(answers(expected), ["grant 1 at 0", "grant 2 at 128", "shrunk", "grown", "none", "freed", "extended", "compacted",
         "grant 3 at 50", "grant 4 at 64", "freed", "grant 5 at 0", "freed", "compacted", "ranges 1 units 1 next 16",
@@ -120,11 +120,37 @@ fn tickets_that_are_not_live_have_no_number() {
     assert_eq!(heap.relocate_aligned(second, 4), None);
     assert_eq!(heap.relocate(first), None);
     assert!(heap.compact_by(4, |_| ()));
+    assert_eq!(heap.compact_within(4, 5, 6, 7, |_| ()), Some(Progress { units: 0, ranges: 0, next: None }));
+    heap.mark("a\rlevel\n");
+    heap.name_live(second, "second\r\nrange");
     assert_eq!(heap.grow_in_place(second, 20), Some(true));
     assert!(heap.free(second));
-    let text = "space 1000 nodes 32 index 32\nalloc 10\nfree 1\nalloc 10\nfree 0\nshrink 0 1\ngrow 0 20\nrelocate 0 4\nrelocate 2 4\nrelocate 0\ncompact 4\ngrow 2 20\nfree 2\n";
+    let text = "space 1000 nodes 32 index 32\nalloc 10\nfree 1\nalloc 10\nfree 0\nshrink 0 1\ngrow 0 20\nrelocate 0 4\nrelocate 2 4\nrelocate 0\ncompact 4\n\
+        compact 4 5 6 7\n#! mark a level \n#! name 2 second  range\ngrow 2 20\nfree 2\n";
     assert_eq!(seen.text(), text);
-    assert_eq!(answers(text), ["grant 1 at 0", "freed", "grant 2 at 0", "gone", "gone", "gone", "gone", "none", "gone", "compacted", "grown", "freed"]);
+    assert_eq!(answers(text), ["grant 1 at 0", "freed", "grant 2 at 0", "gone", "gone", "gone", "gone", "none", "gone", "compacted", "ranges 0 units 0 end", "grown", "freed"]);
+}
+
+// 30 free units, 10 live, 8 live, 52 free: either budget alone stops before the second range, and the recording has what was passed.
+#[test]
+fn budgets_are_those_that_were_passed() {
+    for (units, ranges, moved) in [(18, 2, 2), (17, 2, 1), (18, 1, 1), (2, 18, 1)] {
+        let (seen, other) = (Seen::default(), Seen::default());
+        let mut heap = Recorded::new(Allocator::<u32>::with_max_allocs(Global, 100, 16).unwrap(), seen.clone()).unwrap();
+        let mut tickets = Recorded::guarded(Guarded::<u32>::with_max_allocs(Global, 100, 16, 7).unwrap(), other.clone()).unwrap();
+        let (hole, ticket) = (heap.allocate(30).unwrap(), tickets.allocate(30).unwrap());
+        for size in [10, 8] {
+            assert!(heap.allocate(size).is_some() && tickets.allocate(size).is_some());
+        }
+        heap.free(hole);
+        assert!(tickets.free(ticket));
+        assert_eq!(heap.compact_within(1, 0, units, ranges, |_| ()).unwrap().ranges, moved);
+        assert_eq!(tickets.compact_within(1, 0, units, ranges, |_| ()).unwrap().ranges, moved);
+        let text = format!("space 100 nodes 16 index 32\nalloc 30\nalloc 10\nalloc 8\nfree 1\ncompact 1 0 {units} {ranges}\n");
+        assert_eq!((seen.text(), other.text()), (text.clone(), text.clone()));
+        let end = if moved == 2 { "ranges 2 units 18 end" } else { "ranges 1 units 10 next 40" };
+        assert_eq!(answers(&text).last().unwrap(), end);
+    }
 }
 
 #[test]
