@@ -147,13 +147,21 @@ static void beginnings(const std::string &path) {
     }
     // as many blocks as may be, of which only the first is free
     Allocator full(100, 4);
-    Allocation first = full.allocateAt(0, 10);
-    check(full.allocateAt(10, 20).offset == 10 && full.allocateAt(30, 70).offset == Allocation::NO_SPACE, "no node is left");
+    Allocation first = full.allocateAt(0, 10), second = full.allocateAt(10, 20);
+    check(second.offset == 10 && full.allocateAt(30, 70).offset == Allocation::NO_SPACE, "no node is left");
     full.free(first);
     std::FILE *file = std::fopen(path.c_str(), "wb");
     Recorded<Allocator> heap(file, std::move(full));
-    check(!heap.isFailed(), "it begins");
-    check(of(file, path) == "space 100 nodes 4 index 32\nat 0 10\nat 10 90\nshrink 2 20\nfree 1\n#! begun\n", "the oldest first");
+    check(!heap.isFailed() && heap.free(second), "it begins");
+    check(of(file, path) == "space 100 nodes 4 index 32\nat 0 10\nat 10 90\nshrink 2 20\nfree 1\n#! begun\nfree 2\n", "the oldest first");
+    // as many, of which only the first is free: from the end on
+    Allocator last(100, 4);
+    Allocation end = last.allocateAt(30, 70), before = last.allocateAt(10, 20);
+    check(end.offset == 30 && before.offset == 10 && last.isFull(), "no node is left");
+    file = std::fopen(path.c_str(), "wb");
+    Recorded<Allocator> lower(file, std::move(last));
+    check(!lower.isFailed() && lower.free(before), "it begins");
+    check(of(file, path) == "space 100 nodes 4 index 32\nat 30 70\nat 10 20\n#! begun\nfree 2\n", "the last first");
     // a range of no units at the end of all units there can be
     Allocator empty(4294967295u, 100);
     check(empty.allocateTight(4294967295u).offset == 0 && !empty.extend(1), "all units");
