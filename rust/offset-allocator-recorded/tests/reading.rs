@@ -1,6 +1,7 @@
 //! That recordings of the commands of scripts are read and played as the proved program does, and the other lines as what
 //! they say.
 
+use offset_allocator_heaps::Refusal;
 use offset_allocator_recorded::{play, Global, RunFault};
 use offset_script::{run, FromRead, IntoWrite};
 
@@ -259,6 +260,25 @@ fn a_compaction_has_two_budgets() {
     }
     let found = offset_allocator_recorded::call(b"compact 1 2 3 4");
     assert_eq!(found, Some(offset_allocator_recorded::Call::CompactWithin(1, 2, 3, 4)));
+}
+
+// A call on many heaps that changes none of them has its units, its alignment and its reason.
+#[test]
+fn refusals_of_many_heaps_are_read() {
+    use offset_allocator_recorded::{Line, NoHeap, Reader};
+    let rows = [
+        ("alloc 7 full", NoHeap::Refused(7, 1, Refusal::Full)),
+        ("align 7 12 larger", NoHeap::Refused(7, 12, Refusal::TooLarge)),
+        ("tight 7 memory", NoHeap::Refused(7, 1, Refusal::Memory)),
+        ("tight 7 12 empty", NoHeap::Refused(7, 12, Refusal::Empty)),
+        ("relocate 7 12", NoHeap::Kept(7, 12)),
+        ("relocate", NoHeap::Gone),
+        ("free", NoHeap::Gone),
+    ];
+    let mut reader = Reader::new();
+    for (line, found) in rows {
+        assert_eq!(reader.take(format!("none {line}").as_bytes()), Ok(Line::NoHeap(found)), "{line}");
+    }
 }
 
 // Each number is one from which a pass may go on, and the word for its end is none of them.
