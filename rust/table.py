@@ -17,7 +17,8 @@ CRATES = [
     ("offset_pictures", "offset-pictures", set()),
 ]
 
-# In the root file this replaces `#![tactic(auto)]`.
+# In the root file this replaces `#![tactic(auto)]`. Each crate has the names of others that its public calls name, so that a
+# program needs no other dependency to say them.
 ROOTS = {
     "offset_allocator": """#![doc = include_str!("../README.md")]
 #![no_std]
@@ -41,6 +42,7 @@ mod traits;
 
 pub use offset_allocator_memory as memory;
 pub use offset_allocator_memory::{AllocError, Global};
+pub use offset_allocator::{Refusal as SpaceRefusal, StateFaultKind as SpaceFaultKind, ext, small_float};
 """,
     "offset_heaps": """#![doc = include_str!("../README.md")]
 #![no_std]
@@ -52,7 +54,7 @@ mod traits;
 
 pub use offset_allocator_memory as memory;
 pub use offset_allocator_memory::{AllocError, Global};
-pub use offset_guarded::Ticket;
+pub use offset_guarded::{Refusal as TicketRefusal, StateFaultKind as TicketFaultKind, ext, small_float};
 """,
     "offset_script": """#![doc = include_str!("../README.md")]
 #![forbid(unsafe_code)]
@@ -60,6 +62,8 @@ pub use offset_guarded::Ticket;
 
 pub use offset_allocator_memory as memory;
 pub use offset_allocator_memory::{AllocError, Global};
+pub use offset_allocator::{Allocation, Allocator, AllocatorOf, ByField, ByNode, NodeIndex, NodeIndexNonMax};
+pub use offset_allocator::{StorageReport, StorageReportFull, StorageReportFullRegion, Tables};
 """,
     "offset_calls": """#![doc = include_str!("../README.md")]
 #![forbid(unsafe_code)]
@@ -68,6 +72,10 @@ pub use offset_allocator_memory::{AllocError, Global};
 
 pub use offset_allocator_memory as memory;
 pub use offset_allocator_memory::{AllocError, Global};
+pub use offset_allocator::{Allocation, Allocator, AllocatorOf, ByField, ByNode, NodeIndex, NodeIndexNonMax};
+pub use offset_allocator::{Refusal, RoomCost, StorageReport, Tables};
+pub use offset_guarded::{Guarded, GuardedOf, Ticket};
+pub use offset_script::{Answer, Command, FullRow, PlayerOf};
 """,
     "offset_pictures": """#![doc = include_str!("../README.md")]
 #![forbid(unsafe_code)]
@@ -75,6 +83,9 @@ pub use offset_allocator_memory::{AllocError, Global};
 
 pub use offset_allocator_memory as memory;
 pub use offset_allocator_memory::{AllocError, Global};
+pub use offset_allocator::{AllocatorOf, ByField, ByNode, Refusal, StorageReport, Tables};
+pub use offset_script::{Answer, Command, FromRead, IndexWidth, IntoWrite, RunFault, Script, ScriptFault, Sink, Source};
+pub use offset_script::{TextBuffer, parse};
 """,
 }
 

@@ -38,9 +38,11 @@ mod ticket;
 mod values;
 mod walks;
 
-pub use offset_allocator::ReadError;
 use offset_allocator::laws::is_well_formed;
-use offset_allocator::{Allocation, AllocatorOf, ByNode, NodeIndex, Tables};
+pub use offset_allocator::{Allocation, Allocator, AllocatorOf, Block, Blocks, BlocksOf, ByField, ByNode};
+pub use offset_allocator::{Move, MovePieces, NodeIndex, NodeIndexNonMax, Piece, Progress, ReadError};
+pub use offset_allocator::{RoomCost, Scale, Statistics, StorageReport, StorageReportFull};
+pub use offset_allocator::{StorageReportFullRegion, Tables, json_of, vma_json_of};
 pub use refusal::Refusal;
 use serials::Serials;
 pub use state::{StateFault, StateFaultKind};
