@@ -17,11 +17,13 @@ mod tape;
 
 pub use drawing::{course, draw, draw_heap, draw_one, Drawn};
 pub use many::{Part, Recording, RecordedHeaps};
-pub use offset_allocator_guarded::{Beside, GuardedOf, Ticket};
-pub use offset_allocator_heaps::HeapsOf;
-pub use offset_allocator_proved::{AllocError, Allocation, AllocatorOf, Global, Move, Progress, RoomCost, Tables};
-pub use offset_calls::{Call, CallPlayer, Reply};
-pub use offset_script::{Command, IndexWidth, RunFault};
+pub use offset_allocator_guarded::{Beside, Guarded, GuardedOf, Ticket};
+pub use offset_allocator_heaps::{Granted, Heaps, HeapsOf, Limits, Place, Refusal as HeapRefusal};
+pub use offset_allocator_proved::{AllocError, Allocation, Allocator, AllocatorOf, ByField, ByNode, Global};
+pub use offset_allocator_proved::{Move, Progress, Refusal, RoomCost, Tables};
+pub use offset_calls::{Answer, Call, CallPlayer, LiveRange, Moved, Reply};
+pub use offset_pictures::Course;
+pub use offset_script::{Command, IndexWidth, RunFault, ScriptFault};
 pub use playing::{play, put_reply};
 pub use reading::{Header, HeapLine, Line, Lines, NoHeap, Reader, call};
 use reading::word_of;
