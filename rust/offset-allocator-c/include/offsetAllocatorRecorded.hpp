@@ -1,7 +1,7 @@
 // An allocator whose calls are written to a file, line by line as they happen: a recording, which the page of the repository
 // draws and steps through, and play-recording plays again.
 //
-//     std::FILE *file = std::fopen("heap.script", "w");
+//     std::FILE *file = std::fopen("heap.script", "wb");    // "w" would write CR LF on Windows, which no reader takes
 //     OffsetAllocator::Recorded<OffsetAllocator::GuardedAllocator> heap(file, 1 << 20, 4096);
 //     heap.name("texture: rock_albedo");
 //     OffsetAllocator::Ticket rock = heap.allocate(4096);

@@ -240,7 +240,7 @@ oa_room oah_make_room(oah_heaps *heaps, uint32_t number, uint32_t size, void (*m
 bool oah_give_up(oah_heaps *heaps, uint32_t number);
 
 /* Drops the last empty heap, by number, if more than `keep` are empty, and returns its number: drop its buffer. OA_NO_SPACE
- * where at most `keep` are empty, or for null. No place loses its range. Cost: each number is read once. */
+ * where at most `keep` are empty, or for null. No place loses its range. Cost: some steps for each bit of the numbers. */
 uint32_t oah_drop_empty(oah_heaps *heaps, uint32_t keep);
 
 /* Drops the heap of a number, if it is empty. True if it did: then drop its buffer. */
