@@ -302,6 +302,9 @@ ALWAYS = {
     "F.IsAlwaysCallable moved.old": "a closure of Rust may be called at any time; if it panics, that is its own panic",
 }
 
+# What documentation says of a law that is left out, since it only states what is proved.
+LAW = "the law `{}` of the proved sources"
+
 # Traits whose conditions are not tested: only the library calls their methods, and it is proved that it meets them.
 # Whoever else calls one meets the tests of Rust's own indices.
 INSIDE = {"Listener", "Tables"}
