@@ -177,7 +177,7 @@ pub fn all(only: Option<&str>) -> Vec<Workload> {
     const LARGEST: u32 = i32::MAX as u32;
     let mut found = Vec::new();
     let mut add = |name: &str, width, space, nodes, work: &dyn Fn() -> Work| {
-        if only.map_or(true, |only| only == name) {
+        if only.is_none_or(|only| only == name) {
             found.push(Workload { name: name.to_string(), width, space, nodes, work: work() });
         }
     };

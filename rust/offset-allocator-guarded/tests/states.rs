@@ -154,7 +154,7 @@ fn fault_of(numbers: &[u64], live: &[u32], length: usize) -> Option<(usize, Stat
     if let Some(place) = serials.iter().position(|it| *it > numbers[3]) {
         return Some((40 + 8 * place, StateFaultKind::Serial));
     }
-    let mut bare: Vec<u32> = live.iter().copied().filter(|it| !serials.get(*it as usize).is_some_and(|it| *it > 0)).collect();
+    let mut bare: Vec<u32> = live.iter().copied().filter(|it| serials.get(*it as usize).is_none_or(|it| *it == 0)).collect();
     bare.sort_unstable();
     let name = *bare.first()? as usize;
     Some((if name < serials.len() { 40 + 8 * name } else { 16 }, StateFaultKind::Serial))

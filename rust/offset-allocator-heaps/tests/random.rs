@@ -379,7 +379,7 @@ impl<T: Tables> Run<T> {
         for &(number, from, to, size) in moves {
             let heap = self.model[number as usize].as_mut().unwrap();
             assert!(to < from && heap.ranges.remove(&from) == Some(size));
-            assert!(heap.ranges.range(..from).next_back().map_or(true, |(&at, &units)| at + units <= to));
+            assert!(heap.ranges.range(..from).next_back().is_none_or(|(&at, &units)| at + units <= to));
             heap.ranges.insert(to, size);
             let moved = *self.live.iter().find(|(key, range)| key.0 == number && range.0 == from).unwrap().0;
             self.live.insert(moved, (to, size));

@@ -43,7 +43,7 @@ impl Pool {
 
     /// Whether no more than `BUDGET` vertices had to move for a mesh, and were moved.
     fn make_room(&mut self, vertices: u32) -> bool {
-        if !self.space.room_cost(vertices).is_some_and(|cost| cost.units <= BUDGET) {
+        if self.space.room_cost(vertices).is_none_or(|cost| cost.units > BUDGET) {
             return false;
         }
         self.space.make_room(vertices, |moved| {

@@ -278,7 +278,7 @@ fn numbers(random: &mut Random) {
         assert!(down <= up && up <= down + 1 && up <= 240);
         expect(result(|| float_to_uint(n)), n < 256, "float_value must be below 256");
         let least = expect(result(|| min_allocator_size(n)), n <= 4_026_531_840, "needed_object_size must be at most 4026531840");
-        assert!(least.map_or(true, |least| least >= n));
+        assert!(least.is_none_or(|least| least >= n));
         assert_eq!(NonMaxU32::new(n).map(NonMaxU32::get), Some(n).filter(|n| *n < u32::MAX));
         let narrow = n as u16;
         assert_eq!(NonMaxU16::new(narrow).map(NonMaxU16::get), Some(narrow).filter(|n| *n < u16::MAX));

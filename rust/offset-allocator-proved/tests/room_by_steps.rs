@@ -241,7 +241,7 @@ fn try_one<T: Tables<Index = u32>>(random: &mut Random, seen: &mut Seen) {
             assert_eq!(found, space.room_cost(size));
         }
         let by_one = searched(&before, request, 1);
-        seen.dearer += u64::from(by_one.is_some_and(|it| wanted.map_or(true, |at| (it.0, it.1) < (at.0, at.1))));
+        seen.dearer += u64::from(by_one.is_some_and(|it| wanted.is_none_or(|at| (it.0, it.1) < (at.0, at.1))));
         let is_large = |it: &Part| it.name.is_none() && u64::from(it.size) >= request.units();
         seen.without_names += u64::from(wanted.is_none() && before.iter().any(is_large));
         try_to_make(space.try_clone(Global).unwrap(), request, step, wanted, seen);

@@ -130,7 +130,7 @@ fn try_call<T: Tables<Index = u32>>(space: &mut AllocatorOf<T>, step: u32, from:
             seen.kept += u64::from(none(&after) > 1 && none(&after) >= none(&before));
         }
     }
-    if told.is_empty() && found.map_or(true, |it| it.ranges == 0) {
+    if told.is_empty() && found.is_none_or(|it| it.ranges == 0) {
         assert_eq!(&*space.write_state(Global).unwrap(), &*bytes);
     }
     found

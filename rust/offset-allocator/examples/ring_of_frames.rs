@@ -38,9 +38,9 @@ fn main() {
             let end = range.offset + bytes;
             assert!(end <= BUFFER);
             let before = live.range(..range.offset).next_back();
-            assert!(before.map_or(true, |(_, (end, _))| *end <= range.offset), "in the range before");
+            assert!(before.is_none_or(|(_, (end, _))| *end <= range.offset), "in the range before");
             let after = live.range(range.offset..).next();
-            assert!(after.map_or(true, |(start, _)| end <= *start), "in the range after");
+            assert!(after.is_none_or(|(start, _)| end <= *start), "in the range after");
             live.insert(range.offset, (end, number));
             frame.ranges.push(range);
             granted += 1;

@@ -41,7 +41,7 @@ fn replay(file: &Path) -> Result<(), Box<dyn Error>> {
                 assert!(end <= size, "grant {number} ends in the space");
                 if n > 0 {
                     let before = ends.range(..end).next_back();
-                    assert!(before.map_or(true, |(_, last)| *last <= start), "grant {number} has its units alone");
+                    assert!(before.is_none_or(|(_, last)| *last <= start), "grant {number} has its units alone");
                     ends.insert(start, end);
                 }
                 starts.insert(*number, (start, n));
