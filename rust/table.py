@@ -10,8 +10,8 @@ import re
 # Crate of the sources, folder of the erased crate, and the modules that are written by hand there.
 CRATES = [
     ("offset_allocator", "offset-allocator-proved", {"accesses", "nonmax", "traits"}),
-    ("offset_guarded", "offset-allocator-guarded", {"traits"}),
-    ("offset_heaps", "offset-allocator-heaps", {"traits"}),
+    ("offset_guarded", "offset-allocator-guarded", {"realms", "traits"}),
+    ("offset_heaps", "offset-allocator-heaps", {"realms", "traits"}),
     ("offset_script", "offset-script", set()),
     ("offset_calls", "offset-calls", set()),
     ("offset_pictures", "offset-pictures", set()),
@@ -38,10 +38,12 @@ pub use nonmax::IsMax;
 #![warn(missing_docs)]
 #![expect(LINTS)]
 
+mod realms;
 mod traits;
 
 pub use offset_allocator_memory as memory;
 pub use offset_allocator_memory::{AllocError, Global};
+pub use realms::next_realm;
 pub use offset_allocator::{Refusal as SpaceRefusal, StateFaultKind as SpaceFaultKind, ext, small_float};
 """,
     "offset_heaps": """#![doc = include_str!("../README.md")]
@@ -50,6 +52,7 @@ pub use offset_allocator::{Refusal as SpaceRefusal, StateFaultKind as SpaceFault
 #![warn(missing_docs)]
 #![expect(LINTS)]
 
+mod realms;
 mod traits;
 
 pub use offset_allocator_memory as memory;
@@ -320,14 +323,14 @@ EXAMPLES = {
     "offset_guarded": (
         ["use offset_allocator_guarded::*;", "let alloc = Global;"],
         ["# Ok::<(), AllocError>(())"],
-        {"guarded": "let mut guarded = Guarded::<u32>::new(alloc, 1000, 1)?;"},
+        {"guarded": "let mut guarded = Guarded::<u32>::new(alloc, 1000)?;"},
     ),
     "offset_heaps": (
         ["use offset_allocator_heaps::*;", "let alloc = Global;"],
         ["# Ok::<(), AllocError>(())"],
         {
             "heaps": "let limits = Limits { size: 1000, first_size: 1000, max_allocs: 100, first_allocs: 8, most: 2, most_larger: 1 };\n"
-            "let mut heaps = Heaps::<u32>::new(alloc, limits, 1)?;",
+            "let mut heaps = Heaps::<u32>::new(alloc, limits)?;",
         },
     ),
     "offset_script": (

@@ -11,7 +11,7 @@ impl<NI: NodeIndex> Space for Guarded<NI> {
 
     #[inline(always)]
     fn make(size: u32, max_allocs: u32) -> Self {
-        Guarded::with_max_allocs(Global, size, max_allocs, 1).unwrap()
+        Guarded::with_realm(Global, size, max_allocs, 1).unwrap()
     }
 
     #[inline(always)]

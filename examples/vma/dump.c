@@ -10,7 +10,7 @@ enum { COUNT = sizeof sizes / sizeof *sizes };
 int main(int count, char **arguments) {
     (void) arguments;
     oa_allocator *handles = oa_new(1 << 20, 64);
-    oag_allocator *tickets = oag_new(1 << 20, 64, 1);
+    oag_allocator *tickets = oag_new(1 << 20, 64);
     oa_allocation range[COUNT];
     oag_ticket ticket[COUNT];
     for (int i = 0; i < COUNT; i++) range[i] = oa_allocate(handles, sizes[i]), ticket[i] = oag_allocate(tickets, sizes[i]);

@@ -83,6 +83,8 @@ pub const HEAPS: Call = call("heaps", "heaps");
 pub const HEAPS_CALLS: Call = call("heaps_calls", "heaps and 1,000 calls");
 pub const HEAPS_GROW: Call = call("heaps_grow", "heaps, of which one grows");
 pub const HEAPS_EXTEND: Call = call("heaps_extend", "heaps, of which one grows as it gets units");
+pub const HEAPS_MANY: Call = call("heaps_many", "heaps, with 300 numbers");
+pub const HEAPS_DUMP: Call = call("heaps_dump", "heaps, 1,000 calls and a text");
 pub const HEAPS_STORE: Call = call("heaps_store", "heaps, 1,000 calls, a copy and a state");
 // and the others
 pub const PARSE: Call = call("parse", "parse");

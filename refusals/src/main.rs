@@ -98,18 +98,20 @@ impl Check<'_> {
     }
 
     /// Fails each request of a call in turn, after the `first` ones of the parse before it: that request
-    /// alone, and that one with all after it. It ends where a run makes no such request, and returns the
-    /// number of requests.
+    /// alone, and that one with all after it. It ends where a run makes no such request, returns the number of
+    /// requests, and writes it down with the bytes that they were for.
     fn fail_each(&mut self, call: Call, text: &str, first: u64, wanted: &Outcome) -> u64 {
         let out_of_memory = Outcome::new(REFUSED, &[]);
         let mut hints = 0;
         for place in first + 1.. {
             let mut is_met = false;
+            let mut requested = Vec::new();
             for end in [place, u64::MAX] {
                 let Some((found, memory)) = self.run(call, text, place..=end) else {
                     return 0;
                 };
                 is_met = memory.failed > 0;
+                requested = memory.requested;
                 // a fault may be found before the request
                 let may_be_wanted = !is_met || wanted.result == FAULTY || call.has_hints;
                 let is_right =
@@ -128,8 +130,10 @@ impl Check<'_> {
                 } else {
                     String::new()
                 };
+                let bytes: usize = requested.iter().skip(first as usize).sum();
+                let title = call.title(text);
                 self.lines
-                    .push(format!("{}: {requests} requests{which}", call.title(text)));
+                    .push(format!("{title}: {requests} requests{which}, {bytes} bytes"));
                 return requests;
             }
         }
@@ -174,11 +178,12 @@ impl Check<'_> {
         let report = Outcome::new(ANSWERED, report);
         self.fail_each(LIMITED.on(layout), header, 0, &report);
         self.fail_each_as_by_node(CALLS, layout, header, 0);
-        // a copy requests as much again, and one under a larger limit for that; values of 40 bytes with their tickets are four
-        // at first, and then as many as names up to the second ticket's
+        // a copy requests as much again, and one under a larger limit for that; then a space of 1,002 nodes, and values of 40
+        // bytes with their tickets, four at first, and then as many as names up to the last of 1,000 grants
         let guarded = guarded_requests(layout, nodes, bits);
         let raised = guarded_requests(layout, limit_above(nodes, bits), bits);
-        let all = [guarded.clone(), guarded, raised, vec![4 * 40, 1001 * 40]].concat();
+        let named = guarded_requests(BY_NODE, 1002, 32);
+        let all = [guarded.clone(), guarded, raised, named, vec![4 * 40, 1000 * 40]].concat();
         self.expect_requests(GUARDED.on(layout), header, &all);
         self.fail_each_as_by_node(GUARDED, layout, header, 0);
         self.stored(layout, header, &tables, (nodes, bits));
@@ -286,6 +291,8 @@ impl Check<'_> {
         self.heaps_grown(HEAPS_GROW.on(layout), layout, header, nodes, bits);
         self.heaps_grown(HEAPS_EXTEND.on(layout), layout, header, nodes, bits);
         self.heaps_stored(layout, header, nodes, bits);
+        self.heaps_dumped(layout, header);
+        self.many_numbers(layout, header);
     }
 
     /// A heap that begins with 8 nodes, under doubled limits up to its largest, for grants or for a unit more before
@@ -329,6 +336,28 @@ impl Check<'_> {
         self.fail_each_as_by_node(HEAPS_STORE, layout, header, 0);
     }
 
+    /// Heaps as a text: what the calls request first, and then one row that grows, of which no part is longer than twice the
+    /// text.
+    fn heaps_dumped(&mut self, layout: Layout, header: &str) {
+        let call = HEAPS_DUMP.on(layout);
+        let (_, first) = self.with_ample_memory(HEAPS_CALLS.on(layout), header);
+        let (found, requested) = self.with_ample_memory(call, header);
+        let is_right = match (&found.numbers[..], requested.strip_prefix(&first[..])) {
+            ([bytes], Some(rows)) => !rows.is_empty() && rows.iter().all(|row| *row as u64 <= 2 * bytes),
+            _ => false,
+        };
+        self.must(is_right, call, header, format!("{found:?}, {requested:?}"));
+        self.fail_each_as_by_node(HEAPS_DUMP, layout, header, 0);
+    }
+
+    /// Room for 300 heaps: a slot each, as large as those for seven, and four trees of 512 numbers.
+    fn many_numbers(&mut self, layout: Layout, header: &str) {
+        let (_, room) = self.with_ample_memory(HEAPS.on(layout), header);
+        let many = [room[0] / 7 * 300, 4096, 4096, 4096, 4096];
+        self.expect_requests(HEAPS_MANY.on(layout), header, &many);
+        self.fail_each(HEAPS_MANY.on(layout), header, 0, &Outcome::new(ANSWERED, &[0]));
+    }
+
     /// A list of calls for a script; it takes one request, and with tickets two, which are no call's.
     fn lists(&mut self, layout: Layout, text: &str, replies: &Outcome, with_tickets: &Outcome) {
         let first = self.parse_requests(text);
@@ -367,6 +396,11 @@ fn parts(bits: usize, most: usize) -> Vec<Part> {
             it.filled(layout, most, bits, &[3000, 3000, 5000, 4608])
         }));
         all.push(part(move |it| it.heaps(layout, 100, bits, 300)));
+        // beyond the first growth of each table
+        all.push(part(move |it| {
+            let header = format!("space 2000 nodes 1000 index {bits}");
+            it.heaps_grown(HEAPS_GROW.on(layout), layout, &header, 1000, bits)
+        }));
     }
     let header = format!("space 100 nodes 4 index {bits}");
     let short = format!("{header}\n{COMMANDS}");
@@ -415,6 +449,17 @@ fn parts(bits: usize, most: usize) -> Vec<Part> {
                 it.lists(layout, &text, &replies, &with_tickets);
             }));
         }
+    }
+    // a compaction after 140 grants and some releases moves more than 64 ranges, which a reply grows for
+    let grants = "alloc 5\n".repeat(140);
+    let frees: String = (1..20).map(|number| format!("free {number}\n")).collect();
+    let moving = format!("space 1000 nodes 200 index {bits}\n{grants}{frees}");
+    for layout in [BY_NODE, BY_FIELD] {
+        let text = moving.clone();
+        all.push(part(move |it| {
+            let [replies, with_tickets] = [LIST, TICKETS].map(|call| it.with_ample_memory(call.on(BY_NODE), &text).0);
+            it.lists(layout, &text, &replies, &with_tickets);
+        }));
     }
     for layout in [BY_NODE, BY_FIELD] {
         all.push(part(move |it| {

@@ -325,7 +325,7 @@ def two_files(b):
 
 
 OURS = '{"General":{"API":"Vulkan"},"DefaultPools":{"Type 0":{"PreferredBlockSize":20,"Blocks":{"0":{"TotalBytes":20,"UnusedBytes":17,' \
-    '"Allocations":1,"UnusedRanges":1,"Suballocations":[{"Offset":0,"Type":"UNKNOWN","Size":3},{"Offset":3,"Type":"FREE","Size":17}]}}}}}'
+    '"Allocations":1,"UnusedRanges":1,"Suballocations":[{"Offset":0,"Type":"UNKNOWN","Size":3},{"Offset":3,"Type":"FREE","Size":17}]}},"DedicatedAllocations":[]}}}'
 VMA = {"General": {"API": "Vulkan", "GPU": "llvmpipe"}, "Total": {"MemoryBlockCount": 3}, "DefaultPools": {
     "Type 0": {"PreferredBlockSize": 268435456, "Blocks": {
         "0": {"TotalBytes": 268435456, "UnusedBytes": 1, "Suballocations": [

@@ -5,10 +5,13 @@ pub mod DecidedBudget
 pub mod DecidedRooms
 pub mod DecidedRoomsBySteps
 pub mod DecidedSteps
+pub mod Done
 pub mod Gaps
 pub mod InPieces
 pub mod Nearest
+pub mod PassDone
 pub mod Packed
+pub mod Passes
 pub mod Refiled
 pub mod Retracted
 pub mod RoomAdvice

@@ -3,6 +3,7 @@ pub mod Budget
 pub mod BySteps
 pub mod Compacting
 pub mod Gaps
+pub mod Passes
 pub mod Pieces
 pub mod Relocating
 pub mod Retracting

@@ -2,14 +2,14 @@
 //! their functions do nothing. With them are the calls that leave an allocator as it is, with a count of
 //! their accesses.
 ghost use Rattle.std.specs.Prelude.{◌≡◌, ◌≢◌, ◌<◌, ◌≤◌, ◌+◌, ◌-◌, ◌*◌, ◌%◌, ◌↔◌, ℕ, List, ◌++◌, false, ◌∷◌};
-ghost use Rattle.std.specs.Prelude.{[], Bool, IsTrue, None, Option, Some, length, min, reverse, sum};
+ghost use Rattle.std.specs.Prelude.{[], Bool, IsTrue, true, None, Option, Some, length, min, reverse, sum};
 ghost use Rattle.std.specs.List.{AllByRecursion};
 ghost use Rattle.offset_allocator.specs.Accesses.{Costs};
 ghost use Rattle.offset_allocator.specs.AtOffset.{AllocatesAt, IsFreeAt, in_the_way};
 ghost use Rattle.offset_allocator.specs.Reporting.Walking.{AreOfLive, IsWalk, first_live, last_live};
 ghost use Rattle.offset_allocator.specs.Reporting.Walking.{live_after, live_before, live_handles};
 ghost use Rattle.offset_allocator.specs.Classes.{value, up, down};
-ghost use Rattle.offset_allocator.specs.View.{View, AreNames, Block, Handle, IsWellFormed, free_sizes};
+ghost use Rattle.offset_allocator.specs.View.{View, AreNames, Block, Handle, IsWellFormed, free_block, free_sizes};
 ghost use Rattle.offset_allocator.specs.View.{reported_free};
 ghost use Rattle.offset_allocator.specs.View.{reported_largest, padding_to, units, count_used, used_units};
 ghost use Rattle.offset_allocator.specs.Ranges.{Range, range_of, AreDisjoint};
@@ -29,11 +29,12 @@ ghost use Rattle.offset_allocator.specs.declared.reports.Refusal.{Refusal};
 ghost use Rattle.offset_allocator.specs.declared.reports.Refusal.TheVariants.{TooLarge, Space, Fragmented};
 ghost use Rattle.offset_allocator.specs.declared.moves.room.RoomCost.{RoomCost};
 ghost use Rattle.offset_allocator.specs.declared.moves.budget.Progress.{Progress};
-ghost use Rattle.offset_allocator.specs.Moving.Budget.{CompactsWithin};
-ghost use Rattle.offset_allocator.specs.Moving.BySteps.{CompactsBy, moves_by};
+ghost use Rattle.offset_allocator.specs.Moving.Budget.{CompactsWithin, SlidesWithin, first_from};
+ghost use Rattle.offset_allocator.specs.Moving.BySteps.{CompactsBy, given_up, moves_by, run_by};
 ghost use Rattle.offset_allocator.specs.Moving.Room.{IsLeastCost, MakesRoom, ranges_of};
 ghost use Rattle.offset_allocator.specs.Moving.RoomBySteps.{IsLeastCostBy, MakesRoomBy, names_short};
 ghost use Rattle.offset_allocator.specs.Moving.Compacting.{moves, AreBetween, AreSafe, Compacts, Move};
+ghost use Rattle.offset_allocator.specs.Moving.Passes.{IsPass, nameless};
 ghost use Rattle.offset_allocator.specs.Moving.Pieces.{pieces, copied, all_copied, ArePieces};
 
 use crate::AllocatorOf;
@@ -218,6 +219,25 @@ pub fn a_compacted_space_grants<T: Tables>(allocator: &AllocatorOf<T>)
     allocator.formed();
 }
 
+/// After `compact_by` returned `true`, no free block but the last one has a step. Where a free block before another
+/// block had one before, the last block is free then, and has all that was given up, at least a step; and with room for
+/// one more block, a request of at least one unit is granted exactly when it is at most the value of its class.
+pub fn a_space_compacted_by_steps_grants<T: Tables>(allocator: &AllocatorOf<T>)
+    ensures few { (s : ℕ) (v : View) (front : List Block) (last : Block) → 1 ≤ s
+        → CompactsBy s v allocator.now true → allocator.now.blocks ≡ front ++ last ∷ []
+        → AllByRecursion (λ b. b.used ≡ false → b.size < s) front }
+    ensures last { (s : ℕ) (v : View) → 1 ≤ s → run_by s v.blocks ≢ [] → CompactsBy s v allocator.now true
+        → (front : List Block) × (x : ℕ)
+        × (allocator.now.blocks ≡ front ++ free_block x (given_up s (run_by s v.blocks)) ∷ [])
+        × (s ≤ given_up s (run_by s v.blocks)) }
+    ensures granted { (s n : ℕ) (v : View) → 1 ≤ s → 1 ≤ n → run_by s v.blocks ≢ []
+        → CompactsBy s v allocator.now true
+        → CanGrant 1 n allocator.now
+        ↔ (AdmitsBlocks 1 allocator.now × (n ≤ value (down (given_up s (run_by s v.blocks))))) }
+{
+    allocator.formed();
+}
+
 /// Of the requests that are refused though there is room for the blocks that they need, those are refused as
 /// `Fragmented` that would be granted after `compact`, and those as `TooLarge` that a fresh space of this
 /// size and limit would refuse. A request that is granted has no reason, and none has two.
@@ -326,6 +346,34 @@ pub fn moves_by_steps_are_safe()
     ensures make_room_by_aligned { (align k : ℕ) (front run : List Block)
         → AllByRecursion (λ m. m.from % align ≡ m.to % align)
         (moves_by (k * align) (units front) (units front) run) }
+{}
+
+/// By steps of one unit `compact_by` and `compact_within` are never refused, as `compact` is not: each free block that
+/// slides is used up, and gives its node back.
+pub fn steps_of_one_unit_are_done()
+    ensures compact_by { (v w : View) → CompactsBy 1 v w false → ⊥ }
+    ensures compact_within { (from u n : ℕ) (v w : View) (ms : List Move) → IsWellFormed v
+        → CompactsWithin (λ ns m os. os ≡ ns ++ m ∷ []) 1 from u n v [] None w ms → ⊥ }
+{}
+
+/// Where a call of `compact_within` came to `next`, one that goes on from there without requests between does something,
+/// and slides the blocks that the first one left behind what moved, and no other. At least one of their ranges moves. So
+/// no range moves twice in a pass, and it ends.
+pub fn a_pass_comes_further()
+    ensures more { (s from u r o : ℕ) (v w : View) (p : Progress) → 1 ≤ s → IsWellFormed v → IsWellFormed w
+        → SlidesWithin s from u r v w p → p.next ≡ Some o → first_from s o 0 w.blocks ≢ None }
+    ensures behind { (s from u r o n m : ℕ) (v w x : View) (p q : Progress) → 1 ≤ s
+        → IsWellFormed v → IsWellFormed w → (k : SlidesWithin s from u r v w p) → p.next ≡ Some o
+        → (l : SlidesWithin s o n m w x q)
+        → (k.back ≡ l.rest ++ l.back) × (1 ≤ q.ranges) × (count_used l.back + q.ranges ≡ count_used k.back) }
+{}
+
+/// A pass of `compact_within` from 0 on, each call from the `next` of the one before it, with any budgets and without
+/// requests between, leaves what `compact_by` of the same step leaves: the same ranges at the same offsets, and between
+/// them free blocks of the same sizes. Only the names of these may be others.
+pub fn a_pass_compacts()
+    ensures { (s : ℕ) (v w x : View) → 1 ≤ s → IsWellFormed v → IsPass s 0 v w → CompactsBy s v x true
+        → nameless w.blocks ≡ nameless x.blocks }
 {}
 
 /// The pieces of a move, copied one after the other, leave what the move at once leaves, whatever the units

@@ -87,7 +87,7 @@ impl<NI: NodeIndex> Space for Guarded<NI> {
         if max_allocs < 2 || max_allocs >= NI::MAX - 1 {
             return Err(AllocError);
         }
-        Guarded::with_max_allocs(alloc, size, max_allocs, 1)
+        Guarded::with_realm(alloc, size, max_allocs, 1)
     }
 
     fn take(&mut self, slot: &mut Ticket, size: u32) -> u64 {

@@ -16,7 +16,7 @@ use Rattle.offset_calls.specs.Calls.{answered, Found, beside, make_room, remakes
 use Rattle.offset_calls.specs.Calls as plain
 use Rattle.offset_calls.specs.declared.calls.LiveRange.{LiveRange}
 use Rattle.offset_calls.specs.{Ending.first_live, Ending.last_live, Ending.live_before, Ending.live_after, Histories.raise_range, Room.Split, Room.cheapest, Room.slid}
-use Rattle.offset_calls.proofs.SteppedPairs.{kept_right, run_alike, same_last}
+use Rattle.offset_calls.proofs.SteppedPairs.{kept_right, run_alike, used_pairs}
 use Rattle.offset_calls.specs.{Stepped.kept, Stepped.first_run, Stepped.to_the_end, Budget.is_within, Budget.longest_that}
 use Rattle.offset_calls.specs.Calls.{CompactedWithin, moves_by, moves_of_run, slides_run, compact_by, compact_within, make_room_by}
 use Rattle.offset_calls.proofs.EndPairs.{same_can, retracted_alike, same_relocated, same_relocated_aligned, IsSent, AreSent, sent_first, sent_last}
@@ -255,7 +255,7 @@ module _ (r : ℕ → ℕ) (g d : ℕ) (back : (k : ℕ) → r (number_with g d 
   slides_same : (n : ℕ) (x y : Reply) (f k b : List Pair) → a.pairs ≡ f ++ (k ++ b) → x ≡ raise g d y
       → AreSame r g d (slides_run n s x (record { front = lefts f; run = lefts k; back = lefts b })) (slides_run n t y (record { front = rights f; run = rights k; back = rights b }))
   slides_same n x y f k b e is = if_same (AreSame r g d) _ _ _ _ _ _
-      (ap₂ (λ (x y : Bool). x && y) (same_last k) (same_short s t a.pairs a.limit a.left_blocks a.right_blocks 1)) (λ z. quiet _ _ refl) (record { reply = is; state = run_alike r d s t a n f k b e })
+      (ap₂ (λ (x y : Bool). x && y) (ap (λ u. nat_eq u 0) (used_pairs n k)) (same_short s t a.pairs a.limit a.left_blocks a.right_blocks 1)) (λ z. quiet _ _ refl) (record { reply = is; state = run_alike r d s t a n f k b e })
 
   stepped_same : (n : ℕ) (o o' : Option Split) → IsSameSplit a.pairs o o' → AreSame r g d (compact_by n s o) (compact_by n t o')
   stepped_same n None None no_split = quiet _ _ refl

@@ -16,7 +16,7 @@ use Rattle.offset_calls.specs.Room as plain
 use Rattle.offset_calls.proofs.Rooms.{IsFound, back_live, found_there, none_numbered, noted, stays, tags_with_names, with_name}
 use Rattle.offset_calls.proofs.Runs.{IsChosenOf, IsLabelledRun}
 use Rattle.offset_calls.proofs.RunsBySteps.{IsBest, best, found_chosen, room_cost_by_is, slid_by_is}
-use Rattle.offset_calls.proofs.Stepped.{IsSlidRun, run_agrees, run_moves, well_slid}
+use Rattle.offset_calls.proofs.Stepped.{IsSlidRun, run_agrees, run_moves, spent_end, well_slid}
 
 -- ---- every state stays well-formed
 
@@ -38,7 +38,7 @@ well_room_by s w m want spare = go (cheapest_by m want spare s) refl
         there = found_by m want (blocks_short spare s.limit (length s.blocks)) s.blocks p e
 
         slid : IsWell (slid_run m s p)
-        slid = well_slid s w m p there.is there.begins (back_live s w p there) (inl there.ends)
+        slid = well_slid s w m p there.is there.begins (back_live s w p there) (inl (spent_end m p.run there.ends))
 
 -- ---- the step
 

@@ -13,7 +13,7 @@ use Rattle.offset_calls.specs.{Calls.answered, Calls.Found, Calls.beside, Calls.
 use Rattle.offset_calls.specs.Calls as plain
 use Rattle.offset_calls.specs.{Ending.live_after, Histories.goes_by_begin, Room.Split, Room.cheapest}
 use Rattle.offset_calls.specs.declared.calls.LiveRange.{LiveRange}
-use Rattle.offset_calls.proofs.SteppedPairs.{kept_right, same_last}
+use Rattle.offset_calls.proofs.SteppedPairs.{kept_right, used_pairs}
 use Rattle.offset_calls.specs.{Stepped.kept, Stepped.first_run, Stepped.to_the_end, Budget.is_within, Budget.longest_that}
 use Rattle.offset_calls.specs.Calls.{moves_by, moves_of_run, slides_run, compact_by, compact_within, make_room_by}
 use Rattle.offset_calls.proofs.EndPairs.{same_free_end, IsSent, AreSent, sent, sent_first, sent_last}
@@ -142,7 +142,7 @@ module _ (s t : State) (a : IsSameSpace s t) where
 
   slides_reply : (n : ℕ) (x y : plain.Reply) (f k b : List Pair) → x ≡ y → without_offset (slides_run n s x (record { front = lefts f; run = lefts k; back = lefts b })).reply
       ≡ without_offset (slides_run n t y (record { front = rights f; run = rights k; back = rights b })).reply
-  slides_reply n x y f k b is = if_same (λ (x y : Outcome). without_offset x.reply ≡ without_offset y.reply) _ _ _ _ _ _ (ap₂ (λ (x y : Bool). x && y) (same_last k) (short 1)) (λ e. refl)
+  slides_reply n x y f k b is = if_same (λ (x y : Outcome). without_offset x.reply ≡ without_offset y.reply) _ _ _ _ _ _ (ap₂ (λ (x y : Bool). x && y) (ap (λ u. nat_eq u 0) (used_pairs n k)) (short 1)) (λ e. refl)
       (ap without_offset is)
 
   stepped_reply : (n : ℕ) (o o' : Option Split) → IsSameSplit a.blocks.pairs o o' → without_offset (compact_by n s o).reply ≡ without_offset (compact_by n t o').reply

@@ -14,9 +14,9 @@ use Rattle.offset_calls.specs.Room.{Split, from_first, after_first, is_less, che
 use Rattle.offset_calls.specs.Room as plain
 use Rattle.offset_calls.specs.Stepped.{given_up}
 use Rattle.offset_calls.specs.Stepped as step
-use Rattle.offset_calls.specs.RoomBySteps.{used_up, serves, shortest_that, cheapest_that, blocks_short, cheapest_by, room_cost_by}
+use Rattle.offset_calls.specs.RoomBySteps.{serves, shortest_that, cheapest_that, blocks_short, cheapest_by, room_cost_by}
 use Rattle.offset_calls.proofs.Runs.{IsChosenOf, IsLabelledRun, cost_same, is_less_is, not_less_is, only_one, run_of, same_cost}
-use Rattle.offset_calls.proofs.Stepped.{given_same, kept_same, same_end}
+use Rattle.offset_calls.proofs.Stepped.{given_same, same_end, used_same}
 
 -- ---- lists
 
@@ -203,20 +203,6 @@ best test [] = none
 best test (l ∷ ls) = best_step test l ls (cheapest_that test (tags ls)) (best test ls)
 
 -- ---- runs of the allocator
-
--- blocks that keep nothing
-used_same : (n : ℕ) (ls : List Label) → length (by.used_up n (names ls)) ≡ used_up n (tags ls)
-used_same n [] = refl
-used_same n (l ∷ ls) = go (is_free l.tag) (nat_eq (step.kept n l.size (tags ls)) 0) (ap (λ k. nat_eq k 0) (kept_same n l.size ls)) (used_same n ls)
-  where
-    go : (t z : Bool) → nat_eq (by.kept n l.size (names ls)) 0 ≡ z → length (by.used_up n (names ls)) ≡ used_up n (tags ls)
-        → length ((if not (not t) && nat_eq (by.kept n l.size (names ls)) 0 then by_name l ∷ [] else []) ++ by.used_up n (names ls)) ≡ (if t && z then 1 else 0) + used_up n (tags ls)
-    go t z e ih = subst (λ y. length ((if not (not t) && y then by_name l ∷ [] else []) ++ by.used_up n (names ls)) ≡ (if t && z then 1 else 0) + used_up n (tags ls)) (sym e) (at t z)
-      where
-        at : (t z : Bool) → length ((if not (not t) && z then by_name l ∷ [] else []) ++ by.used_up n (names ls)) ≡ (if t && z then 1 else 0) + used_up n (tags ls)
-        at true true = omega (arith, ih)
-        at true false = omega (arith, ih)
-        at false z = omega (arith, ih)
 
 module _ (n want short : ℕ) where
   served : (ls : List Label) → serves n want short (tags ls) ≡ true → (ends_used (names ls) ≡ false) × Serves n want short (names ls)

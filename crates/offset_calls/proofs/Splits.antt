@@ -4,8 +4,8 @@ use Rattle.offset_script.proofs.{Pairs.Pair, Pairs.left, Pairs.right, Pairs.left
 use Rattle.offset_script.specs.Totals.{live}
 use Rattle.offset_calls.proofs.Common.{Bool, ◌&&◌, ◌||◌, ◌+◌, ◌∙◌, sym, append-nil, length-map, State}
 use Rattle.offset_calls.specs.{Stepped.first_run, Stepped.to_the_end, Budget.is_within, Budget.longest_that, Budget.start_of, Budget.next_of}
-use Rattle.offset_calls.specs.RoomBySteps.{used_up, serves, shortest_that, cheapest_that, cheapest_by, blocks_short}
-use Rattle.offset_calls.proofs.SteppedPairs.{kept_right, given_pairs, same_last}
+use Rattle.offset_calls.specs.RoomBySteps.{serves, shortest_that, cheapest_that, cheapest_by, blocks_short}
+use Rattle.offset_calls.proofs.SteppedPairs.{given_pairs, same_last, used_pairs}
 use Rattle.offset_script.specs.Machine as machine
 use Rattle.offset_calls.specs.Room.{Split, from_first, after_first, free_units, shortest, cost_of, is_less, cheaper, cheapest}
 
@@ -74,10 +74,6 @@ same_cheapest_that : (test test' : List machine.Block → Bool) → ((k : List P
 same_cheapest_that test test' same [] = no_split
 same_cheapest_that test test' same (q ∷ ps) = cheaper_same q ps _ _ _ _ (if_same (IsSameStart (q ∷ ps)) _ _ _ _ _ _ (same_free q.kind) (λ e. shortest_that_same test test' same (q ∷ ps)) no_start)
     (same_cheapest_that test test' same ps)
-
-used_pairs : (n : ℕ) (ps : List Pair) → used_up n (lefts ps) ≡ used_up n (rights ps)
-used_pairs n [] = refl
-used_pairs n (q ∷ ps) = ap₂ (λ a b. a + b) (ap₂ (λ (t : Bool) k. if t && nat_eq k 0 then 1 else 0) (same_free q.kind) (kept_right n q.size ps)) (used_pairs n ps)
 
 serves_pairs : (n want i j : ℕ) → i ≡ j → (ps : List Pair) → serves n want i (lefts ps) ≡ serves n want j (rights ps)
 serves_pairs n want i j e ps = ap₂ (λ (x y : Bool). not x && y) (same_last ps)

@@ -5,12 +5,15 @@ use Rattle.offset_calls.proofs.Common.{◌⊎◌, units, ap, ap₂, subst, subst
 use Rattle.offset_calls.proofs.Common.{option_map, AllByRecursion, Block, View, Handle, replace, IsWellFormed, SameSpace, kept_name, Tag, Live, Free, State, is_free, is_short_of}
 use Rattle.offset_calls.proofs.Common.{free_part, stamp_of_call, stamp_of_padding, Move, number, AreNumbered, Reply, Answer, Compacted, Outcome, replies_only}
 use Rattle.offset_allocator.specs.{View.free_block, View.ends_used, View.AreCoalesced, Relations.SameState}
-use Rattle.offset_allocator.specs.Moving.BySteps.{CanStep, CompactsBy, SlidesBy, first_whole}
+use Rattle.offset_allocator.specs.Moving.BySteps.{CanFollow, CompactsBy, SlidesBy, run_by}
 use Rattle.offset_allocator.specs.Moving.BySteps as by
 use Rattle.offset_allocator.specs.Moving.Compacting as named_moves
 use Rattle.offset_allocator.specs.View as named
 use Rattle.offset_allocator.proofs.{Tallies.hit_cases, Views.ViewApart.left_false}
-use Rattle.offset_allocator.proofs.Moving.Stepped.{stepped_apart, none_whole}
+use Rattle.offset_allocator.proofs.Moving.Stepped.{IsWhole, stepped_apart, none_whole, whole_is}
+use Rattle.offset_allocator.proofs.Moving.DecidedSteps.{whole_there}
+use Rattle.offset_allocator.specs.Chain.{first_or}
+use Rattle.offset_calls.proofs.Common.{ne_eqb}
 use Rattle.std.specs.{Option.option_or}
 use Rattle.std.proofs.lemmas.Bool.{and_cases, cond_both}
 use Rattle.offset_script.proofs.Agreed.{agrees_replaced, agrees_but, agrees_quiet, has_room, name_replaced, room_for}
@@ -20,7 +23,7 @@ use Rattle.offset_script.proofs.Labels.{names, tags, map_three, AreRising}
 use Rattle.offset_script.proofs.Lists.{AreApart, apart_append, apart_parts, count, count-append, count_free_part, ends_free, hit, starts_free}
 use Rattle.offset_script.proofs.{Members.IsIn, Members.in_left, Members.in_right, Members.map_parts, Members.map_first, Well.IsWell, Well.IsOld, Well.not_there, Well.well_quiet, Well.free_part_is, Tests.same_some}
 use Rattle.offset_calls.specs.Room.{Split, from_first, after_first}
-use Rattle.offset_calls.specs.Stepped.{kept, stepped, given_up, slid_by, slid_run, first_run, to_the_end}
+use Rattle.offset_calls.specs.Stepped.{kept, stepped, given_up, used_up, slid_by, slid_run, first_run, to_the_end}
 use Rattle.offset_calls.specs.Calls.{moves_by, moves_of_run, slides_run, compact_by}
 use Rattle.offset_calls.proofs.Compacted.{one_number, same_move}
 use Rattle.offset_script.specs.Machine as machine
@@ -210,14 +213,22 @@ stepped_few n s (b ∷ bs) = go (is_free b.tag) (stepped_few n (s + 1) bs)
     go true l = omega (arith, l, length-append (free_part (kept n b.size bs) s) (stepped n (s + 1) bs), (free_part_is (kept n b.size bs) s).3)
     go false l = omega (arith, l)
 
--- a last block that is free keeps nothing
-stepped_less : (n s : ℕ) (b : machine.Block) (bs : List machine.Block) → ends_free (b ∷ bs) ≡ true → length (stepped n s (b ∷ bs)) ≤ length bs
-stepped_less n s b [] e = subst (λ (t : Bool). length ((if t then [] else b ∷ []) ++ []) ≤ 0) (sym e) (omega arith)
-stepped_less n s b (c ∷ bs) e = go (is_free b.tag) (stepped_less n (s + 1) c bs e)
+-- each block stays, or is used up
+stepped_spent : (n s : ℕ) (bs : List machine.Block) → length (stepped n s bs) + used_up n bs ≤ length bs
+stepped_spent n s [] = omega arith
+stepped_spent n s (b ∷ bs) = go (is_free b.tag) (kept n b.size bs) (stepped_spent n (s + 1) bs)
   where
-    go : (t : Bool) → length (stepped n (s + 1) (c ∷ bs)) ≤ length bs → length ((if t then free_part (kept n b.size (c ∷ bs)) s else b ∷ []) ++ stepped n (s + 1) (c ∷ bs)) ≤ suc (length bs)
-    go true l = omega (arith, l, length-append (free_part (kept n b.size (c ∷ bs)) s) (stepped n (s + 1) (c ∷ bs)), (free_part_is (kept n b.size (c ∷ bs)) s).3)
-    go false l = omega (arith, l)
+    go : (t : Bool) (m : ℕ) → length (stepped n (s + 1) bs) + used_up n bs ≤ length bs
+        → length ((if t then free_part m s else b ∷ []) ++ stepped n (s + 1) bs) + ((if t && nat_eq m 0 then 1 else 0) + used_up n bs) ≤ suc (length bs)
+    go true zero l = omega (arith, l)
+    go true (suc m) l = omega (arith, l, ap (λ (x : Bool). if x then 1 else 0) (ne_eqb (suc m) 0 (λ q. absurd (omega (arith, q)))))
+    go false m l = omega (arith, l)
+
+-- a last block that is free is used up
+pub spent_end : (n : ℕ) (bs : List machine.Block) → ends_free bs ≡ true → 1 ≤ used_up n bs
+spent_end n [] e = absurd (false≢true e)
+spent_end n (b ∷ []) e = subst (λ (t : Bool). 1 ≤ (if t && true then 1 else 0) + 0) (sym e) (omega arith)
+spent_end n (b ∷ c ∷ bs) e = let ih = spent_end n (c ∷ bs) e in omega (arith, ih)
 
 -- the last block of a list that starts free
 pub ends_free_too : (bs : List machine.Block) → starts_free bs ≡ true → machine.ends_live bs ≡ false → ends_free bs ≡ true
@@ -336,12 +347,8 @@ starts_append : (xs ys : List machine.Block) → starts_free xs ≡ true → sta
 starts_append [] ys e = absurd (false≢true e)
 starts_append (x ∷ xs) ys e = e
 
-less_with_end : (n s : ℕ) (bs : List machine.Block) → ends_free bs ≡ true → length (stepped n s bs) + 1 ≤ length bs
-less_with_end n s [] e = absurd (false≢true e)
-less_with_end n s (b ∷ bs) e = omega (arith, stepped_less n s b bs e)
-
 pub well_slid : (s : State) → IsWell s → (n : ℕ) (p : Split) → s.blocks ≡ p.front ++ (p.run ++ p.back) → starts_free p.run ≡ true → starts_free p.back ≡ false
-    → (ends_free p.run ≡ true) ⊎ (is_short_of 1 s ≡ false) → IsWell (slid_run n s p)
+    → (1 ≤ used_up n p.run) ⊎ (is_short_of 1 s ≡ false) → IsWell (slid_run n s p)
 well_slid s w n p is begins live fits =
     let run = p.run in
     let last : machine.Block = machine.block (given_up n run) (Free (stamp_of_call s + length run)) in
@@ -363,7 +370,7 @@ well_slid s w n p is begins live fits =
     let apart_inner = apart_append (slid_by n (stamp_of_call s) run) p.back (slid_apart n (stamp_of_call s) run rest.0) rest.1 (and_right (ends_free (slid_by n (stamp_of_call s) run)) (starts_free p.back) live) in
     let few = stepped_few n (stamp_of_call s) run in
     let room : length left + 1 ≤ s.limit = elim fits [
-      | inl free ↦ let less = less_with_end n (stamp_of_call s) run free in omega (arith, new_length, old_length, less, w.room)
+      | inl some ↦ let less = stepped_spent n (stamp_of_call s) run in omega (arith, new_length, old_length, less, some, w.room)
       | inr spare ↦ omega (arith, new_length, old_length, few, leb-false s.limit (length s.blocks + 1) spare)
     ] in
     record {
@@ -377,11 +384,15 @@ well_slid s w n p is begins live fits =
 -- a run slides, or is refused
 pub well_slides : (s : State) → IsWell s → (n : ℕ) (r : Reply) (p : Split) → s.blocks ≡ p.front ++ (p.run ++ p.back) → starts_free p.run ≡ true → starts_free p.back ≡ false
     → IsWell (slides_run n s r p).state
-well_slides s w n r p is begins live = cond_both (machine.ends_live p.run && is_short_of 1 s) _ _ (λ (o : Outcome). IsWell o.state) (λ z. well_quiet s w machine.Gone)
+well_slides s w n r p is begins live = cond_both (nat_eq (used_up n p.run) 0 && is_short_of 1 s) _ _ (λ (o : Outcome). IsWell o.state) (λ z. well_quiet s w machine.Gone)
     (λ z. well_slid s w n p is begins live (fits z))
   where
-    fits : (machine.ends_live p.run && is_short_of 1 s) ≡ false → (ends_free p.run ≡ true) ⊎ (is_short_of 1 s ≡ false)
-    fits z = elim (and_cases (machine.ends_live p.run) (is_short_of 1 s) z) [ inl free ↦ inl (ends_free_too p.run begins free) | inr spare ↦ inr spare ]
+    some : (m : ℕ) → nat_eq m 0 ≡ false → 1 ≤ m
+    some zero e = absurd (true≢false e)
+    some (suc m) e = omega arith
+
+    fits : (nat_eq (used_up n p.run) 0 && is_short_of 1 s) ≡ false → (1 ≤ used_up n p.run) ⊎ (is_short_of 1 s ≡ false)
+    fits z = elim (and_cases (nat_eq (used_up n p.run) 0) (is_short_of 1 s) z) [ inl spent ↦ inl (some (used_up n p.run) spent) | inr spare ↦ inr spare ]
 
 -- ---- the first run
 
@@ -458,34 +469,51 @@ run_there n o (f ∷ fs) b bs few free whole more =
     some [] e = absurd (cc)
     some (g ∷ gs) e = absurd (cc)
 
--- there is such a block where the allocator finds one
-same_whole : (n o : ℕ) (ls : List Label) → is_some (first_run to_the_end n 0 o (tags ls)) ≡ is_some (first_whole n (names ls))
-same_whole n o [] = refl
-same_whole n o (l ∷ []) = refl
-same_whole n o (l ∷ m ∷ ls) =
-    ap (λ (z : Bool). is_some (if is_free l.tag && (nat_le n l.size && z) then Some (from_first (by_tag l) (to_the_end (tags (m ∷ ls)))) else option_map (after_first (by_tag l)) (first_run to_the_end n 0 (o + l.size) (tags (m ∷ ls)))))
-    (le-leb 0 (o + l.size) (omega arith)) ∙ go (is_free l.tag) (nat_le n l.size) (same_whole n (o + l.size) (m ∷ ls))
+-- there is none where the allocator finds none
+none_there : (n o : ℕ) (ls : List Label) → run_by n (names ls) ≡ [] → first_run to_the_end n 0 o (tags ls) ≡ None
+none_there n o [] e = refl
+none_there n o (l ∷ []) e = refl
+none_there n o (l ∷ m ∷ ls) e =
+    ap (λ (z : Bool). if is_free l.tag && (nat_le n l.size && z) then Some (from_first (by_tag l) (to_the_end (tags (m ∷ ls)))) else option_map (after_first (by_tag l)) (first_run to_the_end n 0 (o + l.size) (tags (m ∷ ls))))
+    (le-leb 0 (o + l.size) (omega arith)) ∙ go (is_free l.tag) (nat_le n l.size) e (λ h. none_there n (o + l.size) (m ∷ ls) h)
   where
-    some_map : (x : Option Split) → is_some (option_map (after_first (by_tag l)) x) ≡ is_some x
-    some_map None = refl
-    some_map (Some k) = refl
+    go : (t u : Bool) → (if not (not t) && u then names (l ∷ m ∷ ls) else run_by n (names (m ∷ ls))) ≡ [] → (run_by n (names (m ∷ ls)) ≡ [] → first_run to_the_end n 0 (o + l.size) (tags (m ∷ ls)) ≡ None)
+        → (if t && (u && true) then Some (from_first (by_tag l) (to_the_end (tags (m ∷ ls)))) else option_map (after_first (by_tag l)) (first_run to_the_end n 0 (o + l.size) (tags (m ∷ ls)))) ≡ None
+    go true true e ih = absurd (cc)
+    go true false e ih = ap (option_map (after_first (by_tag l))) (ih e)
+    go false u e ih = ap (option_map (after_first (by_tag l))) (ih e)
 
-    go : (t u : Bool) → is_some (first_run to_the_end n 0 (o + l.size) (tags (m ∷ ls))) ≡ is_some (first_whole n (names (m ∷ ls)))
-        → is_some (if t && (u && true) then Some (from_first (by_tag l) (to_the_end (tags (m ∷ ls)))) else option_map (after_first (by_tag l)) (first_run to_the_end n 0 (o + l.size) (tags (m ∷ ls))))
-        ≡ is_some (if not (not t) && u then Some l.name else first_whole n (names (m ∷ ls)))
-    go true true ih = refl
-    go true false ih = some_map _ ∙ ih
-    go false u ih = some_map _ ∙ ih
+-- blocks that keep nothing
+pub used_same : (n : ℕ) (ls : List Label) → length (by.used_up n (names ls)) ≡ used_up n (tags ls)
+used_same n [] = refl
+used_same n (l ∷ ls) = go (is_free l.tag) (nat_eq (kept n l.size (tags ls)) 0) (ap (λ k. nat_eq k 0) (kept_same n l.size ls)) (used_same n ls)
+  where
+    go : (t z : Bool) → nat_eq (by.kept n l.size (names ls)) 0 ≡ z → length (by.used_up n (names ls)) ≡ used_up n (tags ls)
+        → length ((if not (not t) && nat_eq (by.kept n l.size (names ls)) 0 then by_name l ∷ [] else []) ++ by.used_up n (names ls)) ≡ (if t && z then 1 else 0) + used_up n (tags ls)
+    go t z e ih = subst (λ y. length ((if not (not t) && y then by_name l ∷ [] else []) ++ by.used_up n (names ls)) ≡ (if t && z then 1 else 0) + used_up n (tags ls)) (sym e) (at t z)
+      where
+        at : (t z : Bool) → length ((if not (not t) && z then by_name l ∷ [] else []) ++ by.used_up n (names ls)) ≡ (if t && z then 1 else 0) + used_up n (tags ls)
+        at true true = omega (arith, ih)
+        at true false = omega (arith, ih)
+        at false z = omega (arith, ih)
 
--- the last block of the list is that of the run
-ends_append : (fs bs : List machine.Block) → starts_free bs ≡ true → machine.ends_live (fs ++ bs) ≡ machine.ends_live bs
-ends_append fs [] e = absurd (false≢true e)
-ends_append [] (b ∷ bs) e = refl
-ends_append (f ∷ []) (b ∷ bs) e = refl
-ends_append (f ∷ g ∷ fs) (b ∷ bs) e = ends_append (g ∷ fs) (b ∷ bs) e
+-- a run is refused on both sides
+module _ (v : View) (hs : List (Option Handle)) (s : State) (w : IsWellFormed v) (ws : IsWell s) (g : HasBlocksOf v (kept_name hs) s) (n : ℕ) (ls : List Label) where
+  none_spent : (us : List Block) → (us ≢ []) → (k : ℕ) → length us ≡ k → nat_eq k 0 ≡ false
+  none_spent [] some k e = absurd (some refl)
+  none_spent (u ∷ us) some k e = ne_eqb k 0 (λ q. absurd (omega (arith, e, q)))
 
-same_last_end : (bs : List machine.Block) (p : Split) → IsRunIn IsNil bs p → machine.ends_live p.run ≡ machine.ends_live bs
-same_last_end bs p k = sym (ap machine.ends_live (k.is ∙ ap (λ l. p.front ++ (p.run ++ l)) k.back ∙ ap (λ l. p.front ++ l) (append-nil p.run)) ∙ ends_append p.front p.run k.begins)
+  pub can_follow : CanFollow n v (names ls) → (nat_eq (used_up n (tags ls)) 0 && is_short_of 1 s) ≡ false
+  can_follow (inl room) = ap (λ b. nat_eq (used_up n (tags ls)) 0 && b) (has_room v (kept_name hs) s w ws g 1 room) ∙ and_right (nat_eq (used_up n (tags ls)) 0) false refl
+  can_follow (inr some) = ap (λ b. b && is_short_of 1 s) (none_spent (by.used_up n (names ls)) some (used_up n (tags ls)) (used_same n ls))
+
+  pub cannot_follow : (CanFollow n v (names ls) → ⊥) → (nat_eq (used_up n (tags ls)) 0 && is_short_of 1 s) ≡ true
+  cannot_follow none = go (nat_eq (used_up n (tags ls)) 0) refl (is_short_of 1 s) refl
+    where
+      go : (b : Bool) → nat_eq (used_up n (tags ls)) 0 ≡ b → (c : Bool) → is_short_of 1 s ≡ c → (nat_eq (used_up n (tags ls)) 0 && is_short_of 1 s) ≡ true
+      go true f true h = ap₂ (λ x y. x && y) f h
+      go false f c h = absurd (none (inr (λ q. true≢false (ap (λ k. nat_eq k 0) (ap (λ (l : List Block). length l) (sym q) ∙ used_same n ls) ∙ f))))
+      go true f false h = absurd (none (inl (room_for v (kept_name hs) s w ws g 1 h)))
 
 pub well_steps : (s : State) → IsWell s → (n : ℕ) → IsWell (compact_by n s (first_run to_the_end n 0 0 s.blocks)).state
 well_steps s w n = go (first_run to_the_end n 0 0 s.blocks) refl
@@ -494,13 +522,25 @@ well_steps s w n = go (first_run to_the_end n 0 0 s.blocks) refl
     go None e = well_quiet s w machine.Gone
     go (Some p) e = let k = first_run_in IsNil to_the_end to_the_end_in n 0 0 s.blocks p e in well_slides s w n _ p k.is k.begins (ap starts_free k.back)
 
+-- blocks from the first free one of a step on
+record IsSplitBy (n : ℕ) (bs : List Block) : Type 0 where
+  front : List Block
+  first : Block
+  rest : List Block
+  is : bs ≡ front ++ first ∷ rest
+  few : AllByRecursion (λ (b : Block). b.used ≡ false → b.size < n) front
+  free : first.used ≡ false
+  whole : n ≤ first.size
+  more : rest ≢ []
+
 few_tags : (n : ℕ) (ls : List Label) → AllByRecursion (λ (b : Block). b.used ≡ false → b.size < n) (names ls) → AllByRecursion (λ (d : machine.Block). is_free d.tag ≡ true → d.size < n) (tags ls)
 few_tags n [] a = tt
 few_tags n (l ∷ ls) a = (λ e. a.0 (ap not e), few_tags n ls a.1)
 
-module _ (v : View) (hs : List (Option Handle)) (s : State) (w : IsWellFormed v) (ws : IsWell s) (g : HasBlocksOf v (kept_name hs) s) (n : ℕ) (u : View) (w' : IsWellFormed u) (h : SlidesBy n v u) where
-  parts : (front : List Label) × (back : List Label) × (g.labels ≡ front ++ back) × (names front ≡ h.front) × (names back ≡ h.first ∷ h.rest)
-  parts = map_parts by_name g.labels h.front (h.first ∷ h.rest) (sym g.view ∙ h.is)
+-- the run that the machine finds
+module _ (v : View) (hs : List (Option Handle)) (s : State) (g : HasBlocksOf v (kept_name hs) s) (n : ℕ) (o : IsSplitBy n v.blocks) where
+  parts : (front : List Label) × (back : List Label) × (g.labels ≡ front ++ back) × (names front ≡ o.front) × (names back ≡ o.first ∷ o.rest)
+  parts = map_parts by_name g.labels o.front (o.first ∷ o.rest) (sym g.view ∙ o.is)
 
   -- the run that slides
   abbrev end_split : Split
@@ -508,26 +548,34 @@ module _ (v : View) (hs : List (Option Handle)) (s : State) (w : IsWellFormed v)
 
   found_there : first_run to_the_end n 0 0 s.blocks ≡ Some end_split
   found_there =
-      let q = map_first by_name parts.1 h.first h.rest parts.4 in
-      let whole : n ≤ q.0.size = subst (λ (b : Block). n ≤ b.size) (sym q.3) h.whole in
+      let q = map_first by_name parts.1 o.first o.rest parts.4 in
+      let whole : n ≤ q.0.size = subst (λ (b : Block). n ≤ b.size) (sym q.3) o.whole in
       ap (first_run to_the_end n 0 0) (g.state ∙ ap tags parts.2 ∙ map-append by_tag parts.0 parts.1 ∙ ap (λ l. tags parts.0 ++ tags l) q.2)
-      ∙ run_there n 0 (tags parts.0) (by_tag q.0) (tags q.1) (few_tags n parts.0 (subst (AllByRecursion (λ (b : Block). b.used ≡ false → b.size < n)) (sym parts.3) h.few))
-      (free (is_free q.0.tag) (ap (λ (b : Block). b.used) q.3 ∙ h.free)) whole (rest_there q.1 q.4)
+      ∙ run_there n 0 (tags parts.0) (by_tag q.0) (tags q.1) (few_tags n parts.0 (subst (AllByRecursion (λ (b : Block). b.used ≡ false → b.size < n)) (sym parts.3) o.few))
+      (free (is_free q.0.tag) (ap (λ (b : Block). b.used) q.3 ∙ o.free)) whole (rest_there q.1 q.4)
       ∙ ap (λ l. Some (let p : Split = record { front = tags parts.0; run = tags l; back = [] } in p)) (sym q.2)
     where
       free : (t : Bool) → not t ≡ false → t ≡ true
       free true e = refl
       free false e = absurd (true≢false e)
 
-      rest_there : (ls : List Label) → names ls ≡ h.rest → tags ls ≢ []
-      rest_there [] e z = h.more (sym e)
+      rest_there : (ls : List Label) → names ls ≡ o.rest → tags ls ≢ []
+      rest_there [] e z = o.more (sym e)
       rest_there (l ∷ ls) e z = absurd (cc)
+
+-- what a run leaves
+module _ (v : View) (hs : List (Option Handle)) (s : State) (w : IsWellFormed v) (ws : IsWell s) (g : HasBlocksOf v (kept_name hs) s) (n : ℕ) (u : View) (w' : IsWellFormed u) (h : SlidesBy n v u) where
+  abbrev slid_split : IsSplitBy n v.blocks
+  slid_split = record { front = h.front; first = h.first; rest = h.rest; is = h.is; few = h.few; free = h.free; whole = h.whole; more = h.more }
 
   slides : IsSlidRun n v u h.front (h.first ∷ h.rest) []
   slides = record { is = h.is ∙ ap (λ l. h.front ++ l) (sym (append-nil (h.first ∷ h.rest))); name = h.name; view = h.view }
 
-  steps_agree : HasBlocksOf u (kept_name hs) (slid_run n s end_split)
-  steps_agree = run_agrees v hs s w ws g n u w' h.front (h.first ∷ h.rest) [] slides parts.0 parts.1 [] (parts.2 ∙ ap (λ l. parts.0 ++ l) (sym (append-nil parts.1))) parts.3 parts.4 refl
+  abbrev found : (front : List Label) × (back : List Label) × (g.labels ≡ front ++ back) × (names front ≡ h.front) × (names back ≡ h.first ∷ h.rest)
+  found = parts v hs s g n slid_split
+
+  steps_agree : HasBlocksOf u (kept_name hs) (slid_run n s (end_split v hs s g n slid_split))
+  steps_agree = run_agrees v hs s w ws g n u w' h.front (h.first ∷ h.rest) [] slides found.0 found.1 [] (found.2 ∙ ap (λ l. found.0 ++ l) (sym (append-nil found.1))) found.3 found.4 refl
 
 -- ---- the step
 
@@ -547,49 +595,36 @@ module _ (v w : View) (hs left : List (Option Handle)) (r : Reply) (s : State) (
   moves_are ms a = moves_agree n hs 0 0 p.agrees.labels ms (one_number v hs s p.formed ws p.agrees) (subst (λ bs. AreNumbered hs (by.moves_by n 0 0 bs) ms) p.agrees.view a)
       ∙ ap (moves_by n 0 0) (sym p.agrees.state)
 
-  whole_too : is_some (first_run to_the_end n 0 0 s.blocks) ≡ is_some (first_whole n v.blocks)
-  whole_too = ap (λ bs. is_some (first_run to_the_end n 0 0 bs)) p.agrees.state ∙ same_whole n 0 p.agrees.labels ∙ sym (ap (λ bs. is_some (first_whole n bs)) p.agrees.view)
-
-  same_ends : ends_used v.blocks ≡ machine.ends_live s.blocks
-  same_ends = ap ends_used p.agrees.view ∙ sym (same_end p.agrees.labels) ∙ ap machine.ends_live (sym p.agrees.state)
-
-  can : CanStep v → (machine.ends_live s.blocks && is_short_of 1 s) ≡ false
-  can (inl room) = ap (λ b. machine.ends_live s.blocks && b) (has_room v (kept_name hs) s p.formed ws p.agrees 1 room) ∙ and_right (machine.ends_live s.blocks) false refl
-  can (inr free) = ap (λ b. b && is_short_of 1 s) (sym same_ends ∙ free)
-
-  cannot : (CanStep v → ⊥) → (machine.ends_live s.blocks && is_short_of 1 s) ≡ true
-  cannot none = go (machine.ends_live s.blocks) refl (is_short_of 1 s) refl
-    where
-      go : (b : Bool) → machine.ends_live s.blocks ≡ b → (c : Bool) → is_short_of 1 s ≡ c → (machine.ends_live s.blocks && is_short_of 1 s) ≡ true
-      go true f true h = ap₂ (λ x y. x && y) f h
-      go false f c h = absurd (none (inr (same_ends ∙ f)))
-      go true f false h = absurd (none (inl (room_for v (kept_name hs) s p.formed ws p.agrees 1 h)))
-
-  none_if : {A : Type 0} (o : Option A) → is_some o ≡ false → o ≡ None
-  none_if None f = refl
-  none_if (Some x) f = absurd (true≢false f)
-
-  -- the run ends as the list does
-  refused_same : (q : Split) → first_run to_the_end n 0 0 s.blocks ≡ Some q → (machine.ends_live q.run && is_short_of 1 s) ≡ (machine.ends_live s.blocks && is_short_of 1 s)
-  refused_same q f = ap (λ b. b && is_short_of 1 s) (same_last_end s.blocks q (first_run_in IsNil to_the_end to_the_end_in n 0 0 s.blocks q f))
+  none_found : run_by n v.blocks ≡ [] → first_run to_the_end n 0 0 s.blocks ≡ None
+  none_found e = ap (first_run to_the_end n 0 0) p.agrees.state ∙ none_there n 0 p.agrees.labels (ap (run_by n) (sym p.agrees.view) ∙ e)
 
   pub steps_taken : (d : Bool) → CompactsBy n v w d → (ms : List Move) → AreNumbered hs (if d then by.moves_by n 0 0 v.blocks else []) ms → r ≡ (if d then Compacted ms else Answer machine.Refused)
       → Agrees (compact_by n s (first_run to_the_end n 0 0 s.blocks))
-  steps_taken true (inl t) ms a is = subst (λ o. Agrees (compact_by n s o)) (sym (none_if _ (whole_too ∙ ap is_some t.0)))
+  steps_taken true (inl t) ms a is = subst (λ o. Agrees (compact_by n s o)) (sym (none_found t.0))
       (stays (Compacted []) t.1 (is ∙ ap Compacted (none_numbered hs _ ms (none_whole n v.blocks t.0 0) a)))
   steps_taken true (inr t) ms a is =
-      let q = end_split v hs s p.formed ws p.agrees n w formed t.1 in
-      let there = found_there v hs s p.formed ws p.agrees n w formed t.1 in
+      let o = slid_split v hs s p.formed ws p.agrees n w formed t.1 in
+      let q = end_split v hs s p.agrees n o in
+      let ls = (parts v hs s p.agrees n o).1 in
       let now : State = slid_run n s q in
-      subst (λ o. Agrees (compact_by n s o)) (sym there)
-      (subst (λ b. Agrees (if b then replies_only s (Answer machine.Refused) else record { state = now; reply = Compacted (moves_by n 0 0 s.blocks) })) (sym (refused_same q there ∙ can t.0)) (
+      let run : run_by n v.blocks ≡ names ls = ap (run_by n) o.is ∙ whole_there n o.front o.first o.rest o.few o.free o.whole o.more ∙ sym (parts v hs s p.agrees n o).4 in
+      subst (λ o. Agrees (compact_by n s o)) (sym (found_there v hs s p.agrees n o))
+      (subst (λ b. Agrees (if b then replies_only s (Answer machine.Refused) else record { state = now; reply = Compacted (moves_by n 0 0 s.blocks) }))
+      (sym (can_follow v hs s p.formed ws p.agrees n ls (subst (CanFollow n v) run t.0))) (
         is ∙ ap Compacted (moves_are ms a),
         subst (λ l. IsAtState w l now) (sym e)
             (record { formed = formed; agrees = steps_agree v hs s p.formed ws p.agrees n w formed t.1; grants = p.grants }),
       ))
-  steps_taken false t ms a is = go (first_run to_the_end n 0 0 s.blocks) refl
+  steps_taken false t ms a is = go (run_by n v.blocks) refl
     where
-      go : (o : Option Split) → first_run to_the_end n 0 0 s.blocks ≡ o → Agrees (compact_by n s o)
-      go None f = absurd (t.0 (none_if _ (sym whole_too ∙ ap is_some f)))
-      go (Some q) f = subst (λ b. Agrees (if b then replies_only s (Answer machine.Refused)
-          else record { state = slid_run n s q; reply = Compacted (moves_by n 0 0 s.blocks) })) (sym (refused_same q f ∙ cannot t.1)) (stays (Answer machine.Refused) t.2 is)
+      go : (bs : List Block) → run_by n v.blocks ≡ bs → Agrees (compact_by n s (first_run to_the_end n 0 0 s.blocks))
+      go [] f = absurd (t.0 f)
+      go (b ∷ bs) f =
+          let i : IsWhole n v.blocks b.name = whole_is n v.blocks b.name (ap (first_or None) f) in
+          let o : IsSplitBy n v.blocks = record { front = i.front; first = i.first; rest = i.rest; is = i.is; few = i.few; free = i.free; whole = i.whole; more = i.more } in
+          let ls = (parts v hs s p.agrees n o).1 in
+          let run : names ls ≡ run_by n v.blocks = (parts v hs s p.agrees n o).4 ∙ sym i.run in
+          let q = end_split v hs s p.agrees n o in
+          subst (λ o. Agrees (compact_by n s o)) (sym (found_there v hs s p.agrees n o))
+          (subst (λ b. Agrees (if b then replies_only s (Answer machine.Refused) else record { state = slid_run n s q; reply = Compacted (moves_by n 0 0 s.blocks) }))
+          (sym (cannot_follow v hs s p.formed ws p.agrees n ls (λ c. t.1 (subst (CanFollow n v) run c)))) (stays (Answer machine.Refused) t.2 is))

@@ -1,10 +1,10 @@
 -- A run that slides by whole steps, at two states that differ only in numbers and stamps.
 use Rattle.offset_calls.proofs.Common.{◌≡◌, ℕ, suc, ◌+◌, ◌-◌, ◌*◌, ◌≤◌, Bool, true, false, not, ◌⊎◌, List, [], ◌∷◌, ◌++◌, length, if◌then◌else◌, refl, sym, ap}
-use Rattle.offset_calls.proofs.Common.{ap₂, subst, subst₂, ◌∙◌, inl, inr, arith, lt-ltb, le-ltb, cases_lt, map-append, length-map, State, is_free, stamp_of_call}
+use Rattle.offset_calls.proofs.Common.{◌&&◌, nat_eq, ap₂, subst, subst₂, ◌∙◌, inl, inr, arith, lt-ltb, le-ltb, cases_lt, map-append, length-map, State, is_free, stamp_of_call}
 use Rattle.offset_script.proofs.Alike.{IsAlike, IsMatched}
 use Rattle.offset_script.proofs.Pairs.{Kind, Lives, Frees, Pair, pair, left_tag, left, right, lefts, rights, AreAgreed, IsSameOrder, same_free, pair_free_part, lefts_free_part, rights_free_part, in_free_part}
 use Rattle.offset_script.proofs.{Members.IsIn, Members.in_append, Members.in_left, Members.in_right, Labels.map_three}
-use Rattle.offset_calls.specs.Stepped.{kept, stepped, given_up, slid_by, slid_run}
+use Rattle.offset_calls.specs.Stepped.{kept, stepped, given_up, used_up, slid_by, slid_run}
 use Rattle.offset_script.specs.Machine as machine
 
 pub kept_right : (n m : ℕ) (ps : List Pair) → kept n m (lefts ps) ≡ kept n m (rights ps)
@@ -39,6 +39,10 @@ rights_stepped n s u (q ∷ ps) = map-append right (left_pair n s u q ps) (stepp
 pub given_pairs : (n : ℕ) (ps : List Pair) → given_up n (lefts ps) ≡ given_up n (rights ps)
 given_pairs n [] = refl
 given_pairs n (q ∷ ps) = ap₂ (λ a b. a + b) (ap₂ (λ (t : Bool) k. if t then q.size - k else 0) (same_free q.kind) (kept_right n q.size ps)) (given_pairs n ps)
+
+pub used_pairs : (n : ℕ) (ps : List Pair) → used_up n (lefts ps) ≡ used_up n (rights ps)
+used_pairs n [] = refl
+used_pairs n (q ∷ ps) = ap₂ (λ a b. a + b) (ap₂ (λ (t : Bool) k. if t && nat_eq k 0 then 1 else 0) (same_free q.kind) (kept_right n q.size ps)) (used_pairs n ps)
 
 abbrev slid_pairs : ℕ → ℕ → ℕ → List Pair → List Pair
 slid_pairs n s u ps = stepped_pairs n s u ps ++ pair (given_up n (lefts ps)) (Frees (s + length (lefts ps)) (u + length (lefts ps))) ∷ []

@@ -7,13 +7,13 @@ use Rattle.std.proofs.lemmas.Bool.Decides.{nat_tests}
 use Rattle.std.proofs.lemmas.List.Elements.{filter-append}
 use Rattle.offset_allocator.specs.declared.moves.budget.Progress.{Progress}
 use Rattle.offset_allocator.specs.declared.moves.room.RoomCost.{RoomCost}
+use Rattle.offset_allocator.specs.Moving.BySteps.{CanFollow}
 use Rattle.offset_allocator.specs.Moving.BySteps as by
-use Rattle.offset_allocator.specs.Moving.Budget.{CanFollow, CompactsWithin, IsRunWithin, IsWithin, SlidesWithin, StopsAt, first_from}
+use Rattle.offset_allocator.specs.Moving.Budget.{CompactsWithin, IsRunWithin, IsWithin, SlidesWithin, StopsAt, first_from}
 use Rattle.offset_allocator.specs.Moving.Budget as named_budget
 use Rattle.offset_allocator.specs.Moving.Compacting as named_moves
 use Rattle.offset_allocator.proofs.Moving.Budgeted.{begun, from_here}
 use Rattle.offset_allocator.proofs.Tallies.{one-same, tally_append}
-use Rattle.offset_script.proofs.Agreed.{has_room, room_for}
 use Rattle.offset_script.proofs.Agreement.{Label, by_name, by_tag, IsAtState}
 use Rattle.offset_script.proofs.{Ends.total_units, Labels.names, Labels.tags, Lists.starts_free, Lists.total-append, Members.map_parts, Members.map_first, Well.IsWell, Well.well_quiet}
 use Rattle.offset_script.specs.Totals.{live}
@@ -23,7 +23,7 @@ use Rattle.offset_calls.specs.Calls.{CompactedWithin, compact_within, moves_of_r
 use Rattle.offset_calls.specs.Room.{Split, from_first, after_first}
 use Rattle.offset_calls.specs.{Slides.Notes, Steps.TakesWithin, Steps.comes_so_far, Stepped.first_run, Stepped.slid_run}
 use Rattle.offset_calls.proofs.Rooms.{Agrees, none_numbered, noted, stays}
-use Rattle.offset_calls.proofs.{Runs.cost_same, Stepped.IsReach, Stepped.IsSlidRun, Stepped.first_run_in, Stepped.run_agrees, Stepped.run_here, Stepped.run_moves, Stepped.same_end, Stepped.well_slides}
+use Rattle.offset_calls.proofs.{Runs.cost_same, Stepped.IsReach, Stepped.IsSlidRun, Stepped.first_run_in, Stepped.run_agrees, Stepped.run_here, Stepped.run_moves, Stepped.can_follow, Stepped.cannot_follow, Stepped.well_slides}
 
 abbrev split : List machine.Block → List machine.Block → List machine.Block → Split
 split f r b = record { front = f; run = r; back = b }
@@ -272,20 +272,6 @@ module _ (v w : View) (hs left : List (Option Handle)) (r : Reply) (s : State) (
   abbrev IsSame : Outcome → Type 0
   IsSame o = Agrees v w hs left r s formed ws p e o
 
-  -- a run is refused on both sides
-  module _ (ls : List Label) where
-    can : CanFollow v (names ls) → (machine.ends_live (tags ls) && is_short_of 1 s) ≡ false
-    can (inl room) = ap (λ b. machine.ends_live (tags ls) && b) (has_room v (kept_name hs) s p.formed ws p.agrees 1 room) ∙ and_right (machine.ends_live (tags ls)) false refl
-    can (inr free) = ap (λ b. b && is_short_of 1 s) (same_end ls ∙ free)
-
-    cannot : (CanFollow v (names ls) → ⊥) → (machine.ends_live (tags ls) && is_short_of 1 s) ≡ true
-    cannot none = go (machine.ends_live (tags ls)) refl (is_short_of 1 s) refl
-      where
-        go : (b : Bool) → machine.ends_live (tags ls) ≡ b → (c : Bool) → is_short_of 1 s ≡ c → (machine.ends_live (tags ls) && is_short_of 1 s) ≡ true
-        go true f true h = ap₂ (λ x y. x && y) f h
-        go false f c h = absurd (none (inr (sym (same_end ls) ∙ f)))
-        go true f false h = absurd (none (inl (room_for v (kept_name hs) s p.formed ws p.agrees 1 h)))
-
   module _ (n from u k : ℕ) where
     abbrev found : Option Split
     found = first_run (longest_that (is_within u k)) n from 0 s.blocks
@@ -311,13 +297,13 @@ module _ (v w : View) (hs left : List (Option Handle)) (r : Reply) (s : State) (
     none_found f = none_if found (ap (λ bs. is_some (first_run (longest_that (is_within u k)) n from 0 bs)) p.agrees.state ∙ same_begun (longest_that (is_within u k)) n from 0 p.agrees.labels
         ∙ ap is_some (ap (first_from n from 0) (sym p.agrees.view) ∙ f))
 
-    slid : (xs : List named_moves.Move) (ms : List Move) → AreNumbered hs xs ms → (q : Progress) → (h : SlidesWithin n from u k v w q) → CanFollow v (h.first ∷ h.rest)
+    slid : (xs : List named_moves.Move) (ms : List Move) → AreNumbered hs xs ms → (q : Progress) → (h : SlidesWithin n from u k v w q) → CanFollow n v (h.first ∷ h.rest)
         → FoldsTo Notes [] (by.moves_by n (units h.front) (units h.front) (h.first ∷ h.rest)) xs → r ≡ CompactedWithin q.next ms → IsSame (compact_within n s found)
-    slid xs ms a q h can_follow folds is =
+    slid xs ms a q h follows folds is =
         let l = labelled h.front h.first h.rest h.back h.reached in
         let at = run_of l.f l.r l.b in
         let run : IsSlidRun n v w h.front (h.first ∷ h.rest) h.back = record { is = h.reached.is; name = h.name; view = h.view } in
-        let fits = can l.r (subst (CanFollow v) (sym l.run_is) can_follow) in
+        let fits = can_follow v hs s p.formed ws p.agrees n l.r (subst (CanFollow n v) (sym l.run_is) follows) in
         let moved : ms ≡ moves_of_run n at = run_moves v hs s p.formed ws p.agrees n w formed h.front (h.first ∷ h.rest) h.back run l.f l.r l.b l.is l.front_is l.run_is l.back_is ms
         (subst (λ ys. AreNumbered hs ys ms) (noted _ [] xs folds) a) in
         let next : q.next ≡ next_of at = ap (λ (p : Progress). p.next) h.progress
@@ -337,7 +323,7 @@ module _ (v w : View) (hs left : List (Option Handle)) (r : Reply) (s : State) (
     taken xs ms a None m is =
         let l = labelled m.2.0 m.2.1 m.2.2 m.2.3 m.2.4 in
         let at = run_of l.f l.r l.b in
-        let full = cannot l.r (λ c. m.2.5 (subst (CanFollow v) l.run_is c)) in
+        let full = cannot_follow v hs s p.formed ws p.agrees n l.r (λ c. m.2.5 (subst (CanFollow n v) l.run_is c)) in
         subst (λ o. IsSame (compact_within n s o)) (sym (found_is m.2.0 m.2.1 m.2.2 m.2.3 m.2.4))
         (subst (λ b. IsSame (if b then replies_only s (Answer machine.Refused) else record { state = slid_run n s at; reply = CompactedWithin (next_of at) (moves_of_run n at) })) (sym full)
         (stays v w hs left r s formed ws p e (Answer machine.Refused) m.0 is))

@@ -8,7 +8,7 @@ use Rattle.offset_allocator.specs.declared.reports.Refusal as allocator
 use Rattle.offset_allocator.specs.declared.reports.Refusal.TheVariants.{Nodes, TooLarge, Space, Fragmented}
 use Rattle.offset_allocator.specs.Classes.{value, up}
 use Rattle.offset_script.specs.Grammar.{has_valid_alignment}
-use Rattle.offset_script.specs.Machine.{Tag, Live, Free, Block, block, is_free, total, free_sizes, Place, place_of, chosen_place, free_part, units_at_start, without_start, State, is_short_of, ends_live}
+use Rattle.offset_script.specs.Machine.{Tag, Live, Free, Block, block, is_free, total, free_sizes, Place, place_of, chosen_place, free_part, units_at_start, without_start, State, is_short_of}
 use Rattle.offset_script.specs.Machine.{stamp_of_call, answer_view}
 use Rattle.offset_script.specs.Machine as machine
 use Rattle.offset_script.specs.Totals.{live}
@@ -21,7 +21,7 @@ use Rattle.offset_calls.specs.RoomBySteps.{cheapest_by, room_cost_by}
 use Rattle.offset_calls.specs.AtOffset.{allocate_at}
 use Rattle.offset_calls.specs.Tight.{allocate_tight, reason_tight}
 use Rattle.offset_calls.specs.Ending.{relocate, relocate_aligned, can_retract, retracted, first_live, last_live, live_before, live_after}
-use Rattle.offset_calls.specs.Stepped.{kept, first_run, slid_run, to_the_end}
+use Rattle.offset_calls.specs.Stepped.{kept, used_up, first_run, slid_run, to_the_end}
 use Rattle.offset_calls.specs.Budget.{is_within, longest_that, next_of}
 use Rattle.offset_calls.specs.declared.calls.LiveRange.{LiveRange}
 use Rattle.offset_calls.specs.declared.calls.Reply as program
@@ -147,11 +147,11 @@ moves_by n from to (b ∷ bs) =
 abbrev pub moves_of_run : ℕ → Split → List Move
 moves_of_run n p = moves_by n (total p.front) (total p.front) p.run
 
--- a run slides, with this reply; it is refused where the run ends with a live block and the node limit admits no block
--- after it
+-- a run slides, with this reply; it is refused where the node limit admits no block after it, and none of its blocks is used
+-- up, which would make place for it
 abbrev pub slides_run : ℕ → State → Reply → Split → Outcome
 slides_run n s r p =
-    if ends_live p.run && is_short_of 1 s then replies_only s (Answer machine.Refused)
+    if nat_eq (used_up n p.run) 0 && is_short_of 1 s then replies_only s (Answer machine.Refused)
     else record { state = slid_run n s p; reply = r }
 
 -- all blocks from the first free one of at least n units on slide; nothing changes where there is none with a block after it

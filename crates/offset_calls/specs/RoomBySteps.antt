@@ -1,15 +1,10 @@
 -- Making room by whole steps on the plain machine: the runs of blocks that would serve a request, and what the cheapest
 -- costs.
-use Rattle.std.specs.Prelude.{ℕ, ◌+◌, ◌-◌, Bool, not, ◌&&◌, List, [], ◌∷◌, length, Option, Some, None, option_map, nat_eq, nat_le, if◌then◌else◌}
+use Rattle.std.specs.Prelude.{ℕ, ◌+◌, ◌-◌, Bool, not, ◌&&◌, List, [], ◌∷◌, length, Option, Some, None, option_map, nat_le, if◌then◌else◌}
 use Rattle.offset_allocator.specs.declared.moves.room.RoomCost.{RoomCost}
 use Rattle.offset_script.specs.Machine.{Block, State, is_free, ends_live}
 use Rattle.offset_calls.specs.Room.{Split, from_first, cheaper, cost_of}
-use Rattle.offset_calls.specs.Stepped.{kept, given_up}
-
--- how many of the free blocks keep nothing
-abbrev pub used_up : ℕ → List Block → ℕ
-used_up n [] = 0
-used_up n (b ∷ bs) = (if is_free b.tag && nat_eq (kept n b.size bs) 0 then 1 else 0) + used_up n bs
+use Rattle.offset_calls.specs.Stepped.{given_up, used_up}
 
 -- whether a run serves: it ends with a free block, gives up at least `want` units, and uses up at least `short` blocks
 abbrev pub serves : ℕ → ℕ → ℕ → List Block → Bool

@@ -1,5 +1,5 @@
 -- Sliding by whole steps on the plain machine: what each free block keeps, which run slides, and what it leaves.
-use Rattle.std.specs.Prelude.{ℕ, ◌+◌, ◌-◌, ◌%◌, ◌&&◌, List, [], ◌∷◌, ◌++◌, length, Option, Some, None, option_map, nat_le, if◌then◌else◌}
+use Rattle.std.specs.Prelude.{ℕ, ◌+◌, ◌-◌, ◌%◌, ◌&&◌, List, [], ◌∷◌, ◌++◌, length, Option, Some, None, option_map, nat_eq, nat_le, if◌then◌else◌}
 use Rattle.offset_script.specs.Machine.{Free, Block, State, block, is_free, free_part, stamp_of_call}
 use Rattle.offset_calls.specs.Room.{Split, from_first, after_first}
 
@@ -17,6 +17,11 @@ stepped n t (b ∷ bs) = (if is_free b.tag then free_part (kept n b.size bs) t e
 abbrev pub given_up : ℕ → List Block → ℕ
 given_up n [] = 0
 given_up n (b ∷ bs) = (if is_free b.tag then b.size - kept n b.size bs else 0) + given_up n bs
+
+-- how many of the free blocks keep nothing
+abbrev pub used_up : ℕ → List Block → ℕ
+used_up n [] = 0
+used_up n (b ∷ bs) = (if is_free b.tag && nat_eq (kept n b.size bs) 0 then 1 else 0) + used_up n bs
 
 -- a run of blocks slid by steps of n, and what they give up as one free block after them, the newest
 abbrev pub slid_by : ℕ → ℕ → List Block → List Block

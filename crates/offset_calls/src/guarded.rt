@@ -173,7 +173,7 @@ pub fn play_guarded<T: Tables>(
         All (IsGrantOf (map reply_view p.replies.items)) p.tickets.items) }
 {
     let mut player: TicketPlayer<T> = TicketPlayer {
-        space: GuardedOf::with_max_allocs(alloc, size, max_allocs, realm)?,
+        space: GuardedOf::with_realm(alloc, size, max_allocs, realm)?,
         tickets: Vec::new(alloc),
     };
     // A step of the proof, which does nothing, here and below.

@@ -739,14 +739,30 @@ const STEPS_AT_THE_LIMIT: List = List {
         // with an alignment it needs two more
         (Call::RoomCostBy(5, 2, 10), "RoomCost(None)"),
         (Call::CompactBy(11), "Compacted([])"),
-        (Call::CompactBy(10), "Answer(Refused)"),
-        (Call::CompactWithin(10, 0, 15, 2), "Answer(Refused)"),
+        // of 10 units 1 stays, and of 5 all
+        (Call::CompactBy(9), "Answer(Refused)"),
+        (Call::CompactWithin(9, 0, 15, 2), "Answer(Refused)"),
         (Call::Offset(2), "Offset(10)"),
-        (Call::Command(Command::Free(3)), "Answer(Freed)"),
-        // the last block is free
+        // the last block of the run is free
         (
-            Call::CompactBy(10),
-            "Compacted([Moved { number: 2, from: 10, to: 0, size: 5 }])",
+            Call::CompactWithin(9, 0, 5, 2),
+            "CompactedWithin(Some(20), [Moved { number: 2, from: 10, to: 1, size: 5 }])",
+        ),
+        // 1 free, 5 live, 14 free, 10 live
+        (Call::CompactBy(9), "Answer(Refused)"),
+        // the block of two steps is used up
+        (
+            Call::CompactBy(7),
+            "Compacted([Moved { number: 3, from: 20, to: 6, size: 10 }])",
+        ),
+        // 1 free, 5 and 10 live, 14 free
+        (
+            Call::CompactWithin(1, 0, 5, 1),
+            "CompactedWithin(Some(6), [Moved { number: 2, from: 1, to: 0, size: 5 }])",
+        ),
+        (
+            Call::CompactBy(1),
+            "Compacted([Moved { number: 3, from: 6, to: 5, size: 10 }])",
         ),
     ],
 };

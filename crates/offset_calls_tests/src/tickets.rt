@@ -238,7 +238,7 @@ fn expect_plain<T: Tables>(rt: &impl Abort, alloc: Global, state: u64)
     requires { 71 < T.Index.MAX }
 {
     let mut random = Random::new(state);
-    let space = GuardedOf::<T>::with_max_allocs(alloc, 1_000, 70, REALM);
+    let space = GuardedOf::<T>::with_realm(alloc, 1_000, 70, REALM);
     let mut space = space.expect(rt, "memory");
     let mut plain = Plain {
         live: Vec::new(alloc),

@@ -1,7 +1,7 @@
 -- Which tickets are live, and what a grant leaves of them.
 use Rattle.std.proofs.Common.{◌≡◌, ◌≢◌, ℕ, ◌+◌, ◌<◌, ◌≤◌, length, Bool, true, false, ◌&&◌, List, [], ◌∷◌, Option, Some, None, IsSome, nat_eq, option_map, slice_set, if◌then◌else◌, refl, sym, ap, ap₂}
 use Rattle.std.proofs.Common.{subst, ◌∙◌, inl, inr, arith, eq-eqb, ne_eqb}
-use Rattle.std.proofs.lemmas.Bool.{cases_eq, eqb-true, and_parts}
+use Rattle.std.proofs.lemmas.Bool.{cases_eq, cases_lt, eqb-true, and_parts}
 use Rattle.std.proofs.lemmas.List.{get_or-set_same, get_or-set_other}
 use Rattle.offset_allocator.specs.View.{Block, View, Handle, Place, AreNames, IsWellFormed, count_named, place_of}
 use Rattle.offset_allocator.specs.{Ranges.Range, Relations.Aligns, Relations.Allocates, Requests.CanGrant, Tight.AlignsTight, Tight.CanHold, AtOffset.AllocatesAt, AtOffset.CanGrantAt}
@@ -9,7 +9,11 @@ use Rattle.offset_allocator.specs.Ranges as named
 use Rattle.offset_allocator.proofs.{Reading.range_at, Tallies.hit_cases}
 use Rattle.offset_guarded.specs.declared.ticket.Ticket.{Ticket}
 use Rattle.offset_guarded.specs.State as state
-use Rattle.offset_guarded.specs.Guard.{Guard, Table, Grants, AreAlike, IsGuarded, IsLive, KeepsOthers, last_serial, cell, fits, serial_of}
+use Rattle.std.specs.Prelude.{MatchOption}
+use Rattle.offset_allocator.specs.declared.reports.Refusal.{Refusal as OfSpace}
+use Rattle.offset_allocator.specs.declared.reports.Refusal.TheVariants as why
+use Rattle.offset_guarded.specs.declared.refusal.Refusal.{Refusal}
+use Rattle.offset_guarded.specs.Guard.{Guard, Table, Grants, AreAlike, IsGuarded, IsLive, KeepsOthers, last_serial, cell, fits, for_space, of_space, serial_of}
 
 -- what the fields show
 abbrev pub guard : View → Table → ℕ → Guard
@@ -152,3 +156,22 @@ raised {max} {limit} {v} {w} {t} {u} h e cells given room small = record {
 -- what the fields show is well formed
 pub formed : {max : ℕ} {v : View} {t : Table} → IsWellFormed v → AreNames v → IsGuarded max v t → (realm : ℕ) → realm ≤ 4294967295 → state.IsWellFormed (guard v t realm)
 formed {max} {v} {t} w names is realm small = record { space = w; names = names; live = is.live; given = is.given; realm = small }
+
+-- ---- reasons
+-- what is so of a reason of the allocator is so of the reason that is made of it
+pub why_for : (P : OfSpace → Type 0) (Q : Type 0) (w : OfSpace) (r : Refusal) → r ≡ for_space w → P w → MatchOption (of_space r) Q P
+why_for P Q w r e p = subst (λ (r : Refusal). MatchOption (of_space r) Q P) (sym e) (go w p)
+  where
+    go : (w : OfSpace) → P w → MatchOption (of_space (for_space w)) Q P
+    go why.Nodes p = p
+    go why.TooLarge p = p
+    go why.Space p = p
+    go why.Fragmented p = p
+
+-- ---- names
+-- a live name is below the node limit
+pub name_below : (x : ℕ) (v : View) → IsWellFormed v → named.IsLive x v → x < v.max_allocs
+name_below x v w h = elim (cases_lt x v.max_allocs) [
+  | inl l ↦ l
+  | inr m ↦ absurd (no_range x v (w.below x (omega (arith, m))) h)
+]

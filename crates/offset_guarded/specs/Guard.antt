@@ -1,5 +1,5 @@
 -- What contracts see of a guarded allocator: which tickets are live, and what a call leaves of them.
-use Rattle.std.specs.Prelude.{codes, ◌≡◌, ℕ, ◌+◌, ◌<◌, ◌≤◌, Bool, ◌&&◌, List, Option, Some, None, IsSome, is_some, nat_eq, slice_index_or, if◌then◌else◌, option_map}
+use Rattle.std.specs.Prelude.{codes, ◌≡◌, ℕ, ◌+◌, ◌<◌, ◌≤◌, Bool, ◌&&◌, List, Option, Some, None, IsSome, is_some, nat_eq, slice_index_or, if◌then◌else◌, option_map, MatchOption}
 use Rattle.offset_allocator.specs.View.{View, Handle}
 use Rattle.offset_allocator.specs.Ranges.{Range}
 use Rattle.offset_allocator.specs.Ranges as named
@@ -8,7 +8,9 @@ use Rattle.offset_allocator.specs.Requests as allocator
 use Rattle.offset_allocator.specs.Tight as tight
 use Rattle.offset_guarded.specs.declared.ticket.Ticket.{Ticket}
 use Rattle.offset_guarded.specs.declared.refusal.Refusal.{Refusal}
-use Rattle.offset_guarded.specs.declared.refusal.Refusal.TheVariants.{Serials, Allocator}
+use Rattle.offset_guarded.specs.declared.refusal.Refusal.TheVariants.{Serials, Nodes, TooLarge, Space, Fragmented}
+use Rattle.offset_allocator.specs.declared.reports.Refusal.{Refusal as OfSpace}
+use Rattle.offset_allocator.specs.declared.reports.Refusal.TheVariants as why
 
 -- the last serial: the largest number of 64 bits
 abbrev pub last_serial : ℕ
@@ -119,20 +121,37 @@ pub record Grants (n : ℕ) (g h : Guard) (t : Ticket) : Type 0 where
   -- every other ticket has the range that it had
   pub others : KeepsOthers t g h
 
+-- the reason of the allocator, where a reason is one
+abbrev pub of_space : Refusal → Option OfSpace
+of_space Serials = None
+of_space Nodes = Some why.Nodes
+of_space TooLarge = Some why.TooLarge
+of_space Space = Some why.Space
+of_space Fragmented = Some why.Fragmented
+
+-- and a reason of the allocator as one here
+abbrev pub for_space : OfSpace → Refusal
+for_space why.Nodes = Nodes
+for_space why.TooLarge = TooLarge
+for_space why.Space = Space
+for_space why.Fragmented = Fragmented
+
 -- why a request that may add these blocks and takes these units is refused
 abbrev pub IsWhy : ℕ → ℕ → Guard → Refusal → Type 0
-IsWhy blocks units g Serials = g.given ≡ last_serial
-IsWhy blocks units g (Allocator why) = HasSerialLeft g × allocator.IsWhy blocks units g.space why
+IsWhy blocks units g r = MatchOption (of_space r) (g.given ≡ last_serial)
+    (λ w. HasSerialLeft g × allocator.IsWhy blocks units g.space w)
 
 -- why a request for any free block that holds it is refused
 abbrev pub IsWhyTight : ℕ → ℕ → Guard → Refusal → Type 0
-IsWhyTight n align g Serials = g.given ≡ last_serial
-IsWhyTight n align g (Allocator why) = HasSerialLeft g × tight.IsWhyTight n align g.space why
+IsWhyTight n align g r = MatchOption (of_space r) (g.given ≡ last_serial)
+    (λ w. HasSerialLeft g × tight.IsWhyTight n align g.space w)
 
 -- the text of a reason
 abbrev pub refusal_words : Refusal → List ℕ
-refusal_words Serials = codes "all serials are given"
-refusal_words (Allocator why) = allocator.refusal_words why
+refusal_words r = words_of (of_space r) where
+  words_of : Option OfSpace → List ℕ
+  words_of None = codes "all serials are given"
+  words_of (Some w) = allocator.refusal_words w
 
 -- what is true of the fields between two calls
 pub record IsGuarded (max : ℕ) (space : View) (t : Table) : Type 0 where

@@ -5,6 +5,7 @@ ghost use Rattle.offset_allocator.specs.Ranges as named;
 ghost use Rattle.offset_allocator.specs.Ranges.{size_of};
 ghost use Rattle.offset_allocator.specs.Moving.Relocating.{Relocates, RelocatesAligned, WouldBegin, offset_of};
 ghost use Rattle.offset_allocator.specs.View.{View, Handle, bin_at, padding_to, reported_largest};
+ghost use Rattle.offset_allocator.specs.Accesses.{Costs};
 ghost use Rattle.offset_allocator.specs.Relations.{Aligns, Allocates};
 ghost use Rattle.offset_allocator.specs.Requests.{CanGrant, blocks_needed, units_needed};
 ghost use Rattle.offset_allocator.specs.Classes.{down};
@@ -17,7 +18,7 @@ use crate::GuardedOf;
 use crate::refusal::Refusal;
 use crate::serials::Serials;
 use crate::ticket::Ticket;
-use offset_allocator::{Allocation, AllocatorOf, Tables};
+use offset_allocator::{Accesses, Allocation, AllocatorOf, Tables};
 
 // Gives the next serial to a grant.
 #[inline(always)]
@@ -49,6 +50,29 @@ fn ticket_for<T: Tables>(
         serial: serials.give(name),
         realm,
     }
+}
+
+/// As `would_begin` of `Guarded`. The count grows by at most 4.
+pub fn would_begin_counted<T: Tables>(
+    guarded: &GuardedOf<T>,
+    size: u32,
+    align: u32,
+    count: &mut Accesses,
+) -> Option<u32>
+    requires alignment { 1 ≤ align }
+    ensures granted { IsSome result ↔ (HasSerialLeft guarded.now
+        × CanGrant (blocks_needed align) (units_needed size align) guarded.now.space) }
+    ensures begins { HasSerialLeft guarded.now → (w : View) (h : Handle)
+        → Aligns size align guarded.now.space w (Some h) → result ≡ Some h.offset }
+    ensures starts { HasSerialLeft guarded.now → (o : ℕ)
+        → CanGrant (blocks_needed align) (units_needed size align) guarded.now.space
+        → WouldBegin (units_needed size align) guarded.now.space o → result ≡ Some (o + padding_to align o) }
+    ensures accesses { Costs 0 4 count.old count.new }
+{
+    if guarded.serials.is_spent() {
+        return None;
+    }
+    offset_allocator::laws::would_begin_counted(&guarded.space, size, align, count)
 }
 
 impl<T: Tables> GuardedOf<T> {
@@ -298,7 +322,8 @@ impl<T: Tables> GuardedOf<T> {
     }
 
     /// Where the range would begin that `allocate_aligned(size, align)` would grant now, as
-    /// `Allocator::would_begin` says, or `None` exactly where it would be refused. Nothing is taken.
+    /// `Allocator::would_begin` says, or `None` exactly where it would be refused. Nothing is taken. It makes
+    /// at most 4 accesses to the tables of the allocator.
     ///
     /// ```
     /// guarded.allocate(300);
@@ -317,10 +342,7 @@ impl<T: Tables> GuardedOf<T> {
             → CanGrant (blocks_needed align) (units_needed size align) self.now.space
             → WouldBegin (units_needed size align) self.now.space o → result ≡ Some (o + padding_to align o) }
     {
-        if self.serials.is_spent() {
-            return None;
-        }
-        self.space.would_begin(size, align)
+        would_begin_counted(self, size, align, &mut Accesses::new())
     }
 
     /// Why `allocate(size)` would be refused now, or `None` exactly where it would be granted.
@@ -338,7 +360,7 @@ impl<T: Tables> GuardedOf<T> {
         }
         match self.space.refusal(size) {
             None => None,
-            Some(why) => Some(Refusal::Allocator(why)),
+            Some(why) => Some(Refusal::from(why)),
         }
     }
 
@@ -359,7 +381,7 @@ impl<T: Tables> GuardedOf<T> {
         }
         match self.space.refusal_aligned(size, align) {
             None => None,
-            Some(why) => Some(Refusal::Allocator(why)),
+            Some(why) => Some(Refusal::from(why)),
         }
     }
 
@@ -379,7 +401,7 @@ impl<T: Tables> GuardedOf<T> {
         }
         match self.space.refusal_tight(size) {
             None => None,
-            Some(why) => Some(Refusal::Allocator(why)),
+            Some(why) => Some(Refusal::from(why)),
         }
     }
 
@@ -401,7 +423,7 @@ impl<T: Tables> GuardedOf<T> {
         }
         match self.space.refusal_tight_aligned(size, align) {
             None => None,
-            Some(why) => Some(Refusal::Allocator(why)),
+            Some(why) => Some(Refusal::from(why)),
         }
     }
 }

@@ -1,10 +1,13 @@
-//! What holds of every guarded allocator. Its functions do nothing.
+//! What holds of every guarded allocator. Its functions do nothing. With them are questions with a count of their
+//! accesses.
 ghost use Rattle.std.specs.Prelude.{◌≡◌, ◌+◌, ◌<◌, ℕ, List};
 ghost use Rattle.std.specs.List.{AllByRecursion};
 ghost use Rattle.offset_guarded.specs.Guard.{Guard};
 ghost use Rattle.offset_guarded.specs.State.{IsStateOf, IsWellFormed, SameGuard};
 
 use crate::GuardedOf;
+pub use crate::allocate::would_begin_counted;
+pub use crate::walks::in_the_way_counted;
 use offset_allocator::{Tables, laws};
 
 /// Bytes are those of a state of one guarded allocator at most, however many accesses were counted; it has

@@ -6,7 +6,7 @@
 //! that is not live changes nothing.
 //!
 //! ```
-//! let mut vertices = Guarded::<u32>::new(alloc, 1 << 20, 1)?;
+//! let mut vertices = Guarded::<u32>::with_realm(alloc, 1 << 20, 65536, 1)?;
 //! if let Some(mesh) = vertices.allocate(3000) {
 //!     assert!(vertices.free(mesh));
 //!     assert!(!vertices.free(mesh));
@@ -39,10 +39,11 @@ mod values;
 mod walks;
 
 use offset_allocator::laws::is_well_formed;
-pub use offset_allocator::{Allocation, Allocator, AllocatorOf, Block, Blocks, BlocksOf, ByField, ByNode};
-pub use offset_allocator::{Move, MovePieces, NodeIndex, NodeIndexNonMax, Piece, Progress, ReadError};
-pub use offset_allocator::{RoomCost, Scale, Statistics, StorageReport, StorageReportFull};
-pub use offset_allocator::{StorageReportFullRegion, Tables, json_of, vma_json_of};
+pub use offset_allocator::{
+    Allocation, Allocator, AllocatorOf, Block, Blocks, BlocksOf, ByField, ByNode, Move, MovePieces,
+    NodeIndex, NodeIndexNonMax, Piece, Progress, ReadError, RoomCost, Scale, Statistics,
+    StorageReport, StorageReportFull, StorageReportFullRegion, Tables, json_of, vma_json_of,
+};
 pub use refusal::Refusal;
 use serials::Serials;
 pub use state::{StateFault, StateFaultKind};
@@ -81,39 +82,23 @@ impl<T: Tables> Model for GuardedOf<T> {
 }
 
 impl<T: Tables> GuardedOf<T> {
-    /// A space of `size` units, all free, with the smaller of 131072 and `T::Index::MAX - 2` as the node
-    /// limit. The realm is kept in its tickets: a ticket of another realm is never live here.
-    ///
-    /// # Errors
-    ///
-    /// An error is returned only where an allocation failed; then nothing is made.
-    ///
-    /// ```
-    /// let mut guarded = Guarded::<u32>::new(alloc, 1 << 20, 7)?;
-    /// assert_eq!(guarded.allocate(300).unwrap().realm, 7);
-    /// ```
-    #[track_caller]
-    pub fn new(alloc: Global, size: u32, realm: u32) -> Result<Self, AllocError>
-        ensures space { IfOk result (λ g. IsFresh size (min 131072 (T.Index.MAX - 2)) g.space) }
-        ensures serials { IfOk result (λ g. (g.given ≡ 0) × (g.serials ≡ []) × (g.realm ≡ realm)) }
-    {
-        Self::with_max_allocs(alloc, size, 131072u32.min(T::Index::MAX - 2), realm)
-    }
-
     /// A space of `size` units, all free, with `max_allocs` as the node limit, and a realm. The limit is 2 to
     /// `T::Index::MAX - 2`. It reserves what an `AllocatorOf<T>` does and 8 bytes a node, all of them here;
     /// those of a node are written by the first call after it was made that may make nodes.
     ///
+    /// The realm is kept in its tickets: a ticket of another realm is never live here. So give each space
+    /// another one; where tickets have to be known from outside, as by a file, it is chosen here.
+    ///
     /// # Errors
     ///
     /// An error is returned only where an allocation failed; then nothing is made.
     ///
     /// ```
-    /// let mut guarded = Guarded::<u16>::with_max_allocs(alloc, 1000, 3, 1)?;
-    /// assert!(guarded.allocate(10).is_some());
+    /// let mut guarded = Guarded::<u16>::with_realm(alloc, 1000, 3, 7)?;
+    /// assert_eq!(guarded.allocate(10).unwrap().realm, 7);
     /// assert!(guarded.allocate(10).is_none());
     /// ```
-    pub fn with_max_allocs(
+    pub fn with_realm(
         alloc: Global,
         size: u32,
         max_allocs: u32,
@@ -165,7 +150,7 @@ impl<T: Tables> GuardedOf<T> {
     /// same realm and serials, and with `max_allocs` in place of the limit. Put it in place of this one, and
     /// all tickets go on.
     ///
-    /// The limit is at most `T::Index::MAX - 2`. It reserves what `with_max_allocs` does for that limit,
+    /// The limit is at most `T::Index::MAX - 2`. It reserves what `with_realm` does for that limit,
     /// beside the memory of this one until that is dropped, and takes time for the nodes that were made.
     ///
     /// # Errors
@@ -173,7 +158,7 @@ impl<T: Tables> GuardedOf<T> {
     /// An error is returned only where an allocation failed; then nothing is made, and this one is as it was.
     ///
     /// ```
-    /// let mut guarded = Guarded::<u32>::with_max_allocs(alloc, 1000, 3, 1)?;
+    /// let mut guarded = Guarded::<u32>::with_realm(alloc, 1000, 3, 1)?;
     /// let mesh = guarded.allocate(300).unwrap();
     /// assert!(guarded.allocate(10).is_none());
     /// guarded = guarded.raised(alloc, 100)?;
@@ -209,7 +194,8 @@ impl<T: Tables> GuardedOf<T> {
     /// The realm of its tickets.
     ///
     /// ```
-    /// assert_eq!(guarded.realm(), 1);
+    /// let guarded = Guarded::<u32>::with_realm(alloc, 1000, 16, 7)?;
+    /// assert_eq!(guarded.realm(), 7);
     /// ```
     pub fn realm(&self) -> u32
         ensures { result ≡ self.now.realm }

@@ -17,7 +17,8 @@ use offset_allocator::{Move, Progress, RoomCost, Tables};
 impl<T: Tables> GuardedOf<T> {
     /// Slides every live range to the front of the space, as `Allocator::compact` does. Every ticket stays
     /// live, with its size; `offset_of` returns where its range begins. A moved range keeps no alignment:
-    /// `compact_by` keeps those that divide its step.
+    /// `compact_by` keeps those that divide its step. If `moved` panics, the guarded allocator must not be used any
+    /// more: drop it.
     ///
     /// ```
     /// let hole = guarded.allocate(300).unwrap();
@@ -42,7 +43,8 @@ impl<T: Tables> GuardedOf<T> {
 
     /// Slides live ranges to the front of the space by whole steps, as `Allocator::compact_by` does: each keeps
     /// its alignment where that divides `step`. Every ticket stays live, with its size; `offset_of` returns
-    /// where its range begins. `false` is returned, and nothing changes, where that call returns `false`.
+    /// where its range begins. `false` is returned, and nothing changes, where that call returns `false`. If
+    /// `moved` panics, the guarded allocator must not be used any more: drop it.
     ///
     /// ```
     /// let hole = guarded.allocate(300).unwrap();
@@ -70,7 +72,8 @@ impl<T: Tables> GuardedOf<T> {
     /// Slides live ranges to the front by whole steps, from the offset `from` on and within a budget, as
     /// `Allocator::compact_within` does: so a compaction can be done over several frames. Every ticket stays
     /// live, with its size; `offset_of` returns where its range begins. The result says what moved, and where
-    /// the next call goes on; `None` is returned, and nothing changes, where that call returns `None`.
+    /// the next call goes on; `None` is returned, and nothing changes, where that call returns `None`. If `moved`
+    /// panics, the guarded allocator must not be used any more: drop it.
     ///
     /// ```
     /// let hole = guarded.allocate(300).unwrap();
@@ -110,7 +113,7 @@ impl<T: Tables> GuardedOf<T> {
 
     /// Makes room for a request of `size` units, where ranges have to move for it, as `Allocator::make_room`
     /// does. Every ticket stays live, with its size; `offset_of` returns where its range begins. A moved range
-    /// keeps no alignment.
+    /// keeps no alignment. If `moved` panics, the guarded allocator must not be used any more: drop it.
     ///
     /// ```
     /// let hole = guarded.allocate(300).unwrap();
@@ -144,7 +147,8 @@ impl<T: Tables> GuardedOf<T> {
     /// Makes room for `allocate_aligned(size, align)` by whole steps, as `Allocator::make_room_by` does: each
     /// range that moves keeps its alignment where that divides `step`. Every ticket stays live, with its size;
     /// `offset_of` returns where its range begins. It returns what `room_cost_by` of `allocator()` would have
-    /// returned before: `None` where no run of blocks gives up enough, and then nothing changes.
+    /// returned before: `None` where no run of blocks gives up enough, and then nothing changes. If `moved` panics,
+    /// the guarded allocator must not be used any more: drop it.
     ///
     /// ```
     /// let hole = guarded.allocate(300).unwrap();

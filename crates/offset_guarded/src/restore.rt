@@ -124,7 +124,7 @@ impl<T: Tables> GuardedOf<T> {
     /// written is live again here.
     ///
     /// `most_allocs` is the largest node limit that is accepted, since memory for the limit is reserved, as
-    /// by `with_max_allocs`. Nothing else that is requested is more than 8 bytes for each 8 that were given.
+    /// by `with_realm`. Nothing else that is requested is more than 8 bytes for each 8 that were given.
     /// It takes time for the bytes.
     ///
     /// # Errors

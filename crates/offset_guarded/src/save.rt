@@ -23,7 +23,7 @@ impl<T: Tables> GuardedOf<T> {
     /// ```
     /// let bytes = guarded.write_state(alloc)?;
     /// let same = Guarded::<u32>::read_state(alloc, &bytes, 131_072).unwrap();
-    /// assert_eq!(same.realm(), 1);
+    /// assert_eq!(same.realm(), guarded.realm());
     /// ```
     pub fn write_state(&self, alloc: Global) -> Result<Vec<u8>, AllocError>
         ensures { IfOk result (λ bytes. IsStateOf self.now bytes.items) }

@@ -1,5 +1,6 @@
 //! Walks from one live range to the next in space, and what is live at an offset. It changes nothing.
-ghost use Rattle.std.specs.Prelude.{◌≡◌, None, option_map};
+ghost use Rattle.std.specs.Prelude.{◌≡◌, ◌+◌, ◌*◌, None, length, option_map};
+ghost use Rattle.offset_allocator.specs.Accesses.{Costs};
 ghost use Rattle.offset_allocator.specs.AtOffset.{in_the_way};
 ghost use Rattle.offset_allocator.specs.Reporting.Walking.{first_live, last_live, live_after, live_before};
 ghost use Rattle.offset_allocator.specs.View.{Handle};
@@ -7,7 +8,25 @@ ghost use Rattle.offset_guarded.specs.Guard.{IsLive, ticket_at};
 
 use crate::GuardedOf;
 use crate::ticket::Ticket;
-use offset_allocator::{Allocation, Tables};
+use offset_allocator::{Accesses, Allocation, Tables};
+
+/// As `in_the_way` of `Guarded`, and as `live_at` with one unit. The count grows by at most 5 for each block,
+/// and 5.
+pub fn in_the_way_counted<T: Tables>(
+    guarded: &GuardedOf<T>,
+    offset: u32,
+    size: u32,
+    count: &mut Accesses,
+) -> Option<Ticket>
+    ensures ticket { result
+        ≡ option_map (λ (h : Handle). ticket_at h guarded.now) (in_the_way offset size guarded.now.space) }
+    ensures accesses { Costs 1 (5 * length guarded.now.space.blocks + 5) count.old count.new }
+{
+    match offset_allocator::laws::in_the_way_counted(&guarded.space, offset, size, count) {
+        None => None,
+        Some(handle) => Some(guarded.ticket_at(handle)),
+    }
+}
 
 impl<T: Tables> GuardedOf<T> {
     // The present ticket of a handle.
@@ -69,7 +88,7 @@ impl<T: Tables> GuardedOf<T> {
         ensures { result
             ≡ option_map (λ (h : Handle). ticket_at h self.now) (in_the_way offset 1 self.now.space) }
     {
-        self.in_the_way(offset, 1)
+        in_the_way_counted(self, offset, 1, &mut Accesses::new())
     }
 
     /// The ticket of the last live range that is in the way of the `size` units that begin at `offset`, as
@@ -83,10 +102,7 @@ impl<T: Tables> GuardedOf<T> {
         ensures { result
             ≡ option_map (λ (h : Handle). ticket_at h self.now) (in_the_way offset size self.now.space) }
     {
-        match self.space.in_the_way(offset, size) {
-            None => None,
-            Some(handle) => Some(self.ticket_at(handle)),
-        }
+        in_the_way_counted(self, offset, size, &mut Accesses::new())
     }
 
     /// The ticket of the live range directly before that of a ticket. `None` where there is none, or where

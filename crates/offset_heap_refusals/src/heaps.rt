@@ -1,7 +1,7 @@
 //! Many heaps as one, and calls of every kind on them.
 
 use offset_allocator::{NodeIndex, ReadError, Tables};
-use offset_heaps::{HeapsOf, Limits, Place, Refusal, Totals};
+use offset_heaps::{HeapsOf, Limits, Place, Refusal, Totals, json_of};
 use offset_refusal_base::cells::{Cells, put};
 use offset_refusal_base::layouts::{Kept, Work};
 use offset_refusal_base::outcomes::Failure;
@@ -24,7 +24,7 @@ fn made_from<T: Tables>(alloc: Global, script: &Script, nodes: u32) -> Result<He
         most: 4,
         most_larger: 3,
     };
-    Ok(HeapsOf::new(alloc, limits, 1)?)
+    Ok(HeapsOf::with_realms(alloc, limits, 1, 0)?)
 }
 
 // The same heaps, which begin with all nodes.
@@ -44,6 +44,36 @@ impl Work for MakeHeaps {
         cells: &mut Cells<'_>,
     ) -> Result<(), Failure> {
         let heaps = made::<T>(alloc, script)?;
+        put(cells, u64::from(heaps.totals().heaps));
+        Ok(())
+    }
+}
+
+/// Makes heaps with 300 numbers in place of seven, none of which is there yet, and puts their number into the
+/// cells.
+pub struct MakeManyNumbers;
+
+impl Work for MakeManyNumbers {
+    fn run<T: Tables>(
+        &self,
+        alloc: Global,
+        script: &Script,
+        _kept: &mut [Kept<T::Index>],
+        cells: &mut Cells<'_>,
+    ) -> Result<(), Failure> {
+        let limit = script.max_allocs;
+        if limit < 4 || limit >= T::Index::MAX - 1 {
+            return Err(Failure::Unfit);
+        }
+        let limits = Limits {
+            size: script.size,
+            first_size: script.size,
+            max_allocs: limit,
+            first_allocs: limit,
+            most: 200,
+            most_larger: 100,
+        };
+        let heaps = HeapsOf::<T>::with_realms(alloc, limits, 1, 0)?;
         put(cells, u64::from(heaps.totals().heaps));
         Ok(())
     }
@@ -210,6 +240,29 @@ impl Work for MakeHeapsAndStore {
             Ok(read) => put_totals(cells, read.totals()),
             Err(fault) => put(cells, fault.at as u64),
         }
+        Ok(())
+    }
+}
+
+/// Makes the heaps and 1,000 calls, and puts the bytes of their text as JSON into the cells.
+pub struct MakeHeapsAndDump;
+
+impl Work for MakeHeapsAndDump {
+    fn run<T: Tables>(
+        &self,
+        alloc: Global,
+        script: &Script,
+        _kept: &mut [Kept<T::Index>],
+        cells: &mut Cells<'_>,
+    ) -> Result<(), Failure> {
+        let mut heaps = made::<T>(alloc, script)?;
+        let mut counts = Counts {
+            usual: 0,
+            larger: 0,
+        };
+        let _sum = checksum(&mut heaps, &mut counts)?;
+        let text = json_of(alloc, &heaps)?;
+        put(cells, text.len() as u64);
         Ok(())
     }
 }

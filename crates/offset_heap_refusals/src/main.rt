@@ -3,7 +3,10 @@
 
 mod heaps;
 
-use heaps::{MakeHeaps, MakeHeapsAndCall, MakeHeapsAndExtend, MakeHeapsAndGrow, MakeHeapsAndStore};
+use heaps::{
+    MakeHeaps, MakeHeapsAndCall, MakeHeapsAndDump, MakeHeapsAndExtend, MakeHeapsAndGrow,
+    MakeHeapsAndStore, MakeManyNumbers,
+};
 use offset_refusal_base::layouts::Layout;
 use offset_refusal_base::program::{Calls, run, work_on};
 use std::alloc::Global;
@@ -27,6 +30,8 @@ impl Calls for OfHeaps {
             "heaps_calls" => work_on(layout, &MakeHeapsAndCall, alloc, text, cells),
             "heaps_grow" => work_on(layout, &MakeHeapsAndGrow, alloc, text, cells),
             "heaps_extend" => work_on(layout, &MakeHeapsAndExtend, alloc, text, cells),
+            "heaps_many" => work_on(layout, &MakeManyNumbers, alloc, text, cells),
+            "heaps_dump" => work_on(layout, &MakeHeapsAndDump, alloc, text, cells),
             "heaps_store" => work_on(layout, &MakeHeapsAndStore, alloc, text, cells),
             _ => return None,
         })

@@ -31,7 +31,7 @@ pub record Heaps : Type 0 where
   -- the heap that has each number, where there is one: the usual ones, then the larger ones
   pub slots : List (Option Guard)
   pub limits : Limits
-  -- how many heaps were made so far: their realms are 1, 2, ..
+  -- the realm of the heap that was made last, or the number before the first: later heaps have the numbers after it
   pub made : ℕ
   pub realm : ℕ
   -- how often slots and the cells of the index were read or written

@@ -37,7 +37,7 @@ state_form = 1397244239
 abbrev pub state_version : ℕ
 state_version = 3
 
--- the numbers of many heaps: the form and its version, the six limits, how many heaps were made, the realm, and the places
+-- the numbers of many heaps: the form and its version, the six limits, the realm of the heap that was made last, the realm, and the places
 abbrev pub heaps_numbers : Heaps → List ℕ → List ℕ
 heaps_numbers hs places =
     state_form ∷ state_version ∷ hs.limits.size ∷ hs.limits.first_size ∷ hs.limits.max_allocs ∷ hs.limits.first_allocs ∷ hs.limits.most ∷ hs.limits.most_larger ∷ hs.made ∷ hs.realm ∷ places
@@ -68,7 +68,7 @@ IsCopy hs ks = ks ≡ uncounted hs
 abbrev pub SameHeaps : Heaps → Heaps → Type 0
 SameHeaps hs ks = uncounted ks ≡ uncounted hs
 
--- what is true of the heap of a number, of so many that were made
+-- what is true of the heap of a number, where this is the realm of the heap that was made last
 abbrev pub IsHeapFormed : Limits → ℕ → ℕ → Option Guard → Type 0
 IsHeapFormed limits made k o = IfSome o (λ g. guarded.IsWellFormed g × (g.realm ≤ made) × IsOfKind limits k g)
 

@@ -49,7 +49,7 @@ pub record HasLimits (max most_heaps most_allocs : ℕ) (bytes : List ℕ) : Typ
   pub most : HasMost most_heaps bytes
   pub larger : HasLarger most_heaps bytes
 
--- the number of heaps that were made has 32 bits
+-- the realm of the heap that was made last has 32 bits
 abbrev pub HasMade : List ℕ → Type 0
 HasMade bytes = number_at bytes 8 ≤ 4294967295
 

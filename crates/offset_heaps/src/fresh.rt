@@ -29,7 +29,7 @@ pub(crate) fn usual<T: Tables>(
         × IsNew (usual_size limits number) limits.first_allocs realm g × GrantsIn size 1 (Some g) r.0 r.1) }
     ensures start { IfOk result (λ r. r.1.offset ≡ 0) }
 {
-    let mut slot = Some(GuardedOf::with_max_allocs(
+    let mut slot = Some(GuardedOf::with_realm(
         alloc,
         usual_size(limits, number),
         limits.first_allocs,
@@ -50,7 +50,7 @@ pub(crate) fn larger<T: Tables>(
         × GrantsTightIn size (Some g) r.0 r.1) }
     ensures start { IfOk result (λ r. r.1.offset ≡ 0) }
 {
-    let mut slot = Some(GuardedOf::with_max_allocs(alloc, size, LARGER_LIMIT, realm)?);
+    let mut slot = Some(GuardedOf::with_realm(alloc, size, LARGER_LIMIT, realm)?);
     let ticket = slots::grant_tight_in(&mut slot, size);
     Ok((slot, ticket))
 }

@@ -177,7 +177,7 @@ pub fn each_live_place_is_met_once<T: Tables>(heaps: &HeapsOf<T>)
     a_state_is_read_back(heaps);
 }
 
-// How many heaps were made.
+// The realm of the heap that was made last.
 fn made<T: Tables>(heaps: &HeapsOf<T>) -> u32
     ensures { result ≡ heaps.now.made }
 {

@@ -9,7 +9,7 @@
 //! ```
 //! let limits =
 //!     Limits { size: 1 << 24, first_size: 1 << 18, max_allocs: 65536, first_allocs: 64, most: 64, most_larger: 16 };
-//! let mut heaps = Heaps::<u32>::new(alloc, limits, 1)?;
+//! let mut heaps = Heaps::<u32>::with_realms(alloc, limits, 1, 0)?;
 //! if let Ok(granted) = heaps.allocate(3000) {
 //!     // granted.is_new: make the buffer of this number, of heaps.units_of_heap(granted.place.heap) units
 //!     assert!(heaps.free(granted.place));
@@ -57,10 +57,11 @@ pub use dumping::json_of;
 use index::Index;
 pub use limits::Limits;
 use offset_allocator::Accesses;
-pub use offset_allocator::{Allocation, Allocator, AllocatorOf, Block, Blocks, BlocksOf, ByField, ByNode};
-pub use offset_allocator::{Move, MovePieces, NodeIndex, NodeIndexNonMax, Piece, Progress, ReadError};
-pub use offset_allocator::{RoomCost, Scale, Statistics, StorageReport, StorageReportFull};
-pub use offset_allocator::{StorageReportFullRegion, Tables, vma_json_of};
+pub use offset_allocator::{
+    Allocation, Allocator, AllocatorOf, Block, Blocks, BlocksOf, ByField, ByNode, Move, MovePieces,
+    NodeIndex, NodeIndexNonMax, Piece, Progress, ReadError, RoomCost, Scale, Statistics,
+    StorageReport, StorageReportFull, StorageReportFullRegion, Tables, vma_json_of,
+};
 pub use offset_guarded::{Beside, Guarded, GuardedOf, Ticket};
 pub use place::{Granted, Place};
 pub use refusal::Refusal;
@@ -84,7 +85,7 @@ pub struct HeapsOf<T: Tables> {
     slots: Slots<T>,
     index: Index,
     limits: Limits,
-    // how many heaps were made
+    // the realm of the heap that was made last, or the one before the first
     made: u32,
     realm: u32,
     accesses: Accesses,
@@ -136,8 +137,10 @@ impl<T: Tables> HeapsOf<T> {
     ghost use Rattle.offset_heaps.specs.Heaps.{heap_at, range_in, range_of};
 
     /// No heap, and memory for the numbers of all that may be made: some 1.2 KB each. A heap is made by the
-    /// first request that none has room for. The realm is kept in places: a place of another realm is never
-    /// live here.
+    /// first request that none has room for.
+    ///
+    /// The realm is kept in places: a place of another realm is never live here. The heaps have realms too,
+    /// which are kept in their tickets: the numbers above `given`, one after another.
     ///
     /// # Errors
     ///
@@ -146,10 +149,15 @@ impl<T: Tables> HeapsOf<T> {
     /// ```
     /// let limits =
     ///     Limits { size: 1 << 24, first_size: 1 << 18, max_allocs: 65536, first_allocs: 64, most: 64, most_larger: 16 };
-    /// let heaps = Heaps::<u32>::new(alloc, limits, 1)?;
+    /// let heaps = Heaps::<u32>::with_realms(alloc, limits, 1, 0)?;
     /// assert_eq!(heaps.totals().heaps, 0);
     /// ```
-    pub fn new(alloc: Global, limits: Limits, realm: u32) -> Result<Self, AllocError>
+    pub fn with_realms(
+        alloc: Global,
+        limits: Limits,
+        realm: u32,
+        given: u32,
+    ) -> Result<Self, AllocError>
         requires size_min { min 1 limits.size ≤ limits.first_size }
         requires size_max { limits.first_size ≤ limits.size }
         requires limit_min { 4 ≤ limits.max_allocs }
@@ -158,7 +166,7 @@ impl<T: Tables> HeapsOf<T> {
         requires first_max { limits.first_allocs ≤ limits.max_allocs }
         requires numbers { limits.most + limits.most_larger < 2 ^ 32 }
         ensures slots { IfOk result (λ h. h.slots ≡ replicate (limits.most + limits.most_larger) None) }
-        ensures rest { IfOk result (λ h. (h.limits ≡ limits) × (h.made ≡ 0) × (h.realm ≡ realm)
+        ensures rest { IfOk result (λ h. (h.limits ≡ limits) × (h.made ≡ given) × (h.realm ≡ realm)
             × (h.accesses ≡ 0)) }
     {
         let count = limits.most + limits.most_larger;
@@ -173,7 +181,7 @@ impl<T: Tables> HeapsOf<T> {
             slots,
             index,
             limits,
-            made: 0,
+            made: given,
             realm,
             accesses: Accesses::new(),
         })
@@ -331,7 +339,7 @@ impl<T: Tables> HeapsOf<T> {
     }
 }
 
-/// The text is that of a struct with the realm, the limits, the number of heaps that were made, and the
+/// The text is that of a struct with the realm, the limits, the realm of the heap that was made last, and the
 /// totals.
 impl<T: Tables> fmt::Debug for HeapsOf<T> {
     fn fmt<W: fmt::Write>(&self, f: &mut fmt::Formatter<W>) -> fmt::Result {

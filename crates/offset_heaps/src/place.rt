@@ -11,8 +11,7 @@ pub struct Place {
     /// The realm of the `Heaps`.
     pub realm: u32,
     /// Its ticket in that heap: `offset` is where the range begins, in units from the start of the heap. The
-    /// ticket's realm is the number of heaps that were made until then, with this one, so no other heap of
-    /// these `Heaps` has it.
+    /// ticket's realm is that of the heap, which no other heap of these `Heaps` ever has.
     pub ticket: Ticket,
 }
 

@@ -25,7 +25,7 @@ use std::alloc::{AllocError, Global};
 #[derive(Clone, Copy)]
 pub(crate) struct Header {
     pub(crate) limits: Limits,
-    // how many heaps were made
+    // the realm of the heap that was made last
     pub(crate) made: u32,
     pub(crate) realm: u32,
 }
@@ -241,7 +241,7 @@ impl<T: Tables> HeapsOf<T> {
     ///
     /// `most_heaps` is the largest `most + most_larger` that is accepted, and `most_allocs` the largest node
     /// limit, of the limits and of each heap, since memory for these is reserved, as by `new` and by
-    /// `GuardedOf::with_max_allocs`; and for a number only where 8 bytes were given for it. It takes time for
+    /// `GuardedOf::with_realm`; and for a number only where 8 bytes were given for it. It takes time for
     /// the bytes, and some steps for each bit of the numbers for each of them.
     ///
     /// # Errors

@@ -29,7 +29,7 @@ pub enum StateFaultKind {
     Form,
     /// The limits are none that `new` takes, or more than the caller admits.
     Limits,
-    /// The number of heaps that were made, or the realm, has more than 32 bits. A heap's own counts are in
+    /// The realm of the heap that was made last, or that of the heaps, has more than 32 bits. A heap's own counts are in
     /// `Heap`: also that more than `max_allocs - 2` of its ranges are live.
     Counts,
     /// The checksum is not that of the numbers of many heaps.
@@ -37,7 +37,7 @@ pub enum StateFaultKind {
     /// The place of a heap's state: the first is not 0, one is before the one before it or behind the bytes,
     /// or the last is not their end.
     Place,
-    /// The realm of a heap, of which fewer were made: the place is in the state of the heap.
+    /// The realm of a heap is above that of the heap that was made last: the place is in the state of the heap.
     Realm,
     /// The size or the node limit of a heap. Where its number is below `most`: fewer units than the usual heap
     /// of that number, a node limit below `first_allocs` or above `max_allocs`, or one below `max_allocs` with

@@ -1,6 +1,6 @@
 //! Guarded allocators, and calls of every kind with tickets.
 
-use offset_allocator::{NodeIndex, ReadError, Tables};
+use offset_allocator::{ByNode, NodeIndex, ReadError, Tables};
 use offset_guarded::{Beside, GuardedOf, Ticket};
 use offset_refusal_base::cells::{Cells, put};
 use offset_refusal_base::layouts::{Kept, Work};
@@ -79,23 +79,21 @@ fn raised<T: Tables>(alloc: Global, space: &GuardedOf<T>) -> Result<GuardedOf<T>
     Ok(space.raised(alloc, (limit + 1).min(T::Index::MAX - 2))?)
 }
 
-// Puts values beside two tickets, the second of which needs more memory.
+// Grants 1,000 ranges, and puts values beside the first and the last, which needs more memory.
 fn values(alloc: Global) -> Result<u64, Failure> {
-    let ticket = Ticket {
-        offset: 0,
-        name: 0,
-        serial: 1,
-        realm: 1,
+    let mut space = GuardedOf::<ByNode<u32>>::with_realm(alloc, 1_000, 1_002, 1)?;
+    let Some(ticket) = space.allocate(1) else {
+        return Ok(0);
     };
-    let other = Ticket {
-        name: 1_000,
-        ..ticket
-    };
+    let mut other = ticket;
+    for _ in 1..1_000u32 {
+        other = space.allocate(1).unwrap_or(other);
+    }
     let mut values = Beside::new(alloc);
-    if let Err(_value) = values.put(ticket, 5u64) {
+    if let Err(_value) = values.put(&space, ticket, 5u64) {
         return Err(Failure::OutOfMemory);
     }
-    if let Err(value) = values.put(other, 7u64) {
+    if let Err(value) = values.put(&space, other, 7u64) {
         // the value is given back, and the first one stays
         return match values.take(ticket) {
             Some(first) if first.wrapping_add(value) == 12 => Err(Failure::OutOfMemory),
@@ -123,7 +121,7 @@ impl Work for MakeGuardedAndCall {
         if limit >= T::Index::MAX - 1 {
             return Err(Failure::Unfit);
         }
-        let mut space = GuardedOf::<T>::with_max_allocs(alloc, script.size, limit, 1)?;
+        let mut space = GuardedOf::<T>::with_realm(alloc, script.size, limit, 1)?;
         let sum = checksum(&mut space);
         let mut copy = space.try_clone(alloc)?;
         let larger = raised(alloc, &space)?;
@@ -152,7 +150,7 @@ impl Work for MakeGuardedAndStore {
         if limit >= T::Index::MAX - 1 {
             return Err(Failure::Unfit);
         }
-        let mut space = GuardedOf::<T>::with_max_allocs(alloc, script.size, limit, 1)?;
+        let mut space = GuardedOf::<T>::with_realm(alloc, script.size, limit, 1)?;
         let sum = checksum(&mut space);
         let bytes = space.write_state(alloc)?;
         let read = match GuardedOf::<T>::read_state(alloc, &bytes, limit) {

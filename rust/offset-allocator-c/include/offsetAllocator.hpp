@@ -511,9 +511,13 @@ inline bool operator!=(Ticket a, Ticket b) { return !(a == b); }
 // any ticket, and one that is not live changes nothing. It refuses the tickets of an allocator with another realm.
 class GuardedAllocator {
 public:
-    // Where memory is out, or the limit is not 2 to 4294967293, it is empty: every request is refused.
-    explicit GuardedAllocator(uint32 size, uint32 maxAllocs = 128 * 1024, uint32 realm = 0) noexcept
-        : space(oag_new(size, maxAllocs, realm)) {}
+    // With a realm of its own, which no other made so has: the next number of one counter, as oag_new has it. Where memory is
+    // out, or the limit is not 2 to 4294967293, it is empty: every request is refused.
+    explicit GuardedAllocator(uint32 size, uint32 maxAllocs = 128 * 1024) noexcept : space(oag_new(size, maxAllocs)) {}
+    // The same with a realm that you choose.
+    static GuardedAllocator withRealm(uint32 size, uint32 maxAllocs, uint32 realm) noexcept {
+        return GuardedAllocator(oag_with_realm(size, maxAllocs, realm));
+    }
 
     // What is moved from is empty; a move to itself changes nothing.
     GuardedAllocator(GuardedAllocator &&other) noexcept : space(other.space) { other.space = nullptr; }

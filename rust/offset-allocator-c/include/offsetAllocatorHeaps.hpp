@@ -64,9 +64,11 @@ struct HeapTotals {
 
 class Heaps {
 public:
-    // Where memory is out, or a limit is out of range, it has none: every request is refused.
-    explicit Heaps(const HeapLimits &limits, uint32 realm = 0) noexcept
-        : heaps(oah_new({limits.size, limits.maxAllocs, limits.most, limits.mostLarger, limits.firstSize, limits.firstAllocs}, realm)) {}
+    // With a realm of their own, which no others made so have. Where memory is out, or a limit is out of range, it has none:
+    // every request is refused.
+    explicit Heaps(const HeapLimits &limits) noexcept : heaps(oah_new(in(limits))) {}
+    // The same with a realm that you choose.
+    static Heaps withRealm(const HeapLimits &limits, uint32 realm) noexcept { return Heaps(oah_with_realm(in(limits), realm)); }
 
     // What is moved from has none; a move to itself changes nothing.
     Heaps(Heaps &&other) noexcept : heaps(other.heaps) { other.heaps = nullptr; }
@@ -198,6 +200,9 @@ public:
     std::string json() const { return detail::of(oah_json(heaps)); }
 
 private:
+    static oah_limits in(const HeapLimits &limits) {
+        return {limits.size, limits.maxAllocs, limits.most, limits.mostLarger, limits.firstSize, limits.firstAllocs};
+    }
     static oah_place in(const Place &place) {
         return {{place.ticket.serial, place.ticket.name, place.ticket.realm}, place.heap, place.realm};
     }

@@ -405,15 +405,12 @@ public:
     // An allocator made of the other arguments, as A is. The file is not closed; it may be closed when the recording ends.
     explicit Recorded(std::FILE *file, uint32 size, uint32 maxAllocs = 128 * 1024) noexcept
         : Recorded(file, A(size, maxAllocs)) {}
-    // a GuardedAllocator alone has a realm
-    Recorded(std::FILE *file, uint32 size, uint32 maxAllocs, uint32 realm) noexcept : Recorded(file, A(size, maxAllocs, realm)) {}
     // An allocator that there is, from now on: live ranges that it has, as one of load or clone, come first, as the grants from
     // 1 on. No recording begins with one that has ranges of no units, and lacks a node, or a unit, for one more.
     Recorded(std::FILE *file, A &&made) noexcept : space(std::move(made)), tape(file) { tape.begin(space); }
     // The next heap of a recording of several.
     Recorded(Recording &of, A &&made) noexcept : space(std::move(made)), tape(of.out, of.heaps++, of.last) { tape.begin(space); }
     Recorded(Recording &of, uint32 size, uint32 maxAllocs = 128 * 1024) noexcept : Recorded(of, A(size, maxAllocs)) {}
-    Recorded(Recording &of, uint32 size, uint32 maxAllocs, uint32 realm) noexcept : Recorded(of, A(size, maxAllocs, realm)) {}
     Recorded(Recorded &&other) noexcept : space(std::move(other.space)), tape(std::move(other.tape)) {}
     Recorded(const Recorded &) = delete;
     Recorded &operator=(const Recorded &) = delete;
@@ -546,7 +543,7 @@ private:
 // only then.
 class RecordedHeaps {
 public:
-    explicit RecordedHeaps(std::FILE *file, const HeapLimits &limits, uint32 realm = 0) noexcept : RecordedHeaps(file, Heaps(limits, realm)) {}
+    explicit RecordedHeaps(std::FILE *file, const HeapLimits &limits) noexcept : RecordedHeaps(file, Heaps(limits)) {}
     // Heaps that there are, from now on: as Recorded with one allocator.
     RecordedHeaps(std::FILE *file, Heaps &&made) noexcept : heaps(std::move(made)), tape(file), next(nullptr), maxAllocs(0), most(0), all(0) {
         detail::Bytes bytes;

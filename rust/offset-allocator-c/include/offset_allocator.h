@@ -312,8 +312,9 @@ void oa_compact(oa_allocator *space, void (*moved)(void *user, oa_move range), v
  * free block stays a free block; all that the others give up is one free block at the end of the space. `moved` is called
  * as by oa_compact.
  * True if done, also where no free block before another block has a whole step, and so nothing changes. False, and nothing
- * changes, where there is such a block but the last block is used and no node is left; also where `step` is 0, or if the
- * allocator is null. Cost: at most 21 accesses a block, and 40. */
+ * changes, where there is such a block but the free block at the end needs a node that nothing frees: no node is left, and
+ * of the free blocks from that one on none is used up, as one of whole steps is, and a last one (so never where `step` is 1);
+ * also where `step` is 0, or if the allocator is null. Cost: at most 21 accesses a block, and 40. */
 bool oa_compact_by(oa_allocator *space, uint32_t step, void (*moved)(void *user, oa_move range), void *user);
 
 /* The same for a part of the space, so that it can be done over several frames: moves the live ranges behind the first free
@@ -322,9 +323,9 @@ bool oa_compact_by(oa_allocator *space, uint32_t step, void (*moved)(void *user,
  * granted and freed between the calls; where there is no `more`, begin at 0 again. Where nothing has to move, done is true and
  * the rest is 0. Handles, alignments and `moved` are as of oa_compact_by; all that the free blocks give up is one free block
  * behind the last range that moved.
- * Not done, and nothing changes, where the blocks that would slide end in a used one and no node is left: a larger budget, or
- * oa_compact, may help; also where `step` is 0, or if the allocator is null. Cost: 5 accesses a block, 42 for each range that
- * the budget allows, and 60; at most 26 a block, and 60. */
+ * Not done, and nothing changes, where no node is left and of the free blocks that would slide none is used up: a larger
+ * budget, or a smaller step, may help; also where `step` is 0, or if the allocator is null. Cost: 5 accesses a block, 42 for
+ * each range that the budget allows, and 60; at most 26 a block, and 60. */
 oa_progress oa_compact_within(oa_allocator *space, uint32_t step, uint32_t from, uint32_t most_units, uint32_t most_ranges,
                               void (*moved)(void *user, oa_move range), void *user);
 
@@ -482,7 +483,7 @@ void oa_blocks_drop(oa_blocks *blocks);
 oa_text *oa_json(const oa_allocator *space);
 
 /* The same in the form of the dumps of VMA, the Vulkan Memory Allocator, as one block of memory: with the fields that its
- * documentation names, for its GpuMemDumpVis.py. That script has not been tried on it. */
+ * viewer, GpuMemDumpVis.py, reads. */
 oa_text *oa_vma_json(const oa_allocator *space);
 
 /* A text, with a 0 behind it, to be read until it is dropped, and the number of its bytes without that 0. Null and 0 where
@@ -497,7 +498,7 @@ void oa_text_drop(oa_text *text);
  *
  * A guarded allocator keeps a serial for each name. A ticket has the serial of its grant, so it is live exactly until
  * that grant is freed or reset: a stale copy, an altered ticket or random numbers are refused by the result, and nothing
- * changes. A ticket of another allocator is refused where the two were made with different realms.
+ * changes. A ticket of another allocator is refused where the two have different realms, as all that oag_new makes have.
  * Cost: as the call without tickets, one serial read, and one written for a grant; 8 bytes more a node. */
 
 /* A guarded allocator. */
@@ -510,9 +511,14 @@ typedef struct oag_ticket {
     uint32_t realm;
 } oag_ticket;
 
-/* A space of `size` units, all free, as oa_new makes one; `realm` is kept in its tickets. Null where memory is out, or
- * the node limit is not from 2 to 4294967293. */
-oag_allocator *oag_new(uint32_t size, uint32_t max_allocs, uint32_t realm);
+/* A space of `size` units, all free, as oa_new makes one, with a realm of its own, which is kept in its tickets: the next
+ * number of one counter in this library, 1, 2, .., which begins again after 4294967295 of them. Null where memory is out,
+ * or the node limit is not from 2 to 4294967293. */
+oag_allocator *oag_new(uint32_t size, uint32_t max_allocs);
+
+/* The same with a realm that you choose, where tickets have to be known from outside, as by a file. Tickets of two spaces
+ * with one realm may be taken for each other. */
+oag_allocator *oag_with_realm(uint32_t size, uint32_t max_allocs, uint32_t realm);
 
 /* Frees the allocator. A null pointer is allowed. */
 void oag_drop(oag_allocator *space);

@@ -3,7 +3,7 @@
  *     oah_limits limits = {.size = 1 << 24, .max_allocs = 65536, .most = 64, .most_larger = 16};
  *     limits.first_size = 1 << 18;          // or not: then all usual heaps have 1 << 24 units
  *     limits.first_allocs = 64;             // or not: then they begin with 65536 nodes
- *     oah_heaps *heaps = oah_new(limits, 1);
+ *     oah_heaps *heaps = oah_new(limits);
  *     oah_granted mesh = oah_allocate(heaps, 3000);
  *     if (mesh.is_new) ...                  // make its buffer, of oah_units_of_heap(heaps, mesh.place.heap) units, or oah_give_up
  *     oah_offset_of(heaps, mesh.place);     // where the range begins in it
@@ -87,9 +87,13 @@ typedef struct oah_all {
     uint64_t free_units;
 } oah_all;
 
-/* No heap, and memory for the numbers of all that may be made, some 1.2 KB each. `realm` is kept in places. Null where a
- * limit is out of range, there may be more than 4294967295 heaps, or memory is out. */
-oah_heaps *oah_new(oah_limits limits, uint32_t realm);
+/* No heap, and memory for the numbers of all that may be made, some 1.2 KB each, with a realm of their own, which is kept in
+ * places: the next number of the counter of oag_new. Null where a limit is out of range, there may be more than 4294967295
+ * heaps, or memory is out. */
+oah_heaps *oah_new(oah_limits limits);
+
+/* The same with a realm that you choose. */
+oah_heaps *oah_with_realm(oah_limits limits, uint32_t realm);
 
 /* Frees the memory of all heaps. A null pointer is allowed. */
 void oah_drop(oah_heaps *heaps);

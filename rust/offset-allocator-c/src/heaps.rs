@@ -158,8 +158,8 @@ fn or(first: u32, largest: u32) -> u32 {
     if first == 0 { largest } else { first }
 }
 
-// No heap yet, where the library admits these limits.
-fn made(limits: HeapLimits, realm: u32) -> Option<Box<ManyHeaps>> {
+// No heap yet, where the library admits these limits: with a realm of C's, or with one of their own.
+fn made(limits: HeapLimits, realm: Option<u32>) -> Option<Box<ManyHeaps>> {
     let HeapLimits { size, max_allocs, most, most_larger, first_size, first_allocs } = limits;
     let first_size = or(first_size, size);
     let first_allocs = or(first_allocs, max_allocs);
@@ -167,11 +167,18 @@ fn made(limits: HeapLimits, realm: u32) -> Option<Box<ManyHeaps>> {
     if !begins || !(4..=u32::MAX - 2).contains(&max_allocs) || most.checked_add(most_larger).is_none() {
         return None;
     }
-    boxed(Heaps::new(Global, Limits { size, first_size, max_allocs, first_allocs, most, most_larger }, realm).ok()?)
+    let limits = Limits { size, first_size, max_allocs, first_allocs, most, most_larger };
+    let heaps = match realm {
+        None => Heaps::new(Global, limits),
+        Some(realm) => Heaps::with_realm(Global, limits, realm),
+    };
+    boxed(heaps.ok()?)
 }
 
 exports! {
-    fn oah_new(limits: HeapLimits, realm: u32) -> Option<Box<ManyHeaps>> { made(limits, realm) } else ();
+    fn oah_new(limits: HeapLimits) -> Option<Box<ManyHeaps>> { made(limits, None) } else ();
+
+    fn oah_with_realm(limits: HeapLimits, realm: u32) -> Option<Box<ManyHeaps>> { made(limits, Some(realm)) } else ();
 
     fn oah_drop(heaps: Option<Box<ManyHeaps>>) -> () { drop(heaps) } else ();
 

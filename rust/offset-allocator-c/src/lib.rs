@@ -10,7 +10,7 @@ use core::ffi::{c_char, c_void};
 use core::mem::MaybeUninit;
 use core::ptr::{null, NonNull};
 
-use offset_allocator_guarded::{Guarded, Ticket};
+use offset_allocator_guarded::{next_realm, Guarded, Ticket};
 use offset_allocator_proved::ext::min_allocator_size;
 use offset_allocator_proved::small_float::{float_to_uint, uint_to_float_round_down, uint_to_float_round_up};
 use offset_allocator_proved::{
@@ -401,11 +401,23 @@ fn reason(refusal: Option<Refusal>) -> Reason {
 }
 
 fn guarded_reason(refusal: Option<offset_allocator_guarded::Refusal>) -> Reason {
+    use offset_allocator_guarded::Refusal;
     match refusal {
-        Some(offset_allocator_guarded::Refusal::Serials) => Reason::Serials,
-        Some(offset_allocator_guarded::Refusal::Allocator(why)) => reason(Some(why)),
         None => Reason::None,
+        Some(Refusal::Serials) => Reason::Serials,
+        Some(Refusal::Nodes) => Reason::Nodes,
+        Some(Refusal::TooLarge) => Reason::TooLarge,
+        Some(Refusal::Space) => Reason::Space,
+        Some(Refusal::Fragmented) => Reason::Fragmented,
     }
+}
+
+// A fresh space with tickets of this realm, where the library admits the limit.
+fn guarded_space(size: u32, max_allocs: u32, realm: u32) -> Option<Box<GuardedSpace>> {
+    if !(2..=u32::MAX - 2).contains(&max_allocs) {
+        return None;
+    }
+    boxed(Guarded::with_realm(offset_allocator_guarded::Global, size, max_allocs, realm).ok()?)
 }
 
 /// What C passes to be called with each move.
@@ -730,11 +742,10 @@ exports! {
 
     fn oa_text_drop(text: Option<Box<Text>>) -> () { drop(text) } else ();
 
-    fn oag_new(size: u32, max_allocs: u32, realm: u32) -> Option<Box<GuardedSpace>> {
-        if !(2..=u32::MAX - 2).contains(&max_allocs) {
-            return None;
-        }
-        boxed(Guarded::with_max_allocs(offset_allocator_guarded::Global, size, max_allocs, realm).ok()?)
+    fn oag_new(size: u32, max_allocs: u32) -> Option<Box<GuardedSpace>> { guarded_space(size, max_allocs, next_realm()) } else ();
+
+    fn oag_with_realm(size: u32, max_allocs: u32, realm: u32) -> Option<Box<GuardedSpace>> {
+        guarded_space(size, max_allocs, realm)
     } else ();
 
     fn oag_drop(space: Option<Box<GuardedSpace>>) -> () { drop(space) } else ();

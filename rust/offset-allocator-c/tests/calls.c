@@ -338,13 +338,15 @@ static void compacts_within(void) {
         CHECK(oa_free(space, hole) && oa_compact_within(space, 1, 0, budgets[i][0], budgets[i][1], NULL, NULL).ranges == budgets[i][2]);
         oa_drop(space);
     }
-    /* a free block behind the first range that moves has no node, and needs none where the last block is free */
+    /* a free block behind the first range that moves has no node, unless the hole is used up or the last block is free */
     space = oa_new(20, 5);
     hole = oa_allocate(space, 6);
     a = oa_allocate(space, 5);
     b = oa_allocate(space, 4);
-    CHECK(oa_free(space, hole) && oa_is_full(space) && !oa_compact_within(space, 1, 0, 5, 8, copy, &data).done && data.moves == 2);
-    CHECK(oa_compact_within(space, 1, 0, 9, 8, NULL, NULL).ranges == 2 && oa_allocation_offset(space, b) == 5);
+    CHECK(oa_free(space, hole) && oa_is_full(space) && !oa_compact_within(space, 4, 0, 5, 8, copy, &data).done && data.moves == 2);
+    far = oa_compact_within(space, 3, 0, 5, 8, NULL, NULL);
+    CHECK(far.done && far.more && far.ranges == 1 && far.next == 11 && oa_allocation_offset(space, a) == 0 && oa_is_full(space));
+    CHECK(oa_compact_within(space, 4, 0, 9, 8, NULL, NULL).ranges == 1 && oa_allocation_offset(space, b) == 7 && oa_is_full(space));
     oa_drop(space);
 }
 
@@ -622,7 +624,7 @@ static void dumps(void) {
                   "{\"General\":{\"API\":\"Vulkan\"},\"DefaultPools\":{\"Type 0\":{\"PreferredBlockSize\":300,\"Blocks\":{\"0\":{"
                   "\"TotalBytes\":300,\"UnusedBytes\":160,\"Allocations\":2,\"UnusedRanges\":2,\"Suballocations\":["
                   "{\"Offset\":0,\"Type\":\"UNKNOWN\",\"Size\":40},{\"Offset\":40,\"Type\":\"FREE\",\"Size\":7},"
-                  "{\"Offset\":47,\"Type\":\"UNKNOWN\",\"Size\":100},{\"Offset\":147,\"Type\":\"FREE\",\"Size\":153}]}}}}}"));
+                  "{\"Offset\":47,\"Type\":\"UNKNOWN\",\"Size\":100},{\"Offset\":147,\"Type\":\"FREE\",\"Size\":153}]}},\"DedicatedAllocations\":[]}}}"));
     oa_reset(space);
     oa_drop(space);
     /* a text stays when its space is gone */

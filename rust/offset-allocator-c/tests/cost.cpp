@@ -45,7 +45,7 @@ int main(int count, char **arguments) {
     int steps = std::atoi(arguments[1]);
     uint64_t sum;
     if (count > 2) {
-        GuardedAllocator a(0x08000000, 131072, 1);
+        GuardedAllocator a(0x08000000, 131072);
         sum = run<Ticket>(a, steps);
     } else {
         Allocator a(0x08000000, 131072);

@@ -11,7 +11,7 @@ static int checks;
 static void grows_and_drops(void) {
     /* 100 units are filed as 96, so of each page 96 units are granted at first, and then the other 4 */
     oah_limits limits = {.size = 100, .max_allocs = 8, .most = 2, .most_larger = 2};
-    oah_heaps *heaps = oah_new(limits, 9);
+    oah_heaps *heaps = oah_with_realm(limits, 9);
     CHECK(heaps && !oah_has(heaps, 0) && oah_totals(heaps).heaps == 0);
     oah_granted a = oah_allocate(heaps, 60), b = oah_allocate(heaps, 60), c = oah_allocate(heaps, 36);
     CHECK(a.refusal == OAH_GRANTED && a.is_new && a.place.heap == 0 && a.place.realm == 9 && a.place.ticket.serial == 1);
@@ -61,7 +61,7 @@ static void grows_and_drops(void) {
 /* The first range of a heap begins at 0, a multiple of every alignment: a page at an alignment fits a page. */
 static void aligned_pages(void) {
     oah_limits limits = {.size = 1024, .max_allocs = 8, .most = 2, .most_larger = 1};
-    oah_heaps *heaps = oah_new(limits, 9);
+    oah_heaps *heaps = oah_with_realm(limits, 9);
     oah_granted a = oah_allocate_aligned(heaps, 1024, 256), b = oah_allocate_aligned(heaps, 1024, 1u << 31);
     CHECK(a.is_new && a.place.heap == 0 && oah_offset_of(heaps, a.place) == 0);
     CHECK(b.is_new && b.place.heap == 1 && oah_offset_of(heaps, b.place) == 0);
@@ -78,7 +78,7 @@ static int same(oah_place a, oah_place b) {
 /* Three heaps of 96 units, of which live ranges of 70, 30 and 50 stay: the second is emptied into the others. */
 static void relocates(void) {
     oah_limits limits = {.size = 96, .max_allocs = 8, .most = 3, .most_larger = 0};
-    oah_heaps *heaps = oah_new(limits, 9);
+    oah_heaps *heaps = oah_with_realm(limits, 9);
     CHECK(oah_emptiest(heaps) == OA_NO_SPACE && !oah_last_live(heaps, 0).ticket.serial);
     oah_place a = oah_allocate(heaps, 70).place, gone = oah_allocate(heaps, 26).place;
     oah_place c = oah_allocate(heaps, 20).place, d = oah_allocate(heaps, 10).place, also = oah_allocate(heaps, 64).place;
@@ -102,7 +102,7 @@ static void relocates(void) {
 /* Two heaps of 96 units: behind 41 live ones a second range of 20 begins at 64, at a multiple of 32, and another at 41. */
 static void relocates_aligned(void) {
     oah_limits limits = {.size = 96, .max_allocs = 8, .most = 2, .most_larger = 0};
-    oah_heaps *heaps = oah_new(limits, 9);
+    oah_heaps *heaps = oah_with_realm(limits, 9);
     oah_place first = oah_allocate(heaps, 41).place, gone = oah_allocate(heaps, 52).place, c = oah_allocate(heaps, 20).place;
     CHECK(first.heap == 0 && gone.heap == 0 && c.heap == 1 && oah_free(heaps, gone));
     /* 55 units from 41 on are filed as 52: 20 + 31 units fit, and 20 + 23; 20 + 63 do not, nor do 20 + 33 */
@@ -115,7 +115,7 @@ static void relocates_aligned(void) {
     CHECK(!oah_relocate_aligned(NULL, c, 1).ticket.serial && !oah_relocate_aligned(heaps, c, 0).ticket.serial);
     oah_drop(heaps);
     /* behind 5 units, 10 at a multiple of 12, and then 10 at a multiple of 48 */
-    heaps = oah_new((oah_limits){.size = 100, .max_allocs = 8, .most = 1, .most_larger = 0}, 9);
+    heaps = oah_with_realm((oah_limits){.size = 100, .max_allocs = 8, .most = 1, .most_larger = 0}, 9);
     oah_allocate(heaps, 5);
     CHECK(oah_offset_of(heaps, oah_allocate_aligned(heaps, 10, 12).place) == 12);
     CHECK(oah_offset_of(heaps, oah_allocate_aligned(heaps, 10, 48).place) == 48);
@@ -125,7 +125,7 @@ static void relocates_aligned(void) {
 /* Two heaps of 100 units and room for a larger one, of which number 1 was given up: written by hand. */
 static void states(void) {
     oah_limits limits = {.size = 100, .max_allocs = 4, .most = 2, .most_larger = 1};
-    oah_heaps *heaps = oah_new(limits, 9);
+    oah_heaps *heaps = oah_with_realm(limits, 9);
     oah_place a = oah_allocate(heaps, 60).place;
     CHECK(oah_allocate(heaps, 60).is_new && oah_give_up(heaps, 1));
     oa_state *state = oah_write_state(heaps);
@@ -192,12 +192,30 @@ static void states(void) {
     CHECK(!oah_write_state(NULL) && !oah_clone(NULL) && oah_read_state(NULL, 1, 4).found == OA_BAD_LENGTH);
     /* a state of tickets is none of many heaps */
     oa_state_drop(state);
-    oag_allocator *one = oag_new(100, 4, 9);
+    oag_allocator *one = oag_with_realm(100, 4, 9);
     CHECK(oag_allocate(one, 60).serial);
     state = oag_write_state(one);
     CHECK(oah_read_state(state, 3, 4).found == OA_BAD_FORM);
     oa_state_drop(state);
     oag_drop(one);
+}
+
+/* Nor of heaps and spaces that are made without a realm, not even the ticket of a place alone. */
+static void realms(void) {
+    oah_limits limits = {.size = 100, .max_allocs = 8, .most = 2, .most_larger = 1};
+    oah_heaps *meshes = oah_new(limits), *textures = oah_new(limits);
+    oah_place mesh = oah_allocate(meshes, 10).place, texture = oah_allocate(textures, 10).place;
+    oah_place second = oah_allocate(meshes, 95).place;
+    CHECK(mesh.realm != texture.realm && mesh.ticket.realm != texture.ticket.realm && second.ticket.realm == mesh.ticket.realm + 1);
+    CHECK(!oah_is_live(textures, mesh) && !oah_free(meshes, texture) && oah_is_live(textures, texture));
+    for (int n = 0; n < 4; n++) {
+        oag_allocator *space = oag_new(100, 8);
+        oag_ticket own = oag_allocate(space, 10);
+        CHECK(own.serial == mesh.ticket.serial && !oag_is_live(space, mesh.ticket) && !oag_free(space, texture.ticket));
+        oag_drop(space);
+    }
+    oah_drop(meshes);
+    oah_drop(textures);
 }
 
 static uint32_t units_moved;
@@ -210,7 +228,7 @@ static void note_move(void *user, oa_move range) {
 /* Sizes of ranges, walks, what would be refused, and heaps that are compacted. */
 static void in_place(void) {
     oah_limits limits = {.size = 100, .max_allocs = 8, .most = 2, .most_larger = 2};
-    oah_heaps *heaps = oah_new(limits, 9);
+    oah_heaps *heaps = oah_with_realm(limits, 9);
     CHECK(oah_first_heap(heaps) == OA_NO_SPACE && !oah_first_place(heaps).ticket.serial);
     oah_place a = oah_allocate(heaps, 60).place, b = oah_allocate(heaps, 30).place;
     oah_place gone = oah_allocate(heaps, 150).place, large = oah_allocate(heaps, 120).place;
@@ -245,7 +263,7 @@ static void note_move_in(void *user, uint32_t heap, oa_move range) {
 /* Heaps that become larger, tight requests, and all heaps compacted. */
 static void filled(void) {
     oah_limits limits = {.size = 100, .max_allocs = 8, .most = 2, .most_larger = 0};
-    oah_heaps *heaps = oah_new(limits, 9);
+    oah_heaps *heaps = oah_with_realm(limits, 9);
     oah_place hole = oah_allocate(heaps, 21).place, rest = oah_allocate(heaps, 70).place;
     /* a request of 21 units is rounded up to 22, and of the last 9 units 4 begin at a multiple of 16 */
     CHECK(oah_free(heaps, hole) && oah_refusal_tight(heaps, 21) == OAH_GRANTED && oah_allocate_tight(heaps, 21).place.heap == 0);
@@ -278,9 +296,9 @@ static void heaps_grow(void) {
     oah_limits limits = {.size = 200, .max_allocs = 40, .most = 2, .most_larger = 1};
     oah_limits small = limits, all = limits, less = limits, more = limits, six = {.size = 200, .max_allocs = 7, .most = 2, .first_allocs = 6};
     small.first_allocs = 8, all.first_allocs = 40, less.first_allocs = 7, more.first_allocs = 41;
-    oah_heaps *heaps = oah_new(small, 9), *whole = oah_new(all, 9), *plain = oah_new(limits, 9);
+    oah_heaps *heaps = oah_with_realm(small, 9), *whole = oah_with_realm(all, 9), *plain = oah_with_realm(limits, 9);
     CHECK(heaps && whole && plain && oah_limits_of(heaps).first_allocs == 8 && oah_limits_of(plain).first_allocs == 40);
-    CHECK(!oah_new(less, 9) && !oah_new(more, 9) && !oah_new(six, 9));
+    CHECK(!oah_with_realm(less, 9) && !oah_with_realm(more, 9) && !oah_with_realm(six, 9));
     uint32_t limit = 8, grown = 0;
     for (uint32_t live = 1; live <= 38; live++) {
         oah_granted one = oah_allocate(heaps, 1), same = oah_allocate(plain, 1);
@@ -308,7 +326,7 @@ static void heaps_grow(void) {
  * heap has room. */
 static void heaps_double(void) {
     oah_limits limits = {.size = 1024, .max_allocs = 8, .most = 5, .most_larger = 1, .first_size = 256};
-    oah_heaps *heaps = oah_new(limits, 9);
+    oah_heaps *heaps = oah_with_realm(limits, 9);
     static const uint32_t sizes[] = {256, 512, 1024, 1024, 1024};
     oah_granted all[5];
     for (uint32_t number = 0; number < 5; number++) {
@@ -324,18 +342,18 @@ static void heaps_double(void) {
     CHECK(small.is_new && small.place.heap == 0 && oah_units_of_heap(heaps, 0) == 256);
     /* heaps with the limits that are said are alike */
     oah_limits said = oah_limits_of(heaps);
-    oah_heaps *alike = oah_new(said, 9);
+    oah_heaps *alike = oah_with_realm(said, 9);
     CHECK(said.first_size == 256 && said.first_allocs == 8 && oah_allocate(alike, 257).place.heap == 1);
     oah_drop(alike);
     oah_drop(heaps);
     /* with two numbers none has 1024 units, so a request for more than 512 is for a larger heap */
     limits.most = 2;
-    heaps = oah_new(limits, 9);
+    heaps = oah_with_realm(limits, 9);
     large = oah_allocate(heaps, 513);
     CHECK(large.is_new && large.place.heap == 2 && oah_units_of_heap(heaps, 2) == 513 && oah_refusal(heaps, 1024) == OAH_FULL);
     oah_drop(heaps);
     limits.first_size = 1025;
-    CHECK(!oah_new(limits, 9));
+    CHECK(!oah_with_realm(limits, 9));
 }
 
 static bool is_text(oa_text *text, const char *wanted) {
@@ -347,7 +365,7 @@ static bool is_text(oa_text *text, const char *wanted) {
 /* Three heaps, of which the second is dropped; the third is a larger one, with 4 nodes. */
 static void dumps(void) {
     oah_limits limits = {.size = 100, .max_allocs = 8, .most = 2, .most_larger = 1};
-    oah_heaps *heaps = oah_new(limits, 9);
+    oah_heaps *heaps = oah_with_realm(limits, 9);
     CHECK(is_text(oah_json(heaps), "{\"totals\":{\"heaps\":0,\"units\":0,\"live_units\":0,\"free_units\":0,"
                                    "\"largest_free_region\":0},\"heaps\":[]}"));
     oah_place a = oah_allocate(heaps, 60).place, b = oah_allocate(heaps, 60).place, large = oah_allocate(heaps, 1000).place;
@@ -367,7 +385,7 @@ static void dumps(void) {
 
 static void nulls(void) {
     oah_limits few = {.size = 100, .max_allocs = 3, .most = 1, .most_larger = 0}, many = {.size = 100, .max_allocs = 4, .most = 4294967295u, .most_larger = 1};
-    CHECK(!oah_new(few, 0) && !oah_new(many, 0));
+    CHECK(!oah_with_realm(few, 0) && !oah_with_realm(many, 0));
     oah_granted none = oah_allocate(NULL, 1);
     CHECK(none.refusal == OAH_BAD_CALL && none.place.ticket.serial == 0 && oah_allocate_aligned(NULL, 1, 1).refusal == OAH_BAD_CALL);
     CHECK(!oah_free(NULL, none.place) && !oah_is_live(NULL, none.place) && !oah_size_of(NULL, none.place));
@@ -392,6 +410,7 @@ int main(void) {
     relocates();
     relocates_aligned();
     states();
+    realms();
     nulls();
     in_place();
     filled();

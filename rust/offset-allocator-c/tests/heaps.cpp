@@ -19,7 +19,7 @@ static_assert(std::is_nothrow_move_constructible<Heaps>::value && std::is_nothro
 static_assert(sizeof(Place) == 24, "a place is as in C");
 
 int main() {
-    Heaps heaps({1024, 64, 4, 2}, 5);
+    Heaps heaps = Heaps::withRealm({1024, 64, 4, 2}, 5);
     CHECK(heaps);
     std::map<uint32, std::vector<char>> buffers;
     std::vector<Place> places;
@@ -114,7 +114,7 @@ int main() {
     CHECK(page.isNew && page.place.heap == 0 && pages.offsetOf(page.place) == 0);
     CHECK(pages.allocateAligned(1024, 256).refusal == HeapRefusal::full && pages.allocateAligned(1025, 256).refusal == HeapRefusal::tooLarge);
     // heaps 0 and 1 have 70 and 30 live units of 96: the second is emptied into the first, as far as that has room
-    Heaps two({96, 8, 2, 0}, 1);
+    Heaps two = Heaps::withRealm({96, 8, 2, 0}, 1);
     Place first = two.allocate(70).place, freed = two.allocate(26).place, old = two.allocate(20).place, last = two.allocate(10).place;
     CHECK(two.free(freed) && two.emptiest() == 1 && two.lastLive(1) == last && two.liveBefore(last) == old);
     CHECK(two.liveBefore(old).ticket.serial == 0 && two.lastLive(2).ticket.serial == 0);
@@ -125,7 +125,7 @@ int main() {
     CHECK(two.free(second) && two.relocate(old).heap == 0);
     CHECK(moved.emptiest() == Allocation::NO_SPACE && moved.relocate(old).ticket.serial == 0);
     // 26 units from 70 on are filed as 26: 8 + 15 fit at a multiple of 16, which is 80
-    Heaps pair({96, 8, 2, 0}, 1);
+    Heaps pair = Heaps::withRealm({96, 8, 2, 0}, 1);
     Place front = pair.allocate(70).place, hole = pair.allocate(26).place, uniforms = pair.allocate(8).place;
     CHECK(front.heap == 0 && pair.free(hole) && uniforms.heap == 1 && pair.relocateAligned(uniforms, 32).ticket.serial == 0);
     Place odd = pair.relocateAligned(uniforms, 12);
@@ -133,7 +133,7 @@ int main() {
     Place aligned = pair.relocateAligned(uniforms, 16);
     CHECK(aligned.heap == 0 && pair.offsetOf(aligned) == 80 && pair.relocateAligned(uniforms, 0).ticket.serial == 0);
     // number 1 was dropped
-    Heaps changed({100, 8, 2, 2}, 1);
+    Heaps changed = Heaps::withRealm({100, 8, 2, 2}, 1);
     Place low = changed.allocate(60).place, high = changed.allocate(30).place, big = changed.allocate(120).place;
     CHECK(changed.firstHeap() == 0 && changed.heapAfter(0) == 2 && changed.unitsOfHeap(2) == 120 && changed.limits().mostLarger == 2);
     CHECK(changed.firstPlace() == low && changed.placeAfter(low) == high && changed.placeAfter(high) == big);
@@ -144,7 +144,7 @@ int main() {
     CHECK(changed.compactHeap(0, [&](const Move &move) { units += move.size; }) && units == 40 && changed.offsetOf(high) == 40);
     CHECK(changed.free(low) && changed.makeRoom(0, 56, [&](const Move &move) { units += move.size; }).possible && units == 80);
 
-    Heaps dumped({100, 8, 3, 0}, 1);
+    Heaps dumped = Heaps::withRealm({100, 8, 3, 0}, 1);
     Place one = dumped.allocate(96).place, other = dumped.allocate(96).place, third = dumped.allocate(60).place;
     CHECK(third.heap == 2 && dumped.free(one) && dumped.free(other) && dumped.dropHeap(1));
     CHECK(dumped.json() ==

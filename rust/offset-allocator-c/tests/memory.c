@@ -96,7 +96,7 @@ int main(void) {
     if (raised < 2 || copied < 3 || stored < 3 || read < 3) return printf("no request failed\n"), 1;
     /* the same with tickets */
     left = -1;
-    oag_allocator *with_tickets = oag_new(1000, 100, 7), *again = NULL;
+    oag_allocator *with_tickets = oag_with_realm(1000, 100, 7), *again = NULL;
     oag_allocate(with_tickets, 10);
     state = NULL;
     for (left = 0, stored = 0; !state; stored++) {
@@ -123,7 +123,7 @@ int main(void) {
     oa_state_drop(state);
     if (raised < 3 || stored < 4 || read < 4) return printf("no request with tickets failed\n"), 1;
     oah_limits limits = {.size = 100, .max_allocs = 8, .most = 2, .most_larger = 0};
-    oah_heaps *heaps = oah_new(limits, 1);
+    oah_heaps *heaps = oah_with_realm(limits, 1);
     oah_allocate(heaps, 60);
     oah_allocate(heaps, 60);
     CHECK_TEXT(oa_json(space));
@@ -131,7 +131,7 @@ int main(void) {
     CHECK_TEXT(oah_json(heaps));
     oah_drop(heaps);
     /* of a heap with four unused nodes; where memory for more is refused, all is as it was */
-    oah_heaps *growing = oah_new((oah_limits){.size = 200, .max_allocs = 100, .most = 1, .first_allocs = 8}, 1);
+    oah_heaps *growing = oah_with_realm((oah_limits){.size = 200, .max_allocs = 100, .most = 1, .first_allocs = 8}, 1);
     for (int i = 0; i < 3; i++) oah_allocate(growing, 10);
     for (left = 0, raised = 0; oah_totals(growing).live_units == 30; raised++) {
         long before = held, next = left;
@@ -144,7 +144,7 @@ int main(void) {
     /* units are added to a heap of few nodes, whose last block is free or not: it says so, or nothing has changed */
     int unextended = 0;
     for (int i = 0; i < 2; i++) {
-        growing = oah_new((oah_limits){.size = i ? 7 : 200, .max_allocs = 100, .most = 1, .first_allocs = 8}, 1);
+        growing = oah_with_realm((oah_limits){.size = i ? 7 : 200, .max_allocs = 100, .most = 1, .first_allocs = 8}, 1);
         for (int k = 0; k < 3; k++) oah_allocate(growing, i ? 1 : 10);
         for (int k = 0; k < 20; k++) {
             bool done = false;
@@ -187,7 +187,7 @@ int main(void) {
     oag_allocator *tickets = NULL;
     for (left = 0; !tickets; guarded++) {
         long before = held, next = left;
-        tickets = oag_new(1000, 100, 1);
+        tickets = oag_with_realm(1000, 100, 1);
         if (!tickets && held != before) return printf("oag_new keeps memory\n"), 1;
         left = tickets ? -1 : next + 1;
     }

@@ -73,8 +73,8 @@ static void byHand(const std::string &path) {
     // no file, and a file that cannot be written
     Recorded<Allocator> none(nullptr, 100, 8);
     check(none.isFailed() && none.allocate(10).offset == 0, "without a file calls go on");
-    Recorded<GuardedAllocator> third(nullptr, 100, 8, 3), usual(nullptr, 100);
-    check(third->realm() == 3 && usual->realm() == 0 && usual->maxAllocs() == 131072, "the realm, and the usual limit");
+    Recorded<GuardedAllocator> third(nullptr, GuardedAllocator::withRealm(100, 8, 3)), usual(nullptr, 100);
+    check(third->realm() == 3 && usual->realm() != 0 && usual->maxAllocs() == 131072, "the realm, and the usual limit");
     std::FILE *full = std::fopen("/dev/full", "w");
     if (full) {
         Recorded<Allocator> lost(full, 100, 8);
@@ -114,7 +114,7 @@ static void beginnings(const std::string &path) {
     const std::string begun = "space 100 nodes 16 index 32\nat 0 15\nat 15 10\nat 25 75\nshrink 3 5\nshrink 2 5\nshrink 1 10\n#! begun\n";
     std::vector<uint8_t> bytes;
     {
-        GuardedAllocator space(100, 16, 7);
+        GuardedAllocator space = GuardedAllocator::withRealm(100, 16, 7);
         std::vector<Ticket> held;
         made(space, held);
         check(space.save(bytes), "a state");
@@ -172,7 +172,7 @@ static void beginnings(const std::string &path) {
 static void named(const std::string &path) {
     std::FILE *file = std::fopen(path.c_str(), "wb");
     {
-        GuardedAllocator space(100, 16, 7);
+        GuardedAllocator space = GuardedAllocator::withRealm(100, 16, 7);
         Ticket first = space.allocate(10);
         Recorded<GuardedAllocator> heap(file, std::move(space));
         Ticket second = heap.allocate(20);
@@ -202,7 +202,7 @@ static void named(const std::string &path) {
           "# the next\nheap 1 alloc 7\n", "of one of several");
     file = std::fopen(path.c_str(), "wb");
     {
-        RecordedHeaps heaps(file, {100, 16, 2, 0}, 1);
+        RecordedHeaps heaps(file, Heaps::withRealm({100, 16, 2, 0}, 1));
         Place rock = heaps.allocate(60).place, moss = heaps.allocate(30).place;
         heaps.name("sky");
         Place sky = heaps.allocate(90).place;
@@ -224,7 +224,7 @@ static void several(const std::string &path) {
     Recorded<GuardedAllocator> meshes(recording, 100, 8);
     recording.name("the\rtextures");
     Recorded<Allocator> textures(recording, 50, 8u);
-    Recorded<GuardedAllocator> third(recording, 9, 8, 5);
+    Recorded<GuardedAllocator> third(recording, GuardedAllocator::withRealm(9, 8, 5));
     check(third->realm() == 5, "the realm");
     meshes.name("mesh\nrock");
     meshes.unit(32);
@@ -274,7 +274,7 @@ static void threads(const std::string &path) {
 
 static void manyHeaps(const std::string &path) {
     std::FILE *file = std::fopen(path.c_str(), "wb");
-    RecordedHeaps heaps(file, {1000, 16, 2, 1}, 1);
+    RecordedHeaps heaps(file, Heaps::withRealm({1000, 16, 2, 1}, 1));
     heaps.name("mesh: rock\nand moss");
     Granted rock = heaps.allocate(300);
     heaps.name("level");
@@ -436,7 +436,7 @@ static void randomHeaps(uint64_t seed, const std::string &path) {
     HeapLimits limits = {200 + below(state, 2000), 4 + below(state, 30), below(state, 5), below(state, 4)};
     // of some the first heaps are small
     if (seed % 3 == 0) limits.firstSize = 1 + limits.size / 9;
-    Heaps made(limits, 3);
+    Heaps made = Heaps::withRealm(limits, 3);
     std::vector<Place> places;
     if (seed % 2)
         for (int i = 0; i < 20; i++) {

@@ -142,7 +142,7 @@ template <class H, class A, class F> static void walkToTheEnd(const A &heap, F o
 // A range finds a multiple of 256 before it.
 static void relocateToAMultiple() {
     Allocator a(1000, 8);
-    GuardedAllocator g(1000, 8, 3);
+    GuardedAllocator g = GuardedAllocator::withRealm(1000, 8, 3);
     a.allocate(10), g.allocate(10);
     Allocation hole = a.allocate(320), mesh = a.allocate(64);
     Ticket space = g.allocate(320), range = g.allocate(64);
@@ -192,7 +192,7 @@ static void emptyTheEnd() {
 static void atTheLastNumber() {
     const uint32 most = Allocation::NO_SPACE;
     Allocator a(most, 8);
-    GuardedAllocator g(most, 8, 3);
+    GuardedAllocator g = GuardedAllocator::withRealm(most, 8, 3);
     Allocation end = a.allocateAt(most, 0);
     Ticket last = g.allocateAt(most, 0);
     const auto offset = [&](Allocation at) { return a.allocationOffset(at); };
@@ -361,7 +361,7 @@ static void places() {
     Allocation start = a.allocateAt(0, 10), end = a.allocateAt(90, 10);
     CHECK(a.liveAt(9) == start && a.liveAt(39) == Allocation() && a.liveAt(50) == mesh && a.liveAt(90) == end && a.inTheWay(0, 100) == end);
     CHECK(a.free(start) && a.free(end) && a.free(a.liveAt(50)) && a.allocateAt(30, 20).offset == 30);
-    GuardedAllocator g(100, 8, 3);
+    GuardedAllocator g = GuardedAllocator::withRealm(100, 8, 3);
     Ticket range = g.allocateAt(40, 20);
     CHECK(range && g.offsetOf(range) == 40 && g.liveAt(59) == range && !g.liveAt(60) && g.inTheWay(0, 41) == range && !g.inTheWay(0, 40));
     CHECK(g.isFreeAt(40, 0) && !g.isFreeAt(41, 0) && g.isFreeAt(100, 0) && !g.isFreeAt(101, 0));
@@ -480,7 +480,7 @@ static void questions() {
 }
 
 static void questionsOfTickets() {
-    GuardedAllocator space(100, 7, 5);
+    GuardedAllocator space = GuardedAllocator::withRealm(100, 7, 5);
     QUESTIONS(FRESH)
     QUESTIONS_OF_TICKETS(FRESH)
     Ticket first = space.allocate(10);
@@ -506,7 +506,7 @@ static void tickets() {
 
     static_assert(!std::is_copy_constructible<GuardedAllocator>::value && std::is_nothrow_move_constructible<GuardedAllocator>::value, "");
     static_assert(sizeof(Ticket) == 16 && sizeof(GuardedAllocator) == sizeof(void *), "");
-    GuardedAllocator g(100, 16, 3), other(100, 16, 4);
+    GuardedAllocator g = GuardedAllocator::withRealm(100, 16, 3), other = GuardedAllocator::withRealm(100, 16, 4);
     Ticket t = g.allocate(10), foreign = other.allocate(10), none;
     CHECK(g && t && !none && t != none && t == t && t.serial == 1 && t.realm == 3 && g.realm() == 3 && !g.isSpent());
     CHECK(g.isLive(t) && g.sizeOf(t) == 10 && g.offsetOf(t) == 0 && !g.isLive(none) && !g.isLive(foreign) && !g.free(foreign));
@@ -588,11 +588,20 @@ static void tickets() {
     other.reset();
     CHECK(!other.isLive(w) && !other.free(w) && !GuardedAllocator(10, 1) && GuardedAllocator(10).maxAllocs() == 128 * 1024);
     std::vector<GuardedAllocator> several;
-    for (uint32 i = 0; i < 5; i++) several.emplace_back(100 * i, 16, i);
+    for (uint32 i = 0; i < 5; i++) several.push_back(GuardedAllocator::withRealm(100 * i, 16, i));
     CHECK(several[4].allocate(200).realm == 4 && !several[0].allocate(1));
 }
 
 // At most 2 blocks, and then 3: the second range begins where the first one ends.
+// As README has them: no ticket of one is live in the other.
+static void realms() {
+    GuardedAllocator vertices(1000), indices(1000);
+    Ticket vertex = vertices.allocate(10), index = indices.allocate(10);
+    CHECK(vertex.serial == index.serial && vertex.name == index.name && vertices.realm() != indices.realm());
+    CHECK(!indices.free(vertex) && indices.isLive(index) && vertices.isLive(vertex));
+    CHECK(GuardedAllocator::withRealm(1000, 8, 7).realm() == 7 && !GuardedAllocator::withRealm(1000, 1, 7));
+}
+
 static void raised() {
     Allocator heap(100, 3);
     Allocation rock = heap.allocate(30);
@@ -600,7 +609,7 @@ static void raised() {
     CHECK(heap.isLive(rock) && heap.allocate(5).offset == 30);
     Allocator moved = std::move(heap);
     CHECK(!heap.raiseLimit(100) && moved.raiseLimit(100) && moved.isLive(rock) && moved.maxAllocs() == 100);
-    GuardedAllocator guarded(100, 3, 5);
+    GuardedAllocator guarded = GuardedAllocator::withRealm(100, 3, 5);
     Ticket mesh = guarded.allocate(30);
     CHECK(!guarded.allocate(5) && !guarded.raiseLimit(2) && guarded.raiseLimit(4) && guarded.maxAllocs() == 4);
     Ticket next = guarded.allocate(5);
@@ -626,7 +635,7 @@ static void states() {
     Allocator::Loaded bad = Allocator::load(level.data(), level.size());
     CHECK(!bad.space && bad.found == OA_BAD_FORM && bad.at == 0);
     CHECK(Allocator::load(level.data(), 7).found == OA_BAD_LENGTH && !Allocator::load(nullptr, 0).space);
-    GuardedAllocator guarded(100, 16, 5);
+    GuardedAllocator guarded = GuardedAllocator::withRealm(100, 16, 5);
     Ticket t = guarded.allocate(10);
     GuardedAllocator copy = guarded.clone();
     guarded.free(t);
@@ -653,9 +662,9 @@ static void dumps() {
     const std::string vmaJson =
         "{\"General\":{\"API\":\"Vulkan\"},\"DefaultPools\":{\"Type 0\":{\"PreferredBlockSize\":100,\"Blocks\":{\"0\":{"
         "\"TotalBytes\":100,\"UnusedBytes\":70,\"Allocations\":1,\"UnusedRanges\":1,\"Suballocations\":["
-        "{\"Offset\":0,\"Type\":\"UNKNOWN\",\"Size\":30},{\"Offset\":30,\"Type\":\"FREE\",\"Size\":70}]}}}}}";
+        "{\"Offset\":0,\"Type\":\"UNKNOWN\",\"Size\":30},{\"Offset\":30,\"Type\":\"FREE\",\"Size\":70}]}},\"DedicatedAllocations\":[]}}}";
     CHECK(heap.json() == json && heap.vmaJson() == vmaJson);
-    GuardedAllocator guarded(100, 16, 5);
+    GuardedAllocator guarded = GuardedAllocator::withRealm(100, 16, 5);
     CHECK(std::to_string(guarded.allocate(30).name) == name && guarded.json() == json && guarded.vmaJson() == vmaJson);
     Allocator moved(std::move(heap));
     GuardedAllocator gone(std::move(guarded));
@@ -693,5 +702,6 @@ int main() {
     questions();
     questionsOfTickets();
     tickets();
+    realms();
     std::printf("C++: %d checks pass\n", checks);
 }

@@ -25,9 +25,9 @@ static uint64_t next(void) {
 }
 
 static void stale(void) {
-    oag_allocator *space = oag_new(100, 16, 7), *other = oag_new(100, 16, 8);
+    oag_allocator *space = oag_with_realm(100, 16, 7), *other = oag_with_realm(100, 16, 8);
     CHECK(space && other && sizeof(oag_ticket) == 16);
-    CHECK(!oag_new(100, 1, 7) && !oag_new(100, 4294967295u, 7));
+    CHECK(!oag_with_realm(100, 1, 7) && !oag_with_realm(100, 4294967295u, 7));
     oag_ticket a = oag_allocate(space, 10), foreign = oag_allocate(other, 10);
     CHECK(a.serial == 1 && a.realm == 7 && oag_offset_of(space, a) == 0 && oag_size_of(space, a) == 10);
     CHECK(oag_free(space, a) && !oag_free(space, a) && !oag_is_live(space, a));
@@ -56,7 +56,7 @@ static void stale(void) {
     oag_drop(copy);
     /* and under a larger limit: 2 blocks, and with another range 3 */
     CHECK(!oag_raise_limit(NULL, 100));
-    oag_allocator *small = oag_new(100, 3, 7);
+    oag_allocator *small = oag_with_realm(100, 3, 7);
     oag_ticket first = oag_allocate(small, 10);
     CHECK(first.serial == 1 && oag_refusal(small, 5) == OA_NODES && !oag_raise_limit(small, 2) && !oag_raise_limit(small, 4294967294u));
     CHECK(oag_max_allocs(small) == 3 && oag_raise_limit(small, 4) && oag_max_allocs(small) == 4 && oag_realm(small) == 7);
@@ -72,8 +72,20 @@ static void stale(void) {
 static bool same(oag_ticket a, oag_ticket b) { return a.serial == b.serial && a.name == b.name && a.realm == b.realm; }
 
 /* a range finds a multiple of 256 before it */
+/* Of spaces that are made without a realm no ticket is taken for another's. */
+static void realms(void) {
+    oag_allocator *vertices = oag_new(100, 16), *indices = oag_new(100, 16);
+    CHECK(vertices && indices && !oag_new(100, 1) && !oag_new(100, 4294967295u));
+    CHECK(oag_realm(vertices) != 0 && oag_realm(indices) != 0 && oag_realm(vertices) != oag_realm(indices));
+    oag_ticket vertex = oag_allocate(vertices, 10), index = oag_allocate(indices, 10);
+    CHECK(vertex.serial == index.serial && vertex.name == index.name);
+    CHECK(!oag_free(indices, vertex) && oag_is_live(indices, index) && oag_is_live(vertices, vertex));
+    oag_drop(vertices);
+    oag_drop(indices);
+}
+
 static void to_a_multiple(void) {
-    oag_allocator *space = oag_new(1000, 16, 9);
+    oag_allocator *space = oag_with_realm(1000, 16, 9);
     oag_allocate(space, 10);
     oag_ticket hole = oag_allocate(space, 320), mesh = oag_allocate(space, 64);
     CHECK(!oag_relocate_aligned(space, mesh, 256).serial && oag_free(space, hole) && !oag_relocate_aligned(space, hole, 1).serial);
@@ -94,7 +106,7 @@ static void count(void *user, oa_move range) {
 
 /* 300 units are one step of 256, and 44 */
 static void by_steps(void) {
-    oag_allocator *space = oag_new(1000, 16, 9);
+    oag_allocator *space = oag_with_realm(1000, 16, 9);
     int moves = 0;
     oag_ticket hole = oag_allocate(space, 300), mesh = oag_allocate(space, 100);
     CHECK(oag_free(space, hole) && !oag_compact_by(space, 0, count, &moves) && oag_compact_by(space, 301, count, &moves) && !moves);
@@ -103,7 +115,7 @@ static void by_steps(void) {
     CHECK(!oag_compact_by(NULL, 1, count, &moves) && moves == 1);
     oag_drop(space);
     /* the same within a budget */
-    space = oag_new(1000, 16, 9);
+    space = oag_with_realm(1000, 16, 9);
     hole = oag_allocate(space, 300), mesh = oag_allocate(space, 100);
     oag_ticket next = oag_allocate(space, 50);
     CHECK(oag_free(space, hole) && !oag_compact_within(space, 0, 0, 100, 1, count, &moves).done && !oag_compact_within(NULL, 1, 0, 1, 1, count, &moves).done);
@@ -116,13 +128,13 @@ static void by_steps(void) {
     /* 100 and 50 units are two ranges: either budget alone stops before the second */
     static const uint32_t budgets[][3] = {{150, 2, 2}, {149, 2, 1}, {150, 1, 1}, {2, 150, 1}};
     for (int i = 0; i < 4; i++) {
-        space = oag_new(1000, 16, 9);
+        space = oag_with_realm(1000, 16, 9);
         hole = oag_allocate(space, 300), oag_allocate(space, 100), oag_allocate(space, 50);
         CHECK(oag_free(space, hole) && oag_compact_within(space, 256, 0, budgets[i][0], budgets[i][1], NULL, NULL).ranges == budgets[i][2]);
         oag_drop(space);
     }
     /* no node is left for a free block at the end */
-    space = oag_new(20, 4, 9);
+    space = oag_with_realm(20, 4, 9);
     hole = oag_allocate(space, 12);
     mesh = oag_allocate(space, 8);
     oag_free(space, hole);
@@ -133,7 +145,7 @@ static void by_steps(void) {
 
 /* 300 free units, 100 live, 600 free: a step of 256 leaves 44, and 856 are together, the class of 832 */
 static void room_by_steps(void) {
-    oag_allocator *space = oag_new(1000, 16, 9);
+    oag_allocator *space = oag_with_realm(1000, 16, 9);
     int moves = 0;
     oag_ticket hole = oag_allocate(space, 300), mesh = oag_allocate(space, 100);
     CHECK(oag_free(space, hole) && !oag_room_cost_by(space, 833, 1, 256).possible && !oag_room_cost_by(space, 700, 256, 256).possible);
@@ -153,7 +165,7 @@ static void room_by_steps(void) {
 
 /* in the largest space a range of no units may begin behind all units, at the number of a missing offset */
 static void at_the_last_number(void) {
-    oag_allocator *space = oag_new(OA_NO_SPACE, 8, 9);
+    oag_allocator *space = oag_with_realm(OA_NO_SPACE, 8, 9);
     oag_ticket end = oag_allocate_at(space, OA_NO_SPACE, 0), all = oag_allocate_tight(space, OA_NO_SPACE);
     CHECK(end.serial == 1 && oag_is_live(space, end) && oag_offset_of(space, end) == OA_NO_SPACE);
     CHECK(same(oag_last_live(space), end) && same(oag_live_after(space, all), end) && same(oag_live_before(space, end), all));
@@ -166,7 +178,7 @@ static void at_the_last_number(void) {
 
 /* the third range finds a place where the second one was, and the end can go */
 static void from_the_end(void) {
-    oag_allocator *space = oag_new(64, 16, 9);
+    oag_allocator *space = oag_with_realm(64, 16, 9);
     CHECK(!oag_last_live(space).serial && !oag_first_live(space).serial);
     oag_ticket a = oag_allocate(space, 8), b = oag_allocate(space, 8), c = oag_allocate(space, 8);
     CHECK(same(oag_last_live(space), c) && same(oag_live_before(space, c), b) && same(oag_live_after(space, a), b));
@@ -189,7 +201,7 @@ static void states(void) {
         'O', 'A', 'T', 'K', 0, 0, 0, 0, 1, 0, 0, 0, 0, 0, 0, 0, 2, 0, 0, 0, 0, 0, 0, 0, 1, 0, 0, 0, 0, 0, 0, 0,
         7, 0, 0, 0, 0, 0, 0, 0, 1, 0, 0, 0, 0, 0, 0, 0, 0, 0, 0, 0, 0, 0, 0, 0};
     static const uint64_t numbers[] = {1263812943, 1, 2, 1, 7, 1, 0};
-    oag_allocator *space = oag_new(100, 5, 7);
+    oag_allocator *space = oag_with_realm(100, 5, 7);
     oag_ticket a = oag_allocate(space, 40);
     oa_state *state = oag_write_state(space);
     /* 48 and 8 a serial, then 32, two blocks and a free one */
@@ -255,7 +267,7 @@ static void states(void) {
 
 /* 40 units free, 20 live, 40 free */
 static void places(void) {
-    oag_allocator *space = oag_new(100, 8, 9);
+    oag_allocator *space = oag_with_realm(100, 8, 9);
     oag_ticket mesh = oag_allocate_at(space, 40, 20);
     CHECK(mesh.serial == 1 && mesh.realm == 9 && oag_offset_of(space, mesh) == 40 && oag_size_of(space, mesh) == 20);
     CHECK(same(oag_live_at(space, 40), mesh) && same(oag_live_at(space, 59), mesh) && !oag_live_at(space, 60).serial);
@@ -275,7 +287,7 @@ static void places(void) {
 
 /* any free block serves that holds the request */
 static void tight(void) {
-    oag_allocator *space = oag_new(100, 16, 9);
+    oag_allocator *space = oag_with_realm(100, 16, 9);
     CHECK(!oag_allocate(space, 100).serial && oag_refusal_tight(space, 100) == OA_GRANTED);
     oag_ticket all = oag_allocate_tight(space, 100);
     CHECK(all.serial == 1 && oag_size_of(space, all) == 100 && oag_refusal_tight(space, 1) == OA_SPACE);
@@ -293,7 +305,7 @@ static void tight(void) {
 
 /* what is read of the space, and blocks, whose handles become tickets */
 static void reads(void) {
-    oag_allocator *space = oag_new(100, 7, 5);
+    oag_allocator *space = oag_with_realm(100, 7, 5);
     oag_ticket a = oag_allocate(space, 10), b = oag_allocate(space, 20);
     CHECK(oag_size(space) == 100 && oag_max_allocs(space) == 7 && oag_realm(space) == 5 && !oag_is_spent(space));
     CHECK(oag_free(space, a));
@@ -329,7 +341,7 @@ static void reads(void) {
 
 /* Behind 12 live units are 38 free ones, which are filed as 36. */
 static void dumps(void) {
-    oag_allocator *space = oag_new(50, 4, 7);
+    oag_allocator *space = oag_with_realm(50, 4, 7);
     oag_ticket t = oag_allocate(space, 12);
     char wanted[500];
     snprintf(wanted, sizeof wanted,
@@ -341,7 +353,7 @@ static void dumps(void) {
     CHECK(vma && strcmp(oa_text_bytes(vma),
                         "{\"General\":{\"API\":\"Vulkan\"},\"DefaultPools\":{\"Type 0\":{\"PreferredBlockSize\":50,\"Blocks\":{\"0\":{"
                         "\"TotalBytes\":50,\"UnusedBytes\":38,\"Allocations\":1,\"UnusedRanges\":1,\"Suballocations\":["
-                        "{\"Offset\":0,\"Type\":\"UNKNOWN\",\"Size\":12},{\"Offset\":12,\"Type\":\"FREE\",\"Size\":38}]}}}}}") == 0);
+                        "{\"Offset\":0,\"Type\":\"UNKNOWN\",\"Size\":12},{\"Offset\":12,\"Type\":\"FREE\",\"Size\":38}]}},\"DedicatedAllocations\":[]}}}") == 0);
     oa_text_drop(text);
     oa_text_drop(vma);
     oag_drop(space);
@@ -350,7 +362,7 @@ static void dumps(void) {
 
 /* the table of questions.h, which says what the states are */
 static void questions(void) {
-    oag_allocator *space = oag_new(100, 7, 5);
+    oag_allocator *space = oag_with_realm(100, 7, 5);
     QUESTIONS(FRESH)
     QUESTIONS_OF_TICKETS(FRESH)
     oag_ticket first = oag_allocate(space, 10);
@@ -390,7 +402,7 @@ static void random_tickets(void) {
     enum { SLOTS = 64 };
     static oag_ticket kept[SLOTS];
     static uint32_t sizes[SLOTS];
-    oag_allocator *space = oag_new(4096, 256, 1);
+    oag_allocator *space = oag_with_realm(4096, 256, 1);
     CHECK(space);
     for (long i = 0; i < 1000000; i++) {
         oag_ticket any;
@@ -419,6 +431,7 @@ static void random_tickets(void) {
 
 int main(void) {
     stale();
+    realms();
     to_a_multiple();
     by_steps();
     room_by_steps();

@@ -6,7 +6,7 @@ use crate::GuardedOf;
 use crate::refusal::Refusal;
 use crate::serials::Serials;
 use crate::ticket::Ticket;
-use offset_allocator::{Allocation, AllocatorOf, Tables};
+use offset_allocator::{Accesses, Allocation, AllocatorOf, Tables};
 
 // Gives the next serial to a grant.
 #[inline(always)]
@@ -26,6 +26,25 @@ fn ticket_for<T: Tables>(
     }
 }
 
+/// As `would_begin` of `Guarded`. The count grows by at most 4.
+///
+/// # Panics
+///
+/// It panics unless the alignment is at least 1.
+#[track_caller]
+pub fn would_begin_counted<T: Tables>(
+    guarded: &GuardedOf<T>,
+    size: u32,
+    align: u32,
+    count: &mut Accesses,
+) -> Option<u32> {
+    assert!(1 <= align, "the alignment must be at least 1");
+    if guarded.serials.is_spent() {
+        return None;
+    }
+    offset_allocator::laws::would_begin_counted(&guarded.space, size, align, count)
+}
+
 impl<T: Tables> GuardedOf<T> {
     /// Grants a range of `size` units, and returns its ticket: of the range that `Allocator::allocate`
     /// grants, with the next serial.
@@ -36,7 +55,7 @@ impl<T: Tables> GuardedOf<T> {
     /// ```
     /// # use offset_allocator_guarded::*;
     /// # let alloc = Global;
-    /// let mut guarded = Guarded::<u32>::new(alloc, 1000, 1)?;
+    /// let mut guarded = Guarded::<u32>::new(alloc, 1000)?;
     /// let mesh = guarded.allocate(300).unwrap();
     /// assert_eq!(guarded.offset_of(mesh), Some(0));
     /// assert!(guarded.allocate(701).is_none());
@@ -66,7 +85,7 @@ impl<T: Tables> GuardedOf<T> {
     /// ```
     /// # use offset_allocator_guarded::*;
     /// # let alloc = Global;
-    /// let mut guarded = Guarded::<u32>::new(alloc, 1000, 1)?;
+    /// let mut guarded = Guarded::<u32>::new(alloc, 1000)?;
     /// guarded.allocate(10);
     /// let uniforms = guarded.allocate_aligned(300, 256).unwrap();
     /// assert_eq!(guarded.offset_of(uniforms), Some(256));
@@ -93,7 +112,7 @@ impl<T: Tables> GuardedOf<T> {
     /// ```
     /// # use offset_allocator_guarded::*;
     /// # let alloc = Global;
-    /// let mut guarded = Guarded::<u32>::new(alloc, 1000, 1)?;
+    /// let mut guarded = Guarded::<u32>::new(alloc, 1000)?;
     /// guarded.allocate(300);
     /// assert!(guarded.allocate(700).is_none());
     /// assert!(guarded.allocate_tight(700).is_some());
@@ -122,7 +141,7 @@ impl<T: Tables> GuardedOf<T> {
     /// ```
     /// # use offset_allocator_guarded::*;
     /// # let alloc = Global;
-    /// let mut guarded = Guarded::<u32>::new(alloc, 1000, 1)?;
+    /// let mut guarded = Guarded::<u32>::new(alloc, 1000)?;
     /// guarded.allocate(256);
     /// assert!(guarded.allocate_aligned(700, 256).is_none());
     /// assert_eq!(guarded.allocate_tight_aligned(700, 256).unwrap().offset, 256);
@@ -149,7 +168,7 @@ impl<T: Tables> GuardedOf<T> {
     /// ```
     /// # use offset_allocator_guarded::*;
     /// # let alloc = Global;
-    /// let mut guarded = Guarded::<u32>::new(alloc, 1000, 1)?;
+    /// let mut guarded = Guarded::<u32>::new(alloc, 1000)?;
     /// let captured = guarded.allocate_at(512, 256).unwrap();
     /// assert_eq!(captured.offset, 512);
     /// assert!(guarded.allocate_at(700, 100).is_none());
@@ -177,7 +196,7 @@ impl<T: Tables> GuardedOf<T> {
     /// ```
     /// # use offset_allocator_guarded::*;
     /// # let alloc = Global;
-    /// let mut guarded = Guarded::<u32>::new(alloc, 1000, 1)?;
+    /// let mut guarded = Guarded::<u32>::new(alloc, 1000)?;
     /// let hole = guarded.allocate(320).unwrap();
     /// let mesh = guarded.allocate(320).unwrap();
     /// guarded.free(hole);
@@ -214,7 +233,7 @@ impl<T: Tables> GuardedOf<T> {
     /// ```
     /// # use offset_allocator_guarded::*;
     /// # let alloc = Global;
-    /// let mut guarded = Guarded::<u32>::new(alloc, 1000, 1)?;
+    /// let mut guarded = Guarded::<u32>::new(alloc, 1000)?;
     /// guarded.allocate(10);
     /// let hole = guarded.allocate(320).unwrap();
     /// let mesh = guarded.allocate(64).unwrap();
@@ -238,7 +257,8 @@ impl<T: Tables> GuardedOf<T> {
     }
 
     /// Where the range would begin that `allocate_aligned(size, align)` would grant now, as
-    /// `Allocator::would_begin` says, or `None` exactly where it would be refused. Nothing is taken.
+    /// `Allocator::would_begin` says, or `None` exactly where it would be refused. Nothing is taken. It makes
+    /// at most 4 accesses to the tables of the allocator.
     ///
     /// # Panics
     ///
@@ -247,7 +267,7 @@ impl<T: Tables> GuardedOf<T> {
     /// ```
     /// # use offset_allocator_guarded::*;
     /// # let alloc = Global;
-    /// let mut guarded = Guarded::<u32>::new(alloc, 1000, 1)?;
+    /// let mut guarded = Guarded::<u32>::new(alloc, 1000)?;
     /// guarded.allocate(300);
     /// assert_eq!(guarded.would_begin(100, 256), Some(512));
     /// assert_eq!(guarded.allocate_aligned(100, 256).unwrap().offset, 512);
@@ -256,10 +276,7 @@ impl<T: Tables> GuardedOf<T> {
     #[track_caller]
     pub fn would_begin(&self, size: u32, align: u32) -> Option<u32> {
         assert!(1 <= align, "the alignment must be at least 1");
-        if self.serials.is_spent() {
-            return None;
-        }
-        self.space.would_begin(size, align)
+        would_begin_counted(self, size, align, &mut Accesses::new())
     }
 
     /// Why `allocate(size)` would be refused now, or `None` exactly where it would be granted.
@@ -267,7 +284,7 @@ impl<T: Tables> GuardedOf<T> {
     /// ```
     /// # use offset_allocator_guarded::*;
     /// # let alloc = Global;
-    /// let mut guarded = Guarded::<u32>::new(alloc, 1000, 1)?;
+    /// let mut guarded = Guarded::<u32>::new(alloc, 1000)?;
     /// assert_eq!(guarded.refusal(300), None);
     /// assert_eq!(guarded.refusal(1001).unwrap().to_string(), "the request is too large for the space");
     /// # Ok::<(), AllocError>(())
@@ -278,7 +295,7 @@ impl<T: Tables> GuardedOf<T> {
         }
         match self.space.refusal(size) {
             None => None,
-            Some(why) => Some(Refusal::Allocator(why)),
+            Some(why) => Some(Refusal::from(why)),
         }
     }
 
@@ -291,7 +308,7 @@ impl<T: Tables> GuardedOf<T> {
     /// ```
     /// # use offset_allocator_guarded::*;
     /// # let alloc = Global;
-    /// let mut guarded = Guarded::<u32>::new(alloc, 1000, 1)?;
+    /// let mut guarded = Guarded::<u32>::new(alloc, 1000)?;
     /// assert_eq!(guarded.refusal_aligned(900, 4), None);
     /// assert!(guarded.refusal_aligned(900, 256).is_some());
     /// # Ok::<(), AllocError>(())
@@ -304,7 +321,7 @@ impl<T: Tables> GuardedOf<T> {
         }
         match self.space.refusal_aligned(size, align) {
             None => None,
-            Some(why) => Some(Refusal::Allocator(why)),
+            Some(why) => Some(Refusal::from(why)),
         }
     }
 
@@ -313,7 +330,7 @@ impl<T: Tables> GuardedOf<T> {
     /// ```
     /// # use offset_allocator_guarded::*;
     /// # let alloc = Global;
-    /// let mut guarded = Guarded::<u32>::new(alloc, 1000, 1)?;
+    /// let mut guarded = Guarded::<u32>::new(alloc, 1000)?;
     /// guarded.allocate(300);
     /// assert_eq!(guarded.refusal_tight(700), None);
     /// assert!(guarded.refusal_tight(701).is_some());
@@ -325,7 +342,7 @@ impl<T: Tables> GuardedOf<T> {
         }
         match self.space.refusal_tight(size) {
             None => None,
-            Some(why) => Some(Refusal::Allocator(why)),
+            Some(why) => Some(Refusal::from(why)),
         }
     }
 
@@ -339,7 +356,7 @@ impl<T: Tables> GuardedOf<T> {
     /// ```
     /// # use offset_allocator_guarded::*;
     /// # let alloc = Global;
-    /// let mut guarded = Guarded::<u32>::new(alloc, 1000, 1)?;
+    /// let mut guarded = Guarded::<u32>::new(alloc, 1000)?;
     /// guarded.allocate(300);
     /// assert_eq!(guarded.refusal_tight_aligned(400, 256), None);
     /// assert!(guarded.refusal_tight_aligned(700, 256).is_some());
@@ -353,7 +370,7 @@ impl<T: Tables> GuardedOf<T> {
         }
         match self.space.refusal_tight_aligned(size, align) {
             None => None,
-            Some(why) => Some(Refusal::Allocator(why)),
+            Some(why) => Some(Refusal::from(why)),
         }
     }
 }

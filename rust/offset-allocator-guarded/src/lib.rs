@@ -10,7 +10,7 @@
 //! ```
 //! use offset_allocator_guarded::*;
 //! let alloc = Global;
-//! let mut vertices = Guarded::<u32>::new(alloc, 1 << 20, 1)?;
+//! let mut vertices = Guarded::<u32>::with_realm(alloc, 1 << 20, 65536, 1)?;
 //! if let Some(mesh) = vertices.allocate(3000) {
 //!     assert!(vertices.free(mesh));
 //!     assert!(!vertices.free(mesh));
@@ -27,12 +27,16 @@
 #![expect(clippy::mem_replace_option_with_none)] // one function for both, whose contract the proof has
 #![expect(clippy::mem_replace_option_with_some)] // the same
 
+mod realms;
 mod traits;
 
 pub use offset_allocator_memory as memory;
 pub use offset_allocator_memory::{AllocError, Global};
+pub use realms::next_realm;
+pub use offset_allocator::{Refusal as SpaceRefusal, StateFaultKind as SpaceFaultKind, ext, small_float};
 
 mod allocate;
+pub mod laws;
 mod moves;
 #[doc(hidden)]
 pub mod numbers;
@@ -46,8 +50,11 @@ mod ticket;
 mod values;
 mod walks;
 
-pub use offset_allocator::ReadError;
-use offset_allocator::{Allocation, AllocatorOf, ByNode, NodeIndex, Tables};
+pub use offset_allocator::{
+    Allocation, Allocator, AllocatorOf, Block, Blocks, BlocksOf, ByField, ByNode, Move, MovePieces,
+    NodeIndex, NodeIndexNonMax, Piece, Progress, ReadError, RoomCost, Scale, Statistics,
+    StorageReport, StorageReportFull, StorageReportFullRegion, Tables, json_of, vma_json_of,
+};
 pub use refusal::Refusal;
 use serials::Serials;
 pub use state::{StateFault, StateFaultKind};
@@ -68,28 +75,12 @@ pub struct GuardedOf<T: Tables> {
 }
 
 impl<T: Tables> GuardedOf<T> {
-    /// A space of `size` units, all free, with the smaller of 131072 and `T::Index::MAX - 2` as the node
-    /// limit. The realm is kept in its tickets: a ticket of another realm is never live here.
-    ///
-    /// # Errors
-    ///
-    /// An error is returned only where an allocation failed; then nothing is made.
-    ///
-    /// ```
-    /// # use offset_allocator_guarded::*;
-    /// # let alloc = Global;
-    /// let mut guarded = Guarded::<u32>::new(alloc, 1 << 20, 7)?;
-    /// assert_eq!(guarded.allocate(300).unwrap().realm, 7);
-    /// # Ok::<(), AllocError>(())
-    /// ```
-    #[track_caller]
-    pub fn new(alloc: Global, size: u32, realm: u32) -> Result<Self, AllocError> {
-        Self::with_max_allocs(alloc, size, 131072u32.min(T::Index::MAX - 2), realm)
-    }
-
     /// A space of `size` units, all free, with `max_allocs` as the node limit, and a realm. The limit is 2 to
     /// `T::Index::MAX - 2`. It reserves what an `AllocatorOf<T>` does and 8 bytes a node, all of them here;
     /// those of a node are written by the first call after it was made that may make nodes.
+    ///
+    /// The realm is kept in its tickets: a ticket of another realm is never live here. So give each space
+    /// another one; where tickets have to be known from outside, as by a file, it is chosen here.
     ///
     /// # Errors
     ///
@@ -102,13 +93,13 @@ impl<T: Tables> GuardedOf<T> {
     /// ```
     /// # use offset_allocator_guarded::*;
     /// # let alloc = Global;
-    /// let mut guarded = Guarded::<u16>::with_max_allocs(alloc, 1000, 3, 1)?;
-    /// assert!(guarded.allocate(10).is_some());
+    /// let mut guarded = Guarded::<u16>::with_realm(alloc, 1000, 3, 7)?;
+    /// assert_eq!(guarded.allocate(10).unwrap().realm, 7);
     /// assert!(guarded.allocate(10).is_none());
     /// # Ok::<(), AllocError>(())
     /// ```
     #[track_caller]
-    pub fn with_max_allocs(
+    pub fn with_realm(
         alloc: Global,
         size: u32,
         max_allocs: u32,
@@ -138,7 +129,7 @@ impl<T: Tables> GuardedOf<T> {
     /// ```
     /// # use offset_allocator_guarded::*;
     /// # let alloc = Global;
-    /// let mut guarded = Guarded::<u32>::new(alloc, 1000, 1)?;
+    /// let mut guarded = Guarded::<u32>::new(alloc, 1000)?;
     /// let mesh = guarded.allocate(300).unwrap();
     /// let copy = guarded.try_clone(alloc)?;
     /// guarded.free(mesh);
@@ -159,7 +150,7 @@ impl<T: Tables> GuardedOf<T> {
     /// same realm and serials, and with `max_allocs` in place of the limit. Put it in place of this one, and
     /// all tickets go on.
     ///
-    /// The limit is at most `T::Index::MAX - 2`. It reserves what `with_max_allocs` does for that limit,
+    /// The limit is at most `T::Index::MAX - 2`. It reserves what `with_realm` does for that limit,
     /// beside the memory of this one until that is dropped, and takes time for the nodes that were made.
     ///
     /// # Errors
@@ -174,7 +165,7 @@ impl<T: Tables> GuardedOf<T> {
     /// ```
     /// # use offset_allocator_guarded::*;
     /// # let alloc = Global;
-    /// let mut guarded = Guarded::<u32>::with_max_allocs(alloc, 1000, 3, 1)?;
+    /// let mut guarded = Guarded::<u32>::with_realm(alloc, 1000, 3, 1)?;
     /// let mesh = guarded.allocate(300).unwrap();
     /// assert!(guarded.allocate(10).is_none());
     /// guarded = guarded.raised(alloc, 100)?;
@@ -200,7 +191,7 @@ impl<T: Tables> GuardedOf<T> {
     /// ```
     /// # use offset_allocator_guarded::*;
     /// # let alloc = Global;
-    /// let mut guarded = Guarded::<u32>::new(alloc, 1000, 1)?;
+    /// let mut guarded = Guarded::<u32>::new(alloc, 1000)?;
     /// guarded.allocate(300);
     /// assert_eq!(guarded.allocator().live_units(), 300);
     /// # Ok::<(), AllocError>(())
@@ -214,8 +205,8 @@ impl<T: Tables> GuardedOf<T> {
     /// ```
     /// # use offset_allocator_guarded::*;
     /// # let alloc = Global;
-    /// let mut guarded = Guarded::<u32>::new(alloc, 1000, 1)?;
-    /// assert_eq!(guarded.realm(), 1);
+    /// let guarded = Guarded::<u32>::with_realm(alloc, 1000, 16, 7)?;
+    /// assert_eq!(guarded.realm(), 7);
     /// # Ok::<(), AllocError>(())
     /// ```
     pub fn realm(&self) -> u32 {
@@ -227,7 +218,7 @@ impl<T: Tables> GuardedOf<T> {
     /// ```
     /// # use offset_allocator_guarded::*;
     /// # let alloc = Global;
-    /// let mut guarded = Guarded::<u32>::new(alloc, 1000, 1)?;
+    /// let mut guarded = Guarded::<u32>::new(alloc, 1000)?;
     /// assert!(!guarded.is_spent());
     /// # Ok::<(), AllocError>(())
     /// ```
@@ -257,7 +248,7 @@ impl<T: Tables> GuardedOf<T> {
     /// ```
     /// # use offset_allocator_guarded::*;
     /// # let alloc = Global;
-    /// let mut guarded = Guarded::<u32>::new(alloc, 1000, 1)?;
+    /// let mut guarded = Guarded::<u32>::new(alloc, 1000)?;
     /// let mesh = guarded.allocate(300).unwrap();
     /// guarded.free(mesh);
     /// guarded.allocate(300);
@@ -273,7 +264,7 @@ impl<T: Tables> GuardedOf<T> {
     /// ```
     /// # use offset_allocator_guarded::*;
     /// # let alloc = Global;
-    /// let mut guarded = Guarded::<u32>::new(alloc, 1000, 1)?;
+    /// let mut guarded = Guarded::<u32>::new(alloc, 1000)?;
     /// let mesh = guarded.allocate(300).unwrap();
     /// assert_eq!(guarded.size_of(mesh), Some(300));
     /// # Ok::<(), AllocError>(())
@@ -294,7 +285,7 @@ impl<T: Tables> GuardedOf<T> {
     /// ```
     /// # use offset_allocator_guarded::*;
     /// # let alloc = Global;
-    /// let mut guarded = Guarded::<u32>::new(alloc, 1000, 1)?;
+    /// let mut guarded = Guarded::<u32>::new(alloc, 1000)?;
     /// let mesh = guarded.allocate(300).unwrap();
     /// assert_eq!(guarded.offset_of(mesh), Some(0));
     /// guarded.reset();
@@ -315,7 +306,7 @@ impl<T: Tables> GuardedOf<T> {
     /// ```
     /// # use offset_allocator_guarded::*;
     /// # let alloc = Global;
-    /// let mut guarded = Guarded::<u32>::new(alloc, 1000, 1)?;
+    /// let mut guarded = Guarded::<u32>::new(alloc, 1000)?;
     /// let mesh = guarded.allocate(300).unwrap();
     /// let block = guarded.allocator().blocks().last().unwrap();
     /// assert_eq!(guarded.ticket(block.allocation.unwrap()), Some(mesh));
@@ -343,7 +334,7 @@ impl<T: Tables> GuardedOf<T> {
     /// ```
     /// # use offset_allocator_guarded::*;
     /// # let alloc = Global;
-    /// let mut guarded = Guarded::<u32>::new(alloc, 1000, 1)?;
+    /// let mut guarded = Guarded::<u32>::new(alloc, 1000)?;
     /// let mesh = guarded.allocate(300).unwrap();
     /// assert!(guarded.free(mesh));
     /// assert!(!guarded.free(mesh));
@@ -366,7 +357,7 @@ impl<T: Tables> GuardedOf<T> {
     /// ```
     /// # use offset_allocator_guarded::*;
     /// # let alloc = Global;
-    /// let mut guarded = Guarded::<u32>::new(alloc, 1000, 1)?;
+    /// let mut guarded = Guarded::<u32>::new(alloc, 1000)?;
     /// let mesh = guarded.allocate(300).unwrap();
     /// guarded.reset();
     /// assert!(!guarded.is_live(mesh));

@@ -16,7 +16,7 @@ impl<T: Tables> GuardedOf<T> {
     /// ```
     /// # use offset_allocator_guarded::*;
     /// # let alloc = Global;
-    /// let mut guarded = Guarded::<u32>::new(alloc, 1000, 1)?;
+    /// let mut guarded = Guarded::<u32>::new(alloc, 1000)?;
     /// let mesh = guarded.allocate(300).unwrap();
     /// assert_eq!(guarded.shrink(mesh, 200), Some(true));
     /// guarded.free(mesh);
@@ -43,7 +43,7 @@ impl<T: Tables> GuardedOf<T> {
     /// ```
     /// # use offset_allocator_guarded::*;
     /// # let alloc = Global;
-    /// let mut guarded = Guarded::<u32>::new(alloc, 1000, 1)?;
+    /// let mut guarded = Guarded::<u32>::new(alloc, 1000)?;
     /// let mesh = guarded.allocate(300).unwrap();
     /// assert_eq!(guarded.grow_in_place(mesh, 400), Some(true));
     /// assert_eq!(guarded.grow_in_place(mesh, 1001), Some(false));
@@ -65,7 +65,7 @@ impl<T: Tables> GuardedOf<T> {
     /// ```
     /// # use offset_allocator_guarded::*;
     /// # let alloc = Global;
-    /// let mut guarded = Guarded::<u32>::new(alloc, 1000, 1)?;
+    /// let mut guarded = Guarded::<u32>::new(alloc, 1000)?;
     /// assert!(guarded.extend(24));
     /// assert_eq!(guarded.allocator().size(), 1024);
     /// # Ok::<(), AllocError>(())
@@ -82,7 +82,7 @@ impl<T: Tables> GuardedOf<T> {
     /// ```
     /// # use offset_allocator_guarded::*;
     /// # let alloc = Global;
-    /// let mut guarded = Guarded::<u32>::new(alloc, 1000, 1)?;
+    /// let mut guarded = Guarded::<u32>::new(alloc, 1000)?;
     /// guarded.allocate(300);
     /// assert!(guarded.retract(700));
     /// assert_eq!(guarded.allocator().size(), 300);

@@ -99,7 +99,7 @@ impl<T: Tables> GuardedOf<T> {
     /// written is live again here.
     ///
     /// `most_allocs` is the largest node limit that is accepted, since memory for the limit is reserved, as
-    /// by `with_max_allocs`. Nothing else that is requested is more than 8 bytes for each 8 that were given.
+    /// by `with_realm`. Nothing else that is requested is more than 8 bytes for each 8 that were given.
     /// It takes time for the bytes.
     ///
     /// # Errors
@@ -110,7 +110,7 @@ impl<T: Tables> GuardedOf<T> {
     /// ```
     /// # use offset_allocator_guarded::*;
     /// # let alloc = Global;
-    /// let mut guarded = Guarded::<u32>::new(alloc, 1000, 1)?;
+    /// let mut guarded = Guarded::<u32>::new(alloc, 1000)?;
     /// let mesh = guarded.allocate(300).unwrap();
     /// let bytes = guarded.write_state(alloc)?;
     /// let same = Guarded::<u32>::read_state(alloc, &bytes, 131_072).unwrap();

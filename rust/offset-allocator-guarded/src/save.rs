@@ -24,10 +24,10 @@ impl<T: Tables> GuardedOf<T> {
     /// ```
     /// # use offset_allocator_guarded::*;
     /// # let alloc = Global;
-    /// let mut guarded = Guarded::<u32>::new(alloc, 1000, 1)?;
+    /// let mut guarded = Guarded::<u32>::new(alloc, 1000)?;
     /// let bytes = guarded.write_state(alloc)?;
     /// let same = Guarded::<u32>::read_state(alloc, &bytes, 131_072).unwrap();
-    /// assert_eq!(same.realm(), 1);
+    /// assert_eq!(same.realm(), guarded.realm());
     /// # Ok::<(), AllocError>(())
     /// ```
     pub fn write_state(&self, alloc: Global) -> Result<Vec<u8>, AllocError> {

@@ -4,7 +4,21 @@
 
 use crate::GuardedOf;
 use crate::ticket::Ticket;
-use offset_allocator::{Allocation, Tables};
+use offset_allocator::{Accesses, Allocation, Tables};
+
+/// As `in_the_way` of `Guarded`, and as `live_at` with one unit. The count grows by at most 5 for each block,
+/// and 5.
+pub fn in_the_way_counted<T: Tables>(
+    guarded: &GuardedOf<T>,
+    offset: u32,
+    size: u32,
+    count: &mut Accesses,
+) -> Option<Ticket> {
+    match offset_allocator::laws::in_the_way_counted(&guarded.space, offset, size, count) {
+        None => None,
+        Some(handle) => Some(guarded.ticket_at(handle)),
+    }
+}
 
 impl<T: Tables> GuardedOf<T> {
     // The present ticket of a handle.
@@ -24,7 +38,7 @@ impl<T: Tables> GuardedOf<T> {
     /// ```
     /// # use offset_allocator_guarded::*;
     /// # let alloc = Global;
-    /// let mut guarded = Guarded::<u32>::new(alloc, 1000, 1)?;
+    /// let mut guarded = Guarded::<u32>::new(alloc, 1000)?;
     /// let mesh = guarded.allocate(300);
     /// guarded.allocate(100);
     /// assert_eq!(guarded.first_live(), mesh);
@@ -43,7 +57,7 @@ impl<T: Tables> GuardedOf<T> {
     /// ```
     /// # use offset_allocator_guarded::*;
     /// # let alloc = Global;
-    /// let mut guarded = Guarded::<u32>::new(alloc, 1000, 1)?;
+    /// let mut guarded = Guarded::<u32>::new(alloc, 1000)?;
     /// guarded.allocate(300);
     /// let texture = guarded.allocate(100);
     /// assert_eq!(guarded.last_live(), texture);
@@ -62,14 +76,14 @@ impl<T: Tables> GuardedOf<T> {
     /// ```
     /// # use offset_allocator_guarded::*;
     /// # let alloc = Global;
-    /// let mut guarded = Guarded::<u32>::new(alloc, 1000, 1)?;
+    /// let mut guarded = Guarded::<u32>::new(alloc, 1000)?;
     /// let mesh = guarded.allocate(300);
     /// assert_eq!(guarded.live_at(299), mesh);
     /// assert_eq!(guarded.live_at(300), None);
     /// # Ok::<(), AllocError>(())
     /// ```
     pub fn live_at(&self, offset: u32) -> Option<Ticket> {
-        self.in_the_way(offset, 1)
+        in_the_way_counted(self, offset, 1, &mut Accesses::new())
     }
 
     /// The ticket of the last live range that is in the way of the `size` units that begin at `offset`, as
@@ -78,16 +92,13 @@ impl<T: Tables> GuardedOf<T> {
     /// ```
     /// # use offset_allocator_guarded::*;
     /// # let alloc = Global;
-    /// let mut guarded = Guarded::<u32>::new(alloc, 1000, 1)?;
+    /// let mut guarded = Guarded::<u32>::new(alloc, 1000)?;
     /// let mesh = guarded.allocate(300);
     /// assert_eq!(guarded.in_the_way(200, 500), mesh);
     /// # Ok::<(), AllocError>(())
     /// ```
     pub fn in_the_way(&self, offset: u32, size: u32) -> Option<Ticket> {
-        match self.space.in_the_way(offset, size) {
-            None => None,
-            Some(handle) => Some(self.ticket_at(handle)),
-        }
+        in_the_way_counted(self, offset, size, &mut Accesses::new())
     }
 
     /// The ticket of the live range directly before that of a ticket. `None` where there is none, or where
@@ -96,7 +107,7 @@ impl<T: Tables> GuardedOf<T> {
     /// ```
     /// # use offset_allocator_guarded::*;
     /// # let alloc = Global;
-    /// let mut guarded = Guarded::<u32>::new(alloc, 1000, 1)?;
+    /// let mut guarded = Guarded::<u32>::new(alloc, 1000)?;
     /// let mesh = guarded.allocate(300);
     /// let texture = guarded.allocate(100).unwrap();
     /// assert_eq!(guarded.live_before(texture), mesh);
@@ -118,7 +129,7 @@ impl<T: Tables> GuardedOf<T> {
     /// ```
     /// # use offset_allocator_guarded::*;
     /// # let alloc = Global;
-    /// let mut guarded = Guarded::<u32>::new(alloc, 1000, 1)?;
+    /// let mut guarded = Guarded::<u32>::new(alloc, 1000)?;
     /// let mesh = guarded.allocate(300).unwrap();
     /// let texture = guarded.allocate(100);
     /// assert_eq!(guarded.live_after(mesh), texture);

@@ -22,7 +22,7 @@ fn recent(tickets: &[Ticket], number: u64) -> Ticket {
 #[test]
 fn values_are_those_of_a_map() {
     let mut numbers = Numbers(0x9e37_79b9_7f4a_7c15);
-    let mut space = Guarded::<u16>::with_max_allocs(Global, 1_000, 60, 1).unwrap();
+    let mut space = Guarded::<u16>::with_realm(Global, 1_000, 60, 1).unwrap();
     let mut names = Beside::new(Global);
     let mut model: HashMap<Key, (Ticket, String)> = HashMap::new();
     let mut tickets = Vec::new();
@@ -35,12 +35,12 @@ fn values_are_those_of_a_map() {
                     tickets.push(ticket);
                     let earlier = model.iter().find(|(key, _)| key.0 == ticket.name).map(|(key, _)| *key);
                     let was = earlier.and_then(|key| model.remove(&key));
-                    assert_eq!(names.put(ticket, step.to_string()), Ok(was));
+                    assert_eq!(names.put(&space, ticket, step.to_string()), Ok(was));
                     model.insert(key(ticket), (ticket, step.to_string()));
                     // the same ticket again has the same name
                     if number % 64 == 0 {
                         let was = model.insert(key(ticket), (ticket, "again".to_string()));
-                        assert_eq!(names.put(ticket, "again".to_string()), Ok(was));
+                        assert_eq!(names.put(&space, ticket, "again".to_string()), Ok(was));
                         replaced += 1;
                     }
                 }
@@ -78,15 +78,19 @@ fn values_are_those_of_a_map() {
 fn no_value_is_lost_or_dropped_twice() {
     use std::rc::Rc;
     let value = Rc::new(());
-    let mut space = Guarded::<u32>::with_max_allocs(Global, 100, 10, 1).unwrap();
+    let mut space = Guarded::<u32>::with_realm(Global, 100, 10, 1).unwrap();
     let mut values = Beside::new(Global);
     let one = space.allocate(10).unwrap();
     let two = space.allocate(10).unwrap();
-    assert!(values.put(one, value.clone()).is_ok() && values.put(two, value.clone()).is_ok());
+    assert!(values.put(&space, one, value.clone()).is_ok() && values.put(&space, two, value.clone()).is_ok());
     assert_eq!(Rc::strong_count(&value), 3);
     drop(values.take(one));
     assert_eq!(Rc::strong_count(&value), 2);
-    drop(values.put(two, value.clone()));
+    drop(values.put(&space, two, value.clone()));
+    assert_eq!(Rc::strong_count(&value), 2);
+    // a ticket that is not live gets none, and the value comes back
+    space.free(one);
+    drop(values.put(&space, one, value.clone()));
     assert_eq!(Rc::strong_count(&value), 2);
     drop(values);
     assert_eq!(Rc::strong_count(&value), 1);
@@ -94,7 +98,7 @@ fn no_value_is_lost_or_dropped_twice() {
 
 #[test]
 fn closures_are_taken_and_lent() {
-    let mut space = Guarded::<u32>::with_max_allocs(Global, 100, 10, 1).unwrap();
+    let mut space = Guarded::<u32>::with_realm(Global, 100, 10, 1).unwrap();
     let first = space.allocate(10).unwrap();
     space.allocate(20).unwrap();
     space.free(first);
@@ -104,4 +108,27 @@ fn closures_are_taken_and_lent() {
     let mut again = |_| unreachable!();
     space.compact(&mut again);
     space.compact_by(8, &mut again);
+}
+
+#[test]
+fn tickets_that_are_not_live_get_no_value() {
+    let mut space = Guarded::<u32>::new(Global, 100).unwrap();
+    let other = Guarded::<u32>::new(Global, 100).unwrap();
+    let mut names = Beside::new(Global);
+    let stale = space.allocate(10).unwrap();
+    assert_eq!(names.put(&space, stale, "stale"), Ok(None));
+    space.free(stale);
+    let live = space.allocate(10).unwrap();
+    assert_eq!(live.name, stale.name);
+    // the value of an earlier grant comes out, and the earlier ticket does not displace the later one's
+    assert_eq!(names.put(&space, live, "live"), Ok(Some((stale, "stale"))));
+    assert_eq!(names.put(&space, stale, "again"), Err("again"));
+    assert_eq!(names.get(live), Some(&"live"));
+    // no memory is taken for a name that no node has, nor of a ticket of another space
+    for made_up in [Ticket { name: 20_000_000, ..live }, Ticket { serial: 3, ..live }, Ticket { realm: other.realm(), ..live }] {
+        assert_eq!(names.put(&space, made_up, "made up"), Err("made up"));
+    }
+    assert_eq!(names.put(&other, live, "other"), Err("other"));
+    assert_eq!(names.leaks().len(), 1);
+    assert_eq!(names.leaks(), [Some((live, "live"))]);
 }

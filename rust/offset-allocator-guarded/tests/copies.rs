@@ -32,7 +32,7 @@ fn call(space: &mut Guarded, held: &mut Vec<Ticket>, random: &mut Random) -> (Op
 fn a_copy_goes_on_alike() {
     let mut random = Random(1);
     for round in 0..500 {
-        let mut space = Guarded::with_max_allocs(Global, 1_000 + round, 2 + random.below(60), round).unwrap();
+        let mut space = Guarded::with_realm(Global, 1_000 + round, 2 + random.below(60), round).unwrap();
         let mut held = Vec::new();
         for _ in 0..random.below(100) {
             call(&mut space, &mut held, &mut random);
@@ -59,8 +59,8 @@ fn a_raised_limit_changes_no_answer() {
     let (mut random, mut count) = (Random(2), 0);
     for round in 0..500 {
         let size = 1_000 + round;
-        let mut large = Guarded::with_max_allocs(Global, size, LIMIT, round).unwrap();
-        let mut small = Guarded::with_max_allocs(Global, size, 2 + random.below(4), round).unwrap();
+        let mut large = Guarded::with_realm(Global, size, LIMIT, round).unwrap();
+        let mut small = Guarded::with_realm(Global, size, 2 + random.below(4), round).unwrap();
         let start = u64::from(random.below(u32::MAX));
         let (mut own, mut other) = (Random(start), Random(start));
         let (mut held, mut held_there) = (Vec::new(), Vec::new());

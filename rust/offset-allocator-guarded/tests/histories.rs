@@ -191,7 +191,10 @@ impl<T: Tables> Space for AllocatorOf<T> {
 
 fn of_allocator(why: guarded::Refusal) -> Refusal {
     match why {
-        guarded::Refusal::Allocator(why) => why,
+        guarded::Refusal::Nodes => Refusal::Nodes,
+        guarded::Refusal::TooLarge => Refusal::TooLarge,
+        guarded::Refusal::Space => Refusal::Space,
+        guarded::Refusal::Fragmented => Refusal::Fragmented,
         guarded::Refusal::Serials => panic!("some serials are left"),
     }
 }
@@ -202,7 +205,7 @@ impl<T: Tables> Space for GuardedOf<T> {
     const IS_GUARDED: bool = true;
 
     fn new(size: u32, limit: u32) -> Self {
-        GuardedOf::with_max_allocs(Global, size, limit, 7).unwrap()
+        GuardedOf::with_realm(Global, size, limit, 7).unwrap()
     }
 
     fn allocator(&self) -> &AllocatorOf<T> {

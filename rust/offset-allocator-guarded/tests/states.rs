@@ -89,7 +89,7 @@ impl<T: Tables<Index = u32>> Worked<T> {
 
 fn worked<T: Tables<Index = u32>>(random: &mut Random) -> Worked<T> {
     let (size, limit, realm) = (random.below(5_000), 2 + random.below(60), random.next() as u32);
-    let space = GuardedOf::with_max_allocs(Global, size, limit, realm).unwrap();
+    let space = GuardedOf::with_realm(Global, size, limit, realm).unwrap();
     let mut made = Worked { space, held: Vec::new(), last: HashMap::new() };
     for _ in 0..random.below(120) {
         made.call(random);
@@ -276,7 +276,7 @@ fn made_up_bytes_are_refused() {
         assert!(known(GuardedOf::<ByNode<u32>>::read_state(Global, &made, u32::MAX)).is_err());
     }
     // a node limit is no number to request memory by before the caller admits it
-    let space: GuardedOf<ByNode<u32>> = GuardedOf::with_max_allocs(Global, 10, 100, 7).unwrap();
+    let space: GuardedOf<ByNode<u32>> = GuardedOf::with_realm(Global, 10, 100, 7).unwrap();
     let fault = known(GuardedOf::<ByNode<u32>>::read_state(Global, &written(&space), 99)).err().unwrap();
     assert_eq!((fault.at, fault.kind), (48 + 12, StateFaultKind::Allocator(SpaceFault::Limit)));
     let error: Box<dyn std::error::Error> = fault.into();
@@ -285,7 +285,7 @@ fn made_up_bytes_are_refused() {
 
 #[test]
 fn the_last_serial_may_be_given() {
-    let mut space: GuardedOf<ByNode<u32>> = GuardedOf::with_max_allocs(Global, 100, 10, 7).unwrap();
+    let mut space: GuardedOf<ByNode<u32>> = GuardedOf::with_realm(Global, 100, 10, 7).unwrap();
     let first = space.allocate(10).unwrap();
     let (mut numbers, rest) = parts(&written(&space));
     numbers[3] = u64::MAX;

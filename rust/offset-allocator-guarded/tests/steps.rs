@@ -97,9 +97,17 @@ fn expected<T: Tables>(space: &AllocatorOf<T>, step: u32) -> Expected {
         offsets.push(to as u32);
         (end, old_end) = (to + units, offset + units);
     }
-    // what is behind the last range; a free block of no units has a node too
-    let is_last_free = parts(space).last().unwrap().2.is_none();
-    let is_done = !is_whole || is_last_free || !space.is_full();
+    // as many blocks as would be there: those before the first free one of a step, the ranges behind it, what stays before
+    // each, and one free block at the end; a free block of no units has a node too
+    let all = parts(space);
+    let last = all.len() - 1;
+    let first = all[..last].iter().position(|it| it.2.is_none() && it.1 >= step);
+    assert_eq!(is_whole, first.is_some());
+    let is_done = first.map_or(true, |first| {
+        let stay = all[first..last].iter().filter(|it| it.2.is_some() || it.1 % step > 0).count();
+        let blocks = first + stay + usize::from(all[last].2.is_some()) + 1;
+        blocks < space.max_allocs() as usize
+    });
     if !is_done {
         offsets = ranges.iter().map(|it| it.1).collect();
     }
@@ -277,16 +285,14 @@ fn check_requests<T: Tables>(space: &mut AllocatorOf<T>, random: &mut Random, me
     assert_eq!((space.block_count(), space.free_units()), (1, space.size()));
 }
 
-/// A step of one unit does what `compact` does: the same ranges at the same offsets, and the same moves.
+/// A step of one unit does what `compact` does, at the node limit too: the same ranges at the same offsets, and the same
+/// moves.
 fn check_compact<T: Tables>(space: &AllocatorOf<T>) {
     let mut other = space.try_clone(Global).unwrap();
     let mut by_one = space.try_clone(Global).unwrap();
     let (mut moves, mut moves_by_one) = (Vec::new(), Vec::new());
     other.compact(|it| moves.push((it.allocation(), it.from, it.to, it.size)));
-    if !by_one.compact_by(1, |it| moves_by_one.push((it.allocation(), it.from, it.to, it.size))) {
-        assert!(by_one.is_full() && moves_by_one.is_empty());
-        return;
-    }
+    assert!(by_one.compact_by(1, |it| moves_by_one.push((it.allocation(), it.from, it.to, it.size))));
     assert_eq!(moves, moves_by_one);
     assert_eq!(live_ranges(&other), live_ranges(&by_one));
 }
@@ -392,10 +398,89 @@ fn play<T: Tables>(random: &mut Random, met: &mut Met) {
     check_compact(&space);
 }
 
+/// 501 live ranges of 8 units, and between each two a hole: all blocks that the limit of 1,002 admits. A hole has as many
+/// units as its number says.
+fn holes_at_the_limit<T: Tables>(units: impl Fn(usize) -> u32) -> AllocatorOf<T> {
+    let size = 501 * 8 + (0..500).map(&units).sum::<u32>();
+    let mut space = AllocatorOf::<T>::with_max_allocs(Global, size, 1002).unwrap();
+    let first = space.allocate_tight(8 + units(0)).unwrap();
+    space.allocate_tight(8).unwrap();
+    let mut holes = Vec::new();
+    for number in 1..500 {
+        holes.push(space.allocate_tight(units(number)).unwrap());
+        space.allocate_tight(8).unwrap();
+    }
+    for hole in holes {
+        space.free(hole);
+    }
+    assert!(space.shrink(first, 8));
+    assert!(space.is_full() && space.block_count() == 1001 && live_ranges(&space).len() == 501);
+    space
+}
+
+/// How many ranges move, and how many blocks there are then; none moves where it is refused.
+fn moved<T: Tables>(space: &AllocatorOf<T>, step: u32, done: bool) -> (usize, u32) {
+    let mut copy = space.try_clone(Global).unwrap();
+    let mut moves = 0;
+    assert_eq!(copy.compact_by(step, |_| moves += 1), done, "by {step}");
+    assert!(done || parts(&copy) == parts(space) && moves == 0);
+    (moves, copy.block_count())
+}
+
+/// The same, up to this many ranges from an offset on; none where it is refused.
+fn moved_within<T: Tables>(space: &AllocatorOf<T>, step: u32, from: u32, ranges: u32) -> Option<u32> {
+    let mut copy = space.try_clone(Global).unwrap();
+    let found = copy.compact_within(step, from, u32::MAX, ranges, |_| ());
+    assert!(found.is_some() || parts(&copy) == parts(space));
+    found.map(|it| it.ranges)
+}
+
+fn check_limit<T: Tables>() {
+    let space = holes_at_the_limit::<T>(|_| 4);
+    let last = space.size() - 8;
+    // each hole is used up, or none is
+    for step in [1, 2, 4] {
+        assert_eq!(moved(&space, step, true), (500, 502));
+        assert_eq!(moved_within(&space, step, 0, 500), Some(500));
+        assert_eq!(moved_within(&space, step, last, 1), Some(1));
+    }
+    assert_eq!(moved(&space, 3, false), (0, 1001));
+    assert_eq!((moved_within(&space, 3, 0, 500), moved_within(&space, 3, last, 1)), (None, None));
+    // a run that ends in a hole uses it up
+    assert_eq!((moved_within(&space, 3, 0, 1), moved_within(&space, 3, 0, 499)), (Some(1), Some(499)));
+    // there is none of a step
+    assert_eq!((moved(&space, 5, true), moved_within(&space, 5, 0, 500)), ((0, 1001), Some(0)));
+
+    // one hole of whole steps is enough, the first one or another
+    for at in [0, 1, 250, 499] {
+        let space = holes_at_the_limit::<T>(|number| if number == at { 6 } else { 4 });
+        let last = space.size() - 8;
+        assert_eq!(moved(&space, 3, true), (500, 1001));
+        assert_eq!((moved(&space, 5, false), moved(&space, 6, true)), ((0, 1001), (500 - at, 1001)));
+        assert_eq!(moved_within(&space, 3, 0, 500), Some(500));
+        assert_eq!(moved_within(&space, 3, last, 1), (at == 499).then_some(1));
+        assert_eq!((moved_within(&space, 5, 0, 500), moved_within(&space, 6, 0, 500)), (None, Some(500 - at as u32)));
+    }
+    // one of no units is used up behind a hole of a step, and stays before it
+    for (at, done) in [(1, false), (499, true)] {
+        let space = holes_at_the_limit::<T>(|number| if number == at { 0 } else if number == 0 { 2 } else { 4 });
+        assert_eq!(moved(&space, 3, done).1, 1001);
+        assert_eq!(moved_within(&space, 3, 0, 500).is_some(), done);
+    }
+}
+
+#[test]
+fn at_the_limit_a_hole_that_is_used_up_gives_its_node() {
+    check_limit::<ByNode<u32>>();
+    check_limit::<ByField<u32>>();
+    check_limit::<ByNode<u16>>();
+    check_limit::<ByField<u16>>();
+}
+
 /// With tickets: the same moves as those of the allocator, and every ticket stays as it is.
 fn play_with_tickets<T: Tables>(random: &mut Random) {
     let (size, limit) = space_size(random);
-    let mut space = GuardedOf::<T>::with_max_allocs(Global, size, limit, 7).unwrap();
+    let mut space = GuardedOf::<T>::with_realm(Global, size, limit, 7).unwrap();
     let (mut held, mut gone) = (Vec::new(), Vec::new());
     for _ in 0..random.below(40) {
         if random.below(8) < 5 || held.is_empty() {

@@ -50,7 +50,7 @@ fn key(ticket: Ticket) -> Key {
 impl<NI: NodeIndex> Run<NI> {
     fn new(state: u64) -> Self {
         Run {
-            space: Guarded::with_max_allocs(Global, SIZE, NODES, REALM).unwrap(),
+            space: Guarded::with_realm(Global, SIZE, NODES, REALM).unwrap(),
             live: HashMap::new(),
             given: vec![Ticket { offset: 0, name: 0, serial: 0, realm: 0 }; 64],
             serials: 0,
@@ -200,7 +200,7 @@ fn a_hundred_million_random_tickets_touch_no_live_range() {
 
 #[test]
 fn reasons_are_errors_and_spaces_have_a_text() {
-    let mut space = Guarded::<u32>::with_max_allocs(Global, 17, 4, 7).unwrap();
+    let mut space = Guarded::<u32>::with_realm(Global, 17, 4, 7).unwrap();
     space.allocate(5).unwrap();
     assert_eq!(
         format!("{space:?}"),
@@ -208,7 +208,7 @@ fn reasons_are_errors_and_spaces_have_a_text() {
          live_units: 5, free_blocks: 1, free_units: 12, largest_free_block: 12, largest_free_region: 12, unused_nodes: 2 } } }"
     );
     let why = space.refusal(13).unwrap();
-    assert_eq!(why, Refusal::Allocator(offset_allocator::Refusal::Space));
+    assert_eq!(why, Refusal::Space);
     assert_eq!(why, Refusal::from(space.allocator().refusal(13).unwrap()));
     let errors: [Box<dyn std::error::Error>; 2] = [why.into(), Refusal::Serials.into()];
     assert_eq!(errors.map(|error| error.to_string()), ["too few units are free", "all serials are given"]);

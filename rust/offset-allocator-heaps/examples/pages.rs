@@ -14,7 +14,7 @@ struct Store {
 impl Store {
     fn new(page: u32, most_bytes: usize) -> Result<Self, AllocError> {
         let limits = Limits { size: page, first_size: page, max_allocs: 65_536, first_allocs: 64, most: 16, most_larger: 4 };
-        Ok(Store { heaps: Heaps::new(Global, limits, 1)?, buffers: HashMap::new(), most_bytes })
+        Ok(Store { heaps: Heaps::new(Global, limits)?, buffers: HashMap::new(), most_bytes })
     }
 
     /// Stores some bytes, from a multiple of 16 on.

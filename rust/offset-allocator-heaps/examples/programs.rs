@@ -86,7 +86,7 @@ fn main() {
     let mut best = f64::MAX;
     let mut peaks = Peaks::default();
     for _ in 0..runs {
-        let heaps = Heaps::new(Global, limits, 1).unwrap();
+        let heaps = Heaps::new(Global, limits).unwrap();
         let mut store = Store { heaps, limits, spare: None, peaks: Peaks::default() };
         let mut places: Vec<Option<Place>> = vec![None; slots];
         let start = Instant::now();

@@ -14,7 +14,7 @@ fn taken() -> (u64, u64) {
 fn main() {
     let before = taken();
     let limits = Limits { size: 100 * 8192, first_size: 100 * 8192, max_allocs: 65_536, first_allocs: 64, most: 1_000, most_larger: 0 };
-    let mut heaps = Heaps::<u32>::new(Global, limits, 1).unwrap();
+    let mut heaps = Heaps::<u32>::new(Global, limits).unwrap();
     let empty = taken().1 - before.1;
     // 100 ranges fill a heap
     let places: Vec<_> = (0..100_000).map(|_| heaps.allocate(8192).unwrap().place).collect();

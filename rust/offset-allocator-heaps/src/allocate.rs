@@ -157,13 +157,13 @@ impl<T: Tables> HeapsOf<T> {
     /// Grants `size` units of one heap: what `allocate_aligned(size, 1)` grants.
     ///
     /// A heap has room exactly for requests up to the `largest_free_region` of its report, while it has a
-    /// serial left: see `laws::room_is_reported`.
+    /// serial left: see the law `room_is_reported` of the proved sources.
     ///
     /// ```
     /// # use offset_allocator_heaps::*;
     /// # let alloc = Global;
     /// let limits = Limits { size: 1000, first_size: 1000, max_allocs: 100, first_allocs: 8, most: 2, most_larger: 1 };
-    /// let mut heaps = Heaps::<u32>::new(alloc, limits, 1)?;
+    /// let mut heaps = Heaps::<u32>::new(alloc, limits)?;
     /// let mesh = heaps.allocate(300).unwrap();
     /// assert!(mesh.is_new);
     /// let level = heaps.allocate(5000).unwrap();
@@ -186,7 +186,7 @@ impl<T: Tables> HeapsOf<T> {
     /// two live ranges. A usual heap begins with the node limit `first_allocs`. One that has room, but fewer
     /// than five unused nodes, and a node limit below `max_allocs`, first has its limit doubled, as
     /// `GuardedOf::raised` does it, to `max_allocs` at most: so a heap has room exactly where it would have room
-    /// under `max_allocs`: see `laws::room_is_that_of_the_largest_limit`. Only for a new heap and for more nodes
+    /// under `max_allocs`: see the law `room_is_that_of_the_largest_limit` of the proved sources. Only for a new heap and for more nodes
     /// memory is requested.
     ///
     /// Where the request is refused, all is as it was, and the `Refusal` says why.
@@ -199,7 +199,7 @@ impl<T: Tables> HeapsOf<T> {
     /// # use offset_allocator_heaps::*;
     /// # let alloc = Global;
     /// let limits = Limits { size: 1000, first_size: 1000, max_allocs: 100, first_allocs: 8, most: 2, most_larger: 1 };
-    /// let mut heaps = Heaps::<u32>::new(alloc, limits, 1)?;
+    /// let mut heaps = Heaps::<u32>::new(alloc, limits)?;
     /// heaps.allocate(10).unwrap();
     /// let uniforms = heaps.allocate_aligned(300, 256).unwrap().place;
     /// assert_eq!(heaps.offset_of(uniforms), Some(256));

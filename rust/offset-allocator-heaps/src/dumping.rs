@@ -89,7 +89,7 @@ fn put_slots<T: Tables>(
 /// # use offset_allocator_heaps::*;
 /// # let alloc = Global;
 /// let limits = Limits { size: 1000, first_size: 1000, max_allocs: 100, first_allocs: 8, most: 2, most_larger: 1 };
-/// let mut heaps = Heaps::<u32>::new(alloc, limits, 1)?;
+/// let mut heaps = Heaps::<u32>::new(alloc, limits)?;
 /// let text = json_of(alloc, &heaps)?;
 /// assert!(text.starts_with("{\"totals\":{\"heaps\":0,"));
 /// # Ok::<(), AllocError>(())

@@ -67,7 +67,7 @@ impl<T: Tables> HeapsOf<T> {
     /// # use offset_allocator_heaps::*;
     /// # let alloc = Global;
     /// let limits = Limits { size: 1000, first_size: 1000, max_allocs: 100, first_allocs: 8, most: 2, most_larger: 1 };
-    /// let mut heaps = Heaps::<u32>::new(alloc, limits, 1)?;
+    /// let mut heaps = Heaps::<u32>::new(alloc, limits)?;
     /// assert_eq!(heaps.refusal(300), None);
     /// assert_eq!(heaps.refusal(0), Some(Refusal::Empty));
     /// # Ok::<(), AllocError>(())
@@ -78,7 +78,7 @@ impl<T: Tables> HeapsOf<T> {
 
     /// Why `allocate_aligned(size, align)` would be refused now, or `None` where it would be granted: a heap has
     /// room for it, or another may be made for it, whose memory alone may be refused. It is never `Memory`.
-    /// See `laws::refusals_are_foretold`.
+    /// See the law `refusals_are_foretold` of the proved sources.
     ///
     /// It takes some steps for each bit of the numbers, and touches no heap.
     ///
@@ -90,7 +90,7 @@ impl<T: Tables> HeapsOf<T> {
     /// # use offset_allocator_heaps::*;
     /// # let alloc = Global;
     /// let limits = Limits { size: 1000, first_size: 1000, max_allocs: 100, first_allocs: 8, most: 2, most_larger: 1 };
-    /// let mut heaps = Heaps::<u32>::new(alloc, limits, 1)?;
+    /// let mut heaps = Heaps::<u32>::new(alloc, limits)?;
     /// assert_eq!(heaps.refusal_aligned(900, 256), None);
     /// # Ok::<(), AllocError>(())
     /// ```

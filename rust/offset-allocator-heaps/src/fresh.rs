@@ -19,7 +19,7 @@ pub(crate) fn usual<T: Tables>(
     realm: u32,
     size: u32,
 ) -> Result<(Option<GuardedOf<T>>, Ticket), AllocError> {
-    let mut slot = Some(GuardedOf::with_max_allocs(
+    let mut slot = Some(GuardedOf::with_realm(
         alloc,
         usual_size(limits, number),
         limits.first_allocs,
@@ -35,7 +35,7 @@ pub(crate) fn larger<T: Tables>(
     realm: u32,
     size: u32,
 ) -> Result<(Option<GuardedOf<T>>, Ticket), AllocError> {
-    let mut slot = Some(GuardedOf::with_max_allocs(alloc, size, LARGER_LIMIT, realm)?);
+    let mut slot = Some(GuardedOf::with_realm(alloc, size, LARGER_LIMIT, realm)?);
     let ticket = slots::grant_tight_in(&mut slot, size);
     Ok((slot, ticket))
 }

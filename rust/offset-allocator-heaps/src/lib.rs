@@ -13,7 +13,7 @@
 //! let alloc = Global;
 //! let limits =
 //!     Limits { size: 1 << 24, first_size: 1 << 18, max_allocs: 65536, first_allocs: 64, most: 64, most_larger: 16 };
-//! let mut heaps = Heaps::<u32>::new(alloc, limits, 1)?;
+//! let mut heaps = Heaps::<u32>::with_realms(alloc, limits, 1, 0)?;
 //! if let Ok(granted) = heaps.allocate(3000) {
 //!     // granted.is_new: make the buffer of this number, of heaps.units_of_heap(granted.place.heap) units
 //!     assert!(heaps.free(granted.place));
@@ -36,11 +36,12 @@
 #![expect(clippy::too_many_arguments)] // each has a name in the contract
 #![expect(unused_variables)] // a parameter may be there for a contract only
 
+mod realms;
 mod traits;
 
 pub use offset_allocator_memory as memory;
 pub use offset_allocator_memory::{AllocError, Global};
-pub use offset_guarded::Ticket;
+pub use offset_guarded::{Refusal as TicketRefusal, StateFaultKind as TicketFaultKind, ext, small_float};
 
 mod allocate;
 mod compact;
@@ -71,9 +72,13 @@ mod walks;
 pub use dumping::json_of;
 use index::Index;
 pub use limits::Limits;
-pub use offset_allocator::ReadError;
-use offset_allocator::{Accesses, ByNode, Tables};
-use offset_guarded::GuardedOf;
+use offset_allocator::Accesses;
+pub use offset_allocator::{
+    Allocation, Allocator, AllocatorOf, Block, Blocks, BlocksOf, ByField, ByNode, Move, MovePieces,
+    NodeIndex, NodeIndexNonMax, Piece, Progress, ReadError, RoomCost, Scale, Statistics,
+    StorageReport, StorageReportFull, StorageReportFullRegion, Tables, vma_json_of,
+};
+pub use offset_guarded::{Beside, Guarded, GuardedOf, Ticket};
 pub use place::{Granted, Place};
 pub use refusal::Refusal;
 use slots::Slots;
@@ -93,7 +98,7 @@ pub struct HeapsOf<T: Tables> {
     slots: Slots<T>,
     index: Index,
     limits: Limits,
-    // how many heaps were made
+    // the realm of the heap that was made last, or the one before the first
     made: u32,
     realm: u32,
     accesses: Accesses,
@@ -114,8 +119,10 @@ fn reset_all<T: Tables>(
 
 impl<T: Tables> HeapsOf<T> {
     /// No heap, and memory for the numbers of all that may be made: some 1.2 KB each. A heap is made by the
-    /// first request that none has room for. The realm is kept in places: a place of another realm is never
-    /// live here.
+    /// first request that none has room for.
+    ///
+    /// The realm is kept in places: a place of another realm is never live here. The heaps have realms too,
+    /// which are kept in their tickets: the numbers above `given`, one after another.
     ///
     /// # Errors
     ///
@@ -133,12 +140,17 @@ impl<T: Tables> HeapsOf<T> {
     /// # let alloc = Global;
     /// let limits =
     ///     Limits { size: 1 << 24, first_size: 1 << 18, max_allocs: 65536, first_allocs: 64, most: 64, most_larger: 16 };
-    /// let heaps = Heaps::<u32>::new(alloc, limits, 1)?;
+    /// let heaps = Heaps::<u32>::with_realms(alloc, limits, 1, 0)?;
     /// assert_eq!(heaps.totals().heaps, 0);
     /// # Ok::<(), AllocError>(())
     /// ```
     #[track_caller]
-    pub fn new(alloc: Global, limits: Limits, realm: u32) -> Result<Self, AllocError> {
+    pub fn with_realms(
+        alloc: Global,
+        limits: Limits,
+        realm: u32,
+        given: u32,
+    ) -> Result<Self, AllocError> {
         assert!(limits.size.min(1) <= limits.first_size, "first_size must be at least 1, or size");
         assert!(limits.first_size <= limits.size, "first_size must be at most size");
         assert!(4 <= limits.max_allocs, "max_allocs must be at least 4");
@@ -158,7 +170,7 @@ impl<T: Tables> HeapsOf<T> {
             slots,
             index,
             limits,
-            made: 0,
+            made: given,
             realm,
             accesses: Accesses::new(),
         })
@@ -170,7 +182,7 @@ impl<T: Tables> HeapsOf<T> {
     /// # use offset_allocator_heaps::*;
     /// # let alloc = Global;
     /// let limits = Limits { size: 1000, first_size: 1000, max_allocs: 100, first_allocs: 8, most: 2, most_larger: 1 };
-    /// let mut heaps = Heaps::<u32>::new(alloc, limits, 1)?;
+    /// let mut heaps = Heaps::<u32>::new(alloc, limits)?;
     /// assert_eq!(heaps.limits().most, 2);
     /// # Ok::<(), AllocError>(())
     /// ```
@@ -184,7 +196,7 @@ impl<T: Tables> HeapsOf<T> {
     /// # use offset_allocator_heaps::*;
     /// # let alloc = Global;
     /// let limits = Limits { size: 1000, first_size: 1000, max_allocs: 100, first_allocs: 8, most: 2, most_larger: 1 };
-    /// let mut heaps = Heaps::<u32>::new(alloc, limits, 1)?;
+    /// let mut heaps = Heaps::<u32>::new(alloc, limits)?;
     /// assert_eq!(heaps.realm(), 1);
     /// # Ok::<(), AllocError>(())
     /// ```
@@ -199,7 +211,7 @@ impl<T: Tables> HeapsOf<T> {
     /// # use offset_allocator_heaps::*;
     /// # let alloc = Global;
     /// let limits = Limits { size: 1000, first_size: 1000, max_allocs: 100, first_allocs: 8, most: 2, most_larger: 1 };
-    /// let mut heaps = Heaps::<u32>::new(alloc, limits, 1)?;
+    /// let mut heaps = Heaps::<u32>::new(alloc, limits)?;
     /// let mesh = heaps.allocate(300).unwrap().place;
     /// assert_eq!(heaps.heap(mesh.heap).unwrap().allocator().live_units(), 300);
     /// # Ok::<(), AllocError>(())
@@ -224,7 +236,7 @@ impl<T: Tables> HeapsOf<T> {
     /// # use offset_allocator_heaps::*;
     /// # let alloc = Global;
     /// let limits = Limits { size: 1000, first_size: 1000, max_allocs: 100, first_allocs: 8, most: 2, most_larger: 1 };
-    /// let mut heaps = Heaps::<u32>::new(alloc, limits, 1)?;
+    /// let mut heaps = Heaps::<u32>::new(alloc, limits)?;
     /// let mesh = heaps.allocate(300).unwrap().place;
     /// heaps.free(mesh);
     /// assert!(!heaps.is_live(mesh));
@@ -243,7 +255,7 @@ impl<T: Tables> HeapsOf<T> {
     /// # use offset_allocator_heaps::*;
     /// # let alloc = Global;
     /// let limits = Limits { size: 1000, first_size: 1000, max_allocs: 100, first_allocs: 8, most: 2, most_larger: 1 };
-    /// let mut heaps = Heaps::<u32>::new(alloc, limits, 1)?;
+    /// let mut heaps = Heaps::<u32>::new(alloc, limits)?;
     /// let mesh = heaps.allocate(300).unwrap().place;
     /// assert_eq!(heaps.size_of(mesh), Some(300));
     /// # Ok::<(), AllocError>(())
@@ -262,7 +274,7 @@ impl<T: Tables> HeapsOf<T> {
     /// # use offset_allocator_heaps::*;
     /// # let alloc = Global;
     /// let limits = Limits { size: 1000, first_size: 1000, max_allocs: 100, first_allocs: 8, most: 2, most_larger: 1 };
-    /// let mut heaps = Heaps::<u32>::new(alloc, limits, 1)?;
+    /// let mut heaps = Heaps::<u32>::new(alloc, limits)?;
     /// let mesh = heaps.allocate(300).unwrap().place;
     /// assert_eq!(heaps.offset_of(mesh), Some(0));
     /// # Ok::<(), AllocError>(())
@@ -282,7 +294,7 @@ impl<T: Tables> HeapsOf<T> {
     /// # use offset_allocator_heaps::*;
     /// # let alloc = Global;
     /// let limits = Limits { size: 1000, first_size: 1000, max_allocs: 100, first_allocs: 8, most: 2, most_larger: 1 };
-    /// let mut heaps = Heaps::<u32>::new(alloc, limits, 1)?;
+    /// let mut heaps = Heaps::<u32>::new(alloc, limits)?;
     /// let mesh = heaps.allocate(300).unwrap().place;
     /// assert!(heaps.free(mesh));
     /// assert!(!heaps.free(mesh));
@@ -310,7 +322,7 @@ impl<T: Tables> HeapsOf<T> {
     /// # use offset_allocator_heaps::*;
     /// # let alloc = Global;
     /// let limits = Limits { size: 1000, first_size: 1000, max_allocs: 100, first_allocs: 8, most: 2, most_larger: 1 };
-    /// let mut heaps = Heaps::<u32>::new(alloc, limits, 1)?;
+    /// let mut heaps = Heaps::<u32>::new(alloc, limits)?;
     /// let mesh = heaps.allocate(300).unwrap().place;
     /// heaps.reset();
     /// assert!(!heaps.is_live(mesh));
@@ -327,7 +339,7 @@ impl<T: Tables> HeapsOf<T> {
     }
 }
 
-/// The text is that of a struct with the realm, the limits, the number of heaps that were made, and the
+/// The text is that of a struct with the realm, the limits, the realm of the heap that was made last, and the
 /// totals.
 impl<T: Tables> fmt::Debug for HeapsOf<T> {
     fn fmt(&self, f: &mut fmt::Formatter<'_>) -> fmt::Result {

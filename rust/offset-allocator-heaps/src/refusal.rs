@@ -4,7 +4,7 @@
 
 use core::fmt;
 
-/// Why a request is refused. No two of these apply to one request: see `laws::reasons_exclude_one_another`. A
+/// Why a request is refused. No two of these apply to one request: see the law `reasons_exclude_one_another` of the proved sources. A
 /// heap has room for a tight request where a free block holds it.
 #[derive(Clone, Copy, Debug, PartialEq)]
 pub enum Refusal {

@@ -41,7 +41,7 @@ impl<T: Tables> HeapsOf<T> {
     /// The heap is the first one, by number, that has room, other than the place's own, and in which at least
     /// as many units are live: so none goes to an empty heap, and calls of `relocate`, each followed by the
     /// release of its old range before the next one, come to an end, since the sum of the squares of the
-    /// heaps' live units grows at each: see `laws::relocations_end`. With later releases a range may go to
+    /// heaps' live units grows at each: see the law `relocations_end` of the proved sources. With later releases a range may go to
     /// and fro: make one pass, free what it left, then begin the next. No heap is made, and no memory is
     /// taken: a heap whose node limit would have to be raised for it, as `Limits::first_allocs` says, takes no
     /// range. The range is what `GuardedOf::allocate` grants there: for one at an alignment see
@@ -55,7 +55,7 @@ impl<T: Tables> HeapsOf<T> {
     /// # use offset_allocator_heaps::*;
     /// # let alloc = Global;
     /// let limits = Limits { size: 1000, first_size: 1000, max_allocs: 100, first_allocs: 8, most: 2, most_larger: 1 };
-    /// let mut heaps = Heaps::<u32>::new(alloc, limits, 1)?;
+    /// let mut heaps = Heaps::<u32>::new(alloc, limits)?;
     /// heaps.allocate(500).unwrap();
     /// let old = heaps.allocate(400).unwrap().place;
     /// let mesh = heaps.allocate(300).unwrap().place;
@@ -80,7 +80,7 @@ impl<T: Tables> HeapsOf<T> {
     /// # use offset_allocator_heaps::*;
     /// # let alloc = Global;
     /// let limits = Limits { size: 1000, first_size: 1000, max_allocs: 100, first_allocs: 8, most: 2, most_larger: 1 };
-    /// let mut heaps = Heaps::<u32>::new(alloc, limits, 1)?;
+    /// let mut heaps = Heaps::<u32>::new(alloc, limits)?;
     /// heaps.allocate(500).unwrap();
     /// let old = heaps.allocate(400).unwrap().place;
     /// let uniforms = heaps.allocate_aligned(200, 256).unwrap().place;
@@ -114,7 +114,7 @@ impl<T: Tables> HeapsOf<T> {
     /// # use offset_allocator_heaps::*;
     /// # let alloc = Global;
     /// let limits = Limits { size: 1000, first_size: 1000, max_allocs: 100, first_allocs: 8, most: 2, most_larger: 1 };
-    /// let mut heaps = Heaps::<u32>::new(alloc, limits, 1)?;
+    /// let mut heaps = Heaps::<u32>::new(alloc, limits)?;
     /// assert_eq!(heaps.emptiest(), None);
     /// let mesh = heaps.allocate(300).unwrap().place;
     /// assert_eq!(heaps.emptiest(), Some(mesh.heap));

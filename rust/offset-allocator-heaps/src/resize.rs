@@ -53,7 +53,7 @@ impl<T: Tables> HeapsOf<T> {
     /// # use offset_allocator_heaps::*;
     /// # let alloc = Global;
     /// let limits = Limits { size: 1000, first_size: 1000, max_allocs: 100, first_allocs: 8, most: 2, most_larger: 1 };
-    /// let mut heaps = Heaps::<u32>::new(alloc, limits, 1)?;
+    /// let mut heaps = Heaps::<u32>::new(alloc, limits)?;
     /// let mesh = heaps.allocate(300).unwrap().place;
     /// assert_eq!(heaps.shrink(mesh, 200), Some(true));
     /// assert_eq!(heaps.size_of(mesh), Some(200));
@@ -72,7 +72,7 @@ impl<T: Tables> HeapsOf<T> {
     /// # use offset_allocator_heaps::*;
     /// # let alloc = Global;
     /// let limits = Limits { size: 1000, first_size: 1000, max_allocs: 100, first_allocs: 8, most: 2, most_larger: 1 };
-    /// let mut heaps = Heaps::<u32>::new(alloc, limits, 1)?;
+    /// let mut heaps = Heaps::<u32>::new(alloc, limits)?;
     /// let mesh = heaps.allocate(300).unwrap().place;
     /// assert_eq!(heaps.grow_in_place(mesh, 400), Some(true));
     /// assert_eq!(heaps.grow_in_place(mesh, 1001), Some(false));

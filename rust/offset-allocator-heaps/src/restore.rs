@@ -18,7 +18,7 @@ use crate::memory::{AllocError, Global};
 #[derive(Clone, Copy)]
 pub(crate) struct Header {
     pub(crate) limits: Limits,
-    // how many heaps were made
+    // the realm of the heap that was made last
     pub(crate) made: u32,
     pub(crate) realm: u32,
 }
@@ -207,7 +207,7 @@ impl<T: Tables> HeapsOf<T> {
     ///
     /// `most_heaps` is the largest `most + most_larger` that is accepted, and `most_allocs` the largest node
     /// limit, of the limits and of each heap, since memory for these is reserved, as by `new` and by
-    /// `GuardedOf::with_max_allocs`; and for a number only where 8 bytes were given for it. It takes time for
+    /// `GuardedOf::with_realm`; and for a number only where 8 bytes were given for it. It takes time for
     /// the bytes, and some steps for each bit of the numbers for each of them.
     ///
     /// # Errors
@@ -219,7 +219,7 @@ impl<T: Tables> HeapsOf<T> {
     /// # use offset_allocator_heaps::*;
     /// # let alloc = Global;
     /// let limits = Limits { size: 1000, first_size: 1000, max_allocs: 100, first_allocs: 8, most: 2, most_larger: 1 };
-    /// let mut heaps = Heaps::<u32>::new(alloc, limits, 1)?;
+    /// let mut heaps = Heaps::<u32>::new(alloc, limits)?;
     /// let mesh = heaps.allocate(300).unwrap().place;
     /// let bytes = heaps.write_state(alloc)?;
     /// let same = Heaps::<u32>::read_state(alloc, &bytes, 100, 1000).unwrap();

@@ -42,7 +42,7 @@ fn states_of<T: Tables>(
 impl<T: Tables> HeapsOf<T> {
     /// The bytes of the state, which `read_state` reads: 96, 8 for each number, and those of
     /// `GuardedOf::write_state` for each heap. The first are numbers of 64 bits, the lowest byte of each
-    /// first: the letters OAHS, the version 3, the six limits, how many heaps were made, the realm; where the
+    /// first: the letters OAHS, the version 3, the six limits, the last heap's realm, the realm; where the
     /// state of each number's heap begins behind these numbers, and where the last one ends, so that a number
     /// without a heap has no bytes; and a checksum. The index of the heaps is not stored.
     ///
@@ -56,7 +56,7 @@ impl<T: Tables> HeapsOf<T> {
     /// # use offset_allocator_heaps::*;
     /// # let alloc = Global;
     /// let limits = Limits { size: 1000, first_size: 1000, max_allocs: 100, first_allocs: 8, most: 2, most_larger: 1 };
-    /// let mut heaps = Heaps::<u32>::new(alloc, limits, 1)?;
+    /// let mut heaps = Heaps::<u32>::new(alloc, limits)?;
     /// let bytes = heaps.write_state(alloc)?;
     /// let same = Heaps::<u32>::read_state(alloc, &bytes, 100, 1000).unwrap();
     /// assert_eq!(same.limits(), heaps.limits());

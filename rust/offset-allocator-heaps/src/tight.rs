@@ -86,7 +86,7 @@ impl<T: Tables> HeapsOf<T> {
     /// # use offset_allocator_heaps::*;
     /// # let alloc = Global;
     /// let limits = Limits { size: 1000, first_size: 1000, max_allocs: 100, first_allocs: 8, most: 2, most_larger: 1 };
-    /// let mut heaps = Heaps::<u32>::new(alloc, limits, 1)?;
+    /// let mut heaps = Heaps::<u32>::new(alloc, limits)?;
     /// heaps.allocate(300).unwrap();
     /// let rest = heaps.allocate_tight(700).unwrap();
     /// assert!(!rest.is_new);
@@ -122,7 +122,7 @@ impl<T: Tables> HeapsOf<T> {
     /// # use offset_allocator_heaps::*;
     /// # let alloc = Global;
     /// let limits = Limits { size: 1000, first_size: 1000, max_allocs: 100, first_allocs: 8, most: 2, most_larger: 1 };
-    /// let mut heaps = Heaps::<u32>::new(alloc, limits, 1)?;
+    /// let mut heaps = Heaps::<u32>::new(alloc, limits)?;
     /// heaps.allocate(256).unwrap();
     /// let uniforms = heaps.allocate_tight_aligned(700, 256).unwrap();
     /// assert_eq!((uniforms.is_new, heaps.offset_of(uniforms.place)), (false, Some(256)));
@@ -141,7 +141,7 @@ impl<T: Tables> HeapsOf<T> {
     /// # use offset_allocator_heaps::*;
     /// # let alloc = Global;
     /// let limits = Limits { size: 1000, first_size: 1000, max_allocs: 100, first_allocs: 8, most: 2, most_larger: 1 };
-    /// let mut heaps = Heaps::<u32>::new(alloc, limits, 1)?;
+    /// let mut heaps = Heaps::<u32>::new(alloc, limits)?;
     /// assert_eq!(heaps.refusal_tight(300), None);
     /// assert_eq!(heaps.refusal_tight(0), Some(Refusal::Empty));
     /// # Ok::<(), AllocError>(())
@@ -152,7 +152,7 @@ impl<T: Tables> HeapsOf<T> {
 
     /// Why `allocate_tight_aligned(size, align)` would be refused now, or `None` where it would be granted: a heap
     /// holds it, or another may be made for it; then memory alone may be refused. It is never `Memory`. See
-    /// `laws::tight_refusals_are_foretold`. It asks the heaps as that call does.
+    /// the law `tight_refusals_are_foretold` of the proved sources. It asks the heaps as that call does.
     ///
     /// # Panics
     ///
@@ -162,7 +162,7 @@ impl<T: Tables> HeapsOf<T> {
     /// # use offset_allocator_heaps::*;
     /// # let alloc = Global;
     /// let limits = Limits { size: 1000, first_size: 1000, max_allocs: 100, first_allocs: 8, most: 2, most_larger: 1 };
-    /// let mut heaps = Heaps::<u32>::new(alloc, limits, 1)?;
+    /// let mut heaps = Heaps::<u32>::new(alloc, limits)?;
     /// assert_eq!(heaps.refusal_tight_aligned(900, 256), None);
     /// # Ok::<(), AllocError>(())
     /// ```

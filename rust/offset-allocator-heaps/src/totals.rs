@@ -62,7 +62,7 @@ impl<T: Tables> HeapsOf<T> {
     /// # use offset_allocator_heaps::*;
     /// # let alloc = Global;
     /// let limits = Limits { size: 1000, first_size: 1000, max_allocs: 100, first_allocs: 8, most: 2, most_larger: 1 };
-    /// let mut heaps = Heaps::<u32>::new(alloc, limits, 1)?;
+    /// let mut heaps = Heaps::<u32>::new(alloc, limits)?;
     /// heaps.allocate(300).unwrap();
     /// let totals = heaps.totals();
     /// assert_eq!((totals.heaps, totals.live_units, totals.free_units), (1, 300, 700));

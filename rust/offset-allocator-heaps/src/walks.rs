@@ -28,7 +28,7 @@ impl<T: Tables> HeapsOf<T> {
     /// # use offset_allocator_heaps::*;
     /// # let alloc = Global;
     /// let limits = Limits { size: 1000, first_size: 1000, max_allocs: 100, first_allocs: 8, most: 2, most_larger: 1 };
-    /// let mut heaps = Heaps::<u32>::new(alloc, limits, 1)?;
+    /// let mut heaps = Heaps::<u32>::new(alloc, limits)?;
     /// let mesh = heaps.allocate(300).unwrap().place;
     /// heaps.allocate(100).unwrap();
     /// assert_eq!(heaps.first_live(mesh.heap), Some(mesh));
@@ -49,7 +49,7 @@ impl<T: Tables> HeapsOf<T> {
     /// # use offset_allocator_heaps::*;
     /// # let alloc = Global;
     /// let limits = Limits { size: 1000, first_size: 1000, max_allocs: 100, first_allocs: 8, most: 2, most_larger: 1 };
-    /// let mut heaps = Heaps::<u32>::new(alloc, limits, 1)?;
+    /// let mut heaps = Heaps::<u32>::new(alloc, limits)?;
     /// let mesh = heaps.allocate(300).unwrap().place;
     /// let texture = heaps.allocate(100).unwrap().place;
     /// assert_eq!(heaps.last_live(mesh.heap), Some(texture));
@@ -69,7 +69,7 @@ impl<T: Tables> HeapsOf<T> {
     /// # use offset_allocator_heaps::*;
     /// # let alloc = Global;
     /// let limits = Limits { size: 1000, first_size: 1000, max_allocs: 100, first_allocs: 8, most: 2, most_larger: 1 };
-    /// let mut heaps = Heaps::<u32>::new(alloc, limits, 1)?;
+    /// let mut heaps = Heaps::<u32>::new(alloc, limits)?;
     /// let mesh = heaps.allocate(300).unwrap().place;
     /// let texture = heaps.allocate(100).unwrap().place;
     /// assert_eq!(heaps.live_before(texture), Some(mesh));
@@ -89,7 +89,7 @@ impl<T: Tables> HeapsOf<T> {
     /// # use offset_allocator_heaps::*;
     /// # let alloc = Global;
     /// let limits = Limits { size: 1000, first_size: 1000, max_allocs: 100, first_allocs: 8, most: 2, most_larger: 1 };
-    /// let mut heaps = Heaps::<u32>::new(alloc, limits, 1)?;
+    /// let mut heaps = Heaps::<u32>::new(alloc, limits)?;
     /// let mesh = heaps.allocate(300).unwrap().place;
     /// let texture = heaps.allocate(100).unwrap().place;
     /// assert_eq!(heaps.live_after(mesh), Some(texture));

@@ -18,7 +18,7 @@ fn vec_and_string_are_those_of_std() {
         use offset_guarded::*;
 
         pub fn bytes() -> Vec<u8> {
-            let space = Guarded::<u32>::new(Global, 10, 1).unwrap();
+            let space = Guarded::<u32>::new(Global, 10).unwrap();
             let mut own: Vec<u8> = Vec::new();
             own.push(1);
             own.extend(Vec::from(space.write_state(Global).unwrap()));
@@ -31,7 +31,7 @@ fn vec_and_string_are_those_of_std() {
 
         pub fn bytes() -> Vec<u8> {
             let limits = Limits { size: 10, first_size: 10, max_allocs: 4, first_allocs: 4, most: 1, most_larger: 0 };
-            let heaps = Heaps::<u32>::new(Global, limits, 1).unwrap();
+            let heaps = Heaps::<u32>::with_realm(Global, limits, 1).unwrap();
             let mut own: Vec<u8> = Vec::new();
             own.push(1);
             own.extend(Vec::from(heaps.write_state(Global).unwrap()));

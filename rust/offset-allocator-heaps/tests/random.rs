@@ -72,7 +72,7 @@ impl<T: Tables> Run<T> {
         let count = (limits.most + limits.most_larger) as usize;
         let nowhere = Place { heap: 0, realm: 0, ticket: offset_allocator_heaps::Ticket { offset: 0, name: 0, serial: 0, realm: 0 } };
         Run {
-            heaps: HeapsOf::new(Global, limits, REALM).unwrap(),
+            heaps: HeapsOf::with_realm(Global, limits, REALM).unwrap(),
             limits,
             model: (0..count).map(|_| None).collect(),
             live: HashMap::new(),
@@ -600,7 +600,7 @@ fn two_million_random_calls() {
 #[test]
 fn no_heap() {
     let limits = Limits { size: 100, first_size: 100, max_allocs: 4, first_allocs: 4, most: 0, most_larger: 0 };
-    let mut heaps = Heaps::<u32>::new(Global, limits, 0).unwrap();
+    let mut heaps = Heaps::<u32>::with_realm(Global, limits, 0).unwrap();
     assert_eq!(heaps.allocate(1), Err(Refusal::TooLarge));
     assert_eq!(heaps.allocate(101), Err(Refusal::TooLarge));
     assert_eq!(heaps.allocate(0), Err(Refusal::Empty));
@@ -614,7 +614,7 @@ fn no_heap() {
 #[test]
 fn larger_heaps() {
     let limits = Limits { size: 1_000, first_size: 1_000, max_allocs: 4, first_allocs: 4, most: 1, most_larger: 2 };
-    let mut heaps = Heaps::<u32>::new(Global, limits, 3).unwrap();
+    let mut heaps = Heaps::<u32>::with_realm(Global, limits, 3).unwrap();
     // 960 is the largest size of a class below 1,000
     let page = heaps.allocate(960).unwrap();
     assert_eq!((page.place.heap, page.is_new), (0, true));
@@ -639,7 +639,7 @@ fn larger_heaps() {
 #[test]
 fn doubling_heaps() {
     let limits = Limits { size: 1_024, first_size: 256, max_allocs: 8, first_allocs: 8, most: 4, most_larger: 1 };
-    let mut heaps = Heaps::<u32>::new(Global, limits, 3).unwrap();
+    let mut heaps = Heaps::<u32>::with_realm(Global, limits, 3).unwrap();
     let made: Vec<Place> = [256, 512, 1_024, 1_024].map(|units| heaps.allocate(units).unwrap().place).to_vec();
     assert_eq!([0, 1, 2, 3].map(|at| made[at].heap), [0, 1, 2, 3]);
     assert_eq!([0, 1, 2, 3, 4].map(|number| heaps.units_of_heap(number)), [Some(256), Some(512), Some(1_024), Some(1_024), None]);
@@ -663,11 +663,11 @@ fn doubling_heaps() {
 #[test]
 fn a_size_that_no_number_reaches() {
     let limits = Limits { size: 1_024, first_size: 256, max_allocs: 8, first_allocs: 8, most: 2, most_larger: 1 };
-    let mut heaps = Heaps::<u32>::new(Global, limits, 3).unwrap();
+    let mut heaps = Heaps::<u32>::with_realm(Global, limits, 3).unwrap();
     let large = heaps.allocate(513).unwrap();
     assert_eq!((large.place.heap, large.is_new, heaps.units_of_heap(2)), (2, true, Some(513)));
     assert_eq!(heaps.refusal(1_024), Some(Refusal::Full));
-    let mut none_larger = Heaps::<u32>::new(Global, Limits { most_larger: 0, ..limits }, 3).unwrap();
+    let mut none_larger = Heaps::<u32>::with_realm(Global, Limits { most_larger: 0, ..limits }, 3).unwrap();
     assert_eq!((none_larger.refusal(513), none_larger.refusal(512)), (Some(Refusal::TooLarge), None));
     assert_eq!(none_larger.allocate(512).unwrap().place.heap, 1);
 }
@@ -677,7 +677,7 @@ fn a_size_that_no_number_reaches() {
 #[test]
 fn a_range_comes_back() {
     let limits = Limits { size: 16, first_size: 16, max_allocs: 8, first_allocs: 8, most: 3, most_larger: 0 };
-    let mut heaps = Heaps::<u32>::new(Global, limits, 3).unwrap();
+    let mut heaps = Heaps::<u32>::with_realm(Global, limits, 3).unwrap();
     let [r, a, gone, b, also, c] = [1, 4, 11, 5, 11, 10].map(|size| heaps.allocate(size).unwrap().place);
     assert_eq!([r, a, gone, b, also, c].map(|place| place.heap), [0, 0, 0, 1, 1, 2]);
     assert!(heaps.free(gone) && heaps.free(also));
@@ -700,7 +700,7 @@ fn a_range_comes_back() {
 #[test]
 fn aligned_pages() {
     let limits = Limits { size: 1_024, first_size: 1_024, max_allocs: 4, first_allocs: 4, most: 2, most_larger: 0 };
-    let mut heaps = Heaps::<u32>::new(Global, limits, 3).unwrap();
+    let mut heaps = Heaps::<u32>::with_realm(Global, limits, 3).unwrap();
     let first = heaps.allocate_aligned(1_024, 256).unwrap();
     assert_eq!((first.place.heap, first.is_new, first.place.ticket.offset), (0, true, 0));
     let second = heaps.allocate_aligned(1_024, 1 << 31).unwrap();
@@ -712,26 +712,26 @@ fn aligned_pages() {
 #[test]
 #[should_panic(expected = "max_allocs must be at least 4")]
 fn too_few_nodes() {
-    let _ = Heaps::<u32>::new(Global, Limits { size: 1, first_size: 1, max_allocs: 3, first_allocs: 3, most: 1, most_larger: 0 }, 0);
+    let _ = Heaps::<u32>::with_realm(Global, Limits { size: 1, first_size: 1, max_allocs: 3, first_allocs: 3, most: 1, most_larger: 0 }, 0);
 }
 
 #[test]
 #[should_panic(expected = "first_size must be at least 1, or size")]
 fn no_first_units() {
-    let _ = Heaps::<u32>::new(Global, Limits { size: 1, first_size: 0, max_allocs: 4, first_allocs: 4, most: 1, most_larger: 0 }, 0);
+    let _ = Heaps::<u32>::with_realm(Global, Limits { size: 1, first_size: 0, max_allocs: 4, first_allocs: 4, most: 1, most_larger: 0 }, 0);
 }
 
 #[test]
 #[should_panic(expected = "first_size must be at most size")]
 fn too_many_first_units() {
-    let _ = Heaps::<u32>::new(Global, Limits { size: 9, first_size: 10, max_allocs: 4, first_allocs: 4, most: 1, most_larger: 0 }, 0);
+    let _ = Heaps::<u32>::with_realm(Global, Limits { size: 9, first_size: 10, max_allocs: 4, first_allocs: 4, most: 1, most_larger: 0 }, 0);
 }
 
 // Without units no usual heap has room: each request has a heap of its own.
 #[test]
 fn no_usual_units() {
     let limits = Limits { size: 0, first_size: 0, max_allocs: 4, first_allocs: 4, most: 3, most_larger: 2 };
-    let mut heaps = Heaps::<u32>::new(Global, limits, 0).unwrap();
+    let mut heaps = Heaps::<u32>::with_realm(Global, limits, 0).unwrap();
     assert_eq!((heaps.allocate(1).unwrap().place.heap, heaps.allocate(7).unwrap().place.heap), (3, 4));
     assert_eq!(heaps.refusal(1), Some(Refusal::Full));
 }
@@ -739,17 +739,17 @@ fn no_usual_units() {
 #[test]
 #[should_panic(expected = "first_allocs must be at least 8, or max_allocs")]
 fn too_few_first_nodes() {
-    let _ = Heaps::<u32>::new(Global, Limits { size: 1, first_size: 1, max_allocs: 100, first_allocs: 7, most: 1, most_larger: 0 }, 0);
+    let _ = Heaps::<u32>::with_realm(Global, Limits { size: 1, first_size: 1, max_allocs: 100, first_allocs: 7, most: 1, most_larger: 0 }, 0);
 }
 
 #[test]
 #[should_panic(expected = "first_allocs must be at most max_allocs")]
 fn too_many_first_nodes() {
-    let _ = Heaps::<u32>::new(Global, Limits { size: 1, first_size: 1, max_allocs: 9, first_allocs: 10, most: 1, most_larger: 0 }, 0);
+    let _ = Heaps::<u32>::with_realm(Global, Limits { size: 1, first_size: 1, max_allocs: 9, first_allocs: 10, most: 1, most_larger: 0 }, 0);
 }
 
 #[test]
 #[should_panic(expected = "there may be at most 4294967295 heaps")]
 fn too_many_heaps() {
-    let _ = Heaps::<u32>::new(Global, Limits { size: 1, first_size: 1, max_allocs: 4, first_allocs: 4, most: u32::MAX, most_larger: 1 }, 0);
+    let _ = Heaps::<u32>::with_realm(Global, Limits { size: 1, first_size: 1, max_allocs: 4, first_allocs: 4, most: u32::MAX, most_larger: 1 }, 0);
 }

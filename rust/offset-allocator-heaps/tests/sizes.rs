@@ -34,7 +34,7 @@ fn use_of<T: Tables>(size: u32, max_allocs: u32, most: u32) -> Result<(), AllocE
         most,
         most_larger: most,
     };
-    let mut heaps = HeapsOf::<T>::new(Global, limits, 1)?;
+    let mut heaps = HeapsOf::<T>::with_realm(Global, limits, 1)?;
     for _ in 0..most {
         assert!(is_made(&mut heaps, size, 1)?);
         assert!(is_made(&mut heaps, size + 1, 1)?);
@@ -78,7 +78,7 @@ fn first_requests<T: Tables>() -> Result<(), AllocError> {
     let limits = Limits { size: u32::MAX, first_size: u32::MAX, max_allocs: 100, first_allocs: 100, most: 1, most_larger: 0 };
     for power in 0..31 {
         for size in [1, 3, 1 << 30] {
-            let mut heaps = HeapsOf::<T>::new(Global, limits, 1)?;
+            let mut heaps = HeapsOf::<T>::with_realm(Global, limits, 1)?;
             assert!(is_made(&mut heaps, size, 1 << power)?);
             assert!(!is_made(&mut heaps, size, 1 << power)?);
         }
@@ -89,7 +89,7 @@ fn first_requests<T: Tables>() -> Result<(), AllocError> {
 // Copies and states of two heaps with so many nodes made, of which a quarter is live.
 fn filled<T: Tables>(nodes: u32) -> Result<(), AllocError> {
     let limits = Limits { size: nodes, first_size: nodes, max_allocs: nodes + 2, first_allocs: nodes + 2, most: 2, most_larger: 0 };
-    let mut heaps = HeapsOf::<T>::new(Global, limits, 1)?;
+    let mut heaps = HeapsOf::<T>::with_realm(Global, limits, 1)?;
     let mut places = Vec::new();
     for _ in 0..2 * nodes {
         match heaps.allocate(1) {

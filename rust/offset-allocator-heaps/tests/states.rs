@@ -95,7 +95,7 @@ fn worked<T: Tables<Index = u32>>(random: &mut Random) -> Worked<T> {
         most: random.below(6),
         most_larger: random.below(4),
     };
-    let heaps = HeapsOf::new(Global, limits, random.next() as u32).unwrap();
+    let heaps = HeapsOf::with_realm(Global, limits, random.next() as u32).unwrap();
     let mut made = Worked { heaps, held: Vec::new(), made: 0 };
     for _ in 0..random.below(150) {
         made.call(random);
@@ -186,7 +186,7 @@ fn change(numbers: &mut Vec<u64>, random: &mut Random) {
             1 => numbers[place] = random.next(),
             2 => numbers[place] = numbers[place].wrapping_add(1),
             3 => numbers[place] = numbers[place].wrapping_sub(1),
-            // the number of heaps that were made, and the realm
+            // the realm of the heap that was made last, and that of all
             4 => numbers[8] = u64::from(random.below(90)),
             5 => numbers[9] = u64::from(random.next() as u32),
             // one larger heap more, which has no state, or two in another order
@@ -318,7 +318,7 @@ fn made_up_bytes_are_refused() {
     }
     // no limit is a number to request memory by before the caller admits it
     let limits = Limits { size: 10, first_size: 10, max_allocs: 100, first_allocs: 100, most: 3, most_larger: 2 };
-    let heaps = Heaps::<u32>::new(Global, limits, 7).unwrap();
+    let heaps = Heaps::<u32>::with_realm(Global, limits, 7).unwrap();
     let state = written(&heaps);
     let fault = |most, allocs| known(Heaps::<u32>::read_state(Global, &state, most, allocs)).err();
     assert_eq!(fault(5, 100), None);

@@ -6,10 +6,11 @@
 //! A *block* is a run of units, used or free; no two free blocks are neighbours. Each block has a *node* of
 //! the tables, whose index is the block's *name*: a name is *unused* while no block, used or free, has it. The
 //! range of a used block, and its name, are *live*. A *size class* is a range of sizes, and its *bin* the list
-//! of the free blocks of that class, the newest first, which is the one that last became free or changed its
-//! size. A range takes over the name of the free block that it is cut from, and what remains of that block
-//! gets the name that became unused last, or that of a new node where none is unused. Where the range is freed, the coalesced block keeps the range's
-//! name, and those of its neighbours become unused.
+//! of the free blocks of that class, the newest first, which is the one that last became free, changed its
+//! size, or was moved by a compaction by whole steps. A range takes over the name of the free block that it is
+//! cut from, and what remains of that block gets the name that became unused last, or that of a new node where
+//! none is unused. Where the range is freed, the coalesced block keeps the range's name, and those of its
+//! neighbours become unused.
 //!
 //! ```
 //! use offset_allocator_proved::*;

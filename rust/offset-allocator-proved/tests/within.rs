@@ -75,8 +75,8 @@ fn expected(before: &[Part], limit: usize, step: u32, from: u32, units: u32, ran
     let until = before[last].offset + before[last].size;
     all.push(Part { offset: end, size: until - end, name: None });
     all.extend(&before[last + 1..]);
-    // without a name for a free block at its end, that is not free yet
-    if before[last].name.is_some() && before.len() + 1 >= limit {
+    // as many blocks as these are not admitted
+    if all.len() >= limit {
         return Expected { parts: before.to_vec(), progress: None };
     }
     let units = moved.iter().map(|it| it.size).sum();

@@ -24,7 +24,7 @@ fn load(heap: &mut Heap, left: &mut Vec<Ticket>, name: &str, units: u32) -> Opti
 
 fn main() -> Result<(), Box<dyn std::error::Error>> {
     // 64 MiB, counted in units of 256 bytes
-    let heap = Guarded::<u32>::with_max_allocs(Global, 1 << 18, 1 << 9, 1)?;
+    let heap = Guarded::<u32>::with_max_allocs(Global, 1 << 18, 1 << 9)?;
     let mut heap = Recorded::guarded(heap, std::io::stdout().lock())?;
     heap.unit(256);
     let (mut left, mut live) = (Vec::new(), Vec::new());

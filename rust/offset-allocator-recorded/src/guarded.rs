@@ -25,7 +25,7 @@ impl<T: Tables, W: Write> Recorded<GuardedOf<T>, W> {
     /// ```
     /// # use offset_allocator_recorded::*;
     /// # use offset_allocator_guarded::Guarded;
-    /// let mut heap = Recorded::guarded(Guarded::<u32>::with_max_allocs(Global, 1000, 16, 1).unwrap(), Vec::new()).unwrap();
+    /// let mut heap = Recorded::guarded(Guarded::<u32>::with_max_allocs(Global, 1000, 16).unwrap(), Vec::new()).unwrap();
     /// let rock = heap.allocate(100).unwrap();
     /// heap.name_live(rock, "mesh: rock");
     /// assert_eq!(heap.finish().1.unwrap(), b"space 1000 nodes 16 index 32\nalloc 100\n#! name 1 mesh: rock\n");
@@ -46,10 +46,10 @@ impl<T: Tables, W: Write> Recorded<GuardedOf<T>, W> {
     /// # use offset_allocator_recorded::*;
     /// # use offset_allocator_guarded::Guarded;
     /// struct Mesh { name: String }
-    /// let mut heap = Recorded::guarded(Guarded::<u32>::with_max_allocs(Global, 1000, 16, 1).unwrap(), Vec::new()).unwrap();
+    /// let mut heap = Recorded::guarded(Guarded::<u32>::with_max_allocs(Global, 1000, 16).unwrap(), Vec::new()).unwrap();
     /// let mut meshes = Beside::new(Global);
     /// let rock = heap.allocate(100).unwrap();
-    /// assert!(meshes.put(rock, Mesh { name: "mesh: rock".to_owned() }).is_ok());
+    /// assert!(meshes.put(&heap, rock, Mesh { name: "mesh: rock".to_owned() }).is_ok());
     /// heap.name_all(&meshes, |mesh| &mesh.name);
     /// // it has its name, and gets no other line
     /// heap.name_all(&meshes, |mesh| &mesh.name);

@@ -121,7 +121,7 @@ fn random_spaces_go_on() {
 fn states_and_copies() {
     // used 0 to 10, free 10 to 15, used 15 to 20, free 20 to 25, used 25 to 30, free 30 to 100; of the two of 5 units the
     // first was freed last, so that it is granted first
-    let mut space = GuardedOf::<ByNode<u32>>::with_max_allocs(Global, 100, 16, 7).unwrap();
+    let mut space = GuardedOf::<ByNode<u32>>::with_realm(Global, 100, 16, 7).unwrap();
     let held: Vec<_> = [10, 5, 5, 5, 5].iter().map(|size| space.allocate(*size).unwrap()).collect();
     assert!(space.free(held[3]) && space.free(held[1]));
     let bytes = space.write_state(Global).unwrap();

@@ -18,7 +18,7 @@ fn fault(text: &str) -> String {
 #[test]
 fn ranges_of_heaps_change_in_place() {
     let limits = Limits { size: 100, first_size: 100, max_allocs: 16, first_allocs: 8, most: 1, most_larger: 0 };
-    let mut heaps = RecordedHeaps::new(Heaps::<u16>::new(Global, limits, 1).unwrap(), Vec::new()).unwrap();
+    let mut heaps = RecordedHeaps::new(Heaps::<u16>::with_realm(Global, limits, 1).unwrap(), Vec::new()).unwrap();
     let places: Vec<Place> = [20, 20, 20].map(|size| heaps.allocate(size).unwrap().place).to_vec();
     // four of eight nodes are unused, so one more block may be added, and with three unused none may
     assert_eq!((heaps.shrink(places[0], 10), heaps.shrink(places[1], 10)), (Some(true), Some(false)));
@@ -41,7 +41,7 @@ fn ranges_of_heaps_change_in_place() {
 #[test]
 fn heaps_become_larger_and_are_filled() {
     let limits = Limits { size: 100, first_size: 100, max_allocs: 16, first_allocs: 16, most: 2, most_larger: 0 };
-    let mut heaps = RecordedHeaps::new(Heaps::<u16>::new(Global, limits, 1).unwrap(), Vec::new()).unwrap();
+    let mut heaps = RecordedHeaps::new(Heaps::<u16>::with_realm(Global, limits, 1).unwrap(), Vec::new()).unwrap();
     let [hole, rock] = [21, 70].map(|size| heaps.allocate(size).unwrap().place);
     // a request of 21 units is rounded up to 22, and of the last 9 units 4 begin at a multiple of 16
     assert!(heaps.free(hole) && heaps.name("fills").allocate_tight(21).unwrap().place.heap == 0);
@@ -70,7 +70,7 @@ fn heaps_become_larger_and_are_filled() {
 #[test]
 fn each_call_of_heaps_is_a_line() {
     let limits = Limits { size: 1000, first_size: 1000, max_allocs: 16, first_allocs: 16, most: 2, most_larger: 1 };
-    let mut heaps = RecordedHeaps::new(Heaps::<u16>::new(Global, limits, 1).unwrap(), Vec::new()).unwrap();
+    let mut heaps = RecordedHeaps::new(Heaps::<u16>::with_realm(Global, limits, 1).unwrap(), Vec::new()).unwrap();
     let rock = heaps.name("mesh: rock\nand moss").allocate(300).unwrap();
     assert!(rock.is_new);
     let big = heaps.name("level").allocate_aligned(5001, 64).unwrap();
@@ -117,7 +117,7 @@ fn each_call_of_heaps_is_a_line() {
 #[test]
 fn allocators_of_ones_own() {
     let mut recording = Recording::new(Vec::new());
-    let mut meshes = recording.guarded(Guarded::<u32>::with_max_allocs(Global, 100, 8, 1).unwrap()).unwrap();
+    let mut meshes = recording.guarded(Guarded::<u32>::with_realm(Global, 100, 8, 1).unwrap()).unwrap();
     let mut space = Allocator::<u16>::with_max_allocs(Global, 50, 8).unwrap();
     let old = space.allocate(9).unwrap();
     let mut textures = recording.name("the\ntextures").allocator(space).unwrap();
@@ -152,7 +152,7 @@ fn allocators_of_ones_own() {
 #[test]
 fn several_threads_write_whole_lines() {
     let mut recording = Recording::new(Vec::new());
-    let mut heaps: Vec<_> = (0..4).map(|i| recording.guarded(Guarded::<u32>::with_max_allocs(Global, 100_000, 5000, i).unwrap()).unwrap()).collect();
+    let mut heaps: Vec<_> = (0..4).map(|i| recording.guarded(Guarded::<u32>::with_realm(Global, 100_000, 5000, i).unwrap()).unwrap()).collect();
     std::thread::scope(|scope| {
         for heap in &mut heaps {
             scope.spawn(|| {
@@ -178,7 +178,7 @@ fn several_threads_write_whole_lines() {
 #[test]
 fn a_heap_that_grows_has_its_largest_limit() {
     let limits = Limits { size: 1000, first_size: 1000, max_allocs: 100, first_allocs: 8, most: 1, most_larger: 0 };
-    let mut heaps = RecordedHeaps::new(Heaps::<u32>::new(Global, limits, 1).unwrap(), Vec::new()).unwrap();
+    let mut heaps = RecordedHeaps::new(Heaps::<u32>::with_realm(Global, limits, 1).unwrap(), Vec::new()).unwrap();
     assert!((0..50).all(|_| heaps.allocate(1).is_ok()));
     assert_eq!(heaps.heap(0).unwrap().allocator().max_allocs(), 64);
     let (grown, text) = heaps.finish();
@@ -194,9 +194,9 @@ fn a_heap_that_grows_has_its_largest_limit() {
 #[test]
 fn each_heap_has_the_thread_of_its_own_calls() {
     let mut recording = Recording::new(Vec::new());
-    let mut meshes = recording.guarded(Guarded::<u32>::with_max_allocs(Global, 100, 8, 1).unwrap()).unwrap();
-    let mut textures = recording.guarded(Guarded::<u32>::with_max_allocs(Global, 100, 8, 2).unwrap()).unwrap();
-    let mut sounds = recording.guarded(Guarded::<u32>::with_max_allocs(Global, 100, 8, 3).unwrap()).unwrap();
+    let mut meshes = recording.guarded(Guarded::<u32>::with_realm(Global, 100, 8, 1).unwrap()).unwrap();
+    let mut textures = recording.guarded(Guarded::<u32>::with_realm(Global, 100, 8, 2).unwrap()).unwrap();
+    let mut sounds = recording.guarded(Guarded::<u32>::with_realm(Global, 100, 8, 3).unwrap()).unwrap();
     // it never says its thread
     sounds.allocate(1);
     meshes.thread(1);
@@ -226,8 +226,8 @@ fn each_heap_has_the_thread_of_its_own_calls() {
 #[test]
 fn each_heap_has_its_own_unit_and_the_file_its_marks() {
     let mut recording = Recording::new(Vec::new());
-    let mut meshes = recording.guarded(Guarded::<u32>::with_max_allocs(Global, 100, 8, 1).unwrap()).unwrap();
-    let mut textures = recording.guarded(Guarded::<u32>::with_max_allocs(Global, 50, 8, 2).unwrap()).unwrap();
+    let mut meshes = recording.guarded(Guarded::<u32>::with_realm(Global, 100, 8, 1).unwrap()).unwrap();
+    let mut textures = recording.guarded(Guarded::<u32>::with_realm(Global, 50, 8, 2).unwrap()).unwrap();
     meshes.unit(32);
     textures.thread(7);
     textures.name("texture");
@@ -250,12 +250,12 @@ fn each_heap_has_its_own_unit_and_the_file_its_marks() {
 #[test]
 fn a_recording_that_is_finished_too_early_goes_on() {
     let mut recording = Recording::new(Vec::new());
-    let mut meshes = recording.guarded(Guarded::<u32>::with_max_allocs(Global, 100, 8, 1).unwrap()).unwrap();
+    let mut meshes = recording.guarded(Guarded::<u32>::with_realm(Global, 100, 8, 1).unwrap()).unwrap();
     recording.name("textures");
     let mut recording = recording.finish().unwrap_err();
     assert_eq!(format!("{recording:?}"), "Recording { heaps: 1, .. }");
     meshes.allocate(9);
-    let textures = recording.guarded(Guarded::<u32>::with_max_allocs(Global, 50, 8, 2).unwrap()).unwrap();
+    let textures = recording.guarded(Guarded::<u32>::with_realm(Global, 50, 8, 2).unwrap()).unwrap();
     let recording = recording.finish().unwrap_err();
     drop((meshes, textures));
     let text = String::from_utf8(recording.finish().unwrap()).unwrap();
@@ -266,7 +266,7 @@ fn a_recording_that_is_finished_too_early_goes_on() {
 fn a_failure_ends_the_recording_alone() {
     let limits = Limits { size: 1000, first_size: 1000, max_allocs: 16, first_allocs: 16, most: 2, most_larger: 1 };
     let mut room = [0u8; 60];
-    let mut heaps = RecordedHeaps::new(Heaps::<u32>::new(Global, limits, 1).unwrap(), &mut room[..]).unwrap();
+    let mut heaps = RecordedHeaps::new(Heaps::<u32>::with_realm(Global, limits, 1).unwrap(), &mut room[..]).unwrap();
     assert!(heaps.allocate(300).is_ok() && heaps.failure().is_none());
     assert!(heaps.allocate(300).is_ok() && heaps.failure().is_some());
     let granted = heaps.allocate(300).unwrap();
@@ -293,7 +293,7 @@ fn random_heaps<T: Tables>(seed: u64) -> (usize, usize) {
     // of some the first heaps are small
     let first_size = if seed % 4 == 0 { 1 + size / 9 } else { size };
     let limits = Limits { size, first_size, max_allocs, first_allocs, most: random.below(5), most_larger: random.below(4) };
-    let mut heaps = HeapsOf::<T>::new(Global, limits, 3).unwrap();
+    let mut heaps = HeapsOf::<T>::with_realm(Global, limits, 3).unwrap();
     let mut places: Vec<Place> = Vec::new();
     if seed % 2 == 0 {
         for _ in 0..random.below(40) {

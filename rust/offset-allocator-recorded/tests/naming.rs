@@ -16,12 +16,12 @@ type Meshes = Beside<Mesh>;
 // A mesh is loaded, as a program does that knows of no recording.
 fn load<W: Write>(heap: &mut Recorded<GuardedOf<ByNode<u32>>, W>, meshes: &mut Meshes, name: &str, size: u32) -> Ticket {
     let ticket = heap.allocate(size).unwrap();
-    assert!(meshes.put(ticket, Mesh { name: name.to_owned() }).is_ok());
+    assert!(meshes.put(heap, ticket, Mesh { name: name.to_owned() }).is_ok());
     ticket
 }
 
 fn space(units: u32, nodes: u32, realm: u32) -> Guarded<u32> {
-    Guarded::with_max_allocs(Global, units, nodes, realm).unwrap()
+    Guarded::with_realm(Global, units, nodes, realm).unwrap()
 }
 
 // The names in a picture, by the numbers of their grants.
@@ -86,7 +86,7 @@ fn a_space_that_there_is_has_its_names() {
     let mut meshes = Meshes::new(Global);
     for (name, size) in [("one", 10), ("two", 20), ("three", 30)] {
         let ticket = begun.allocate(size).unwrap();
-        assert!(meshes.put(ticket, Mesh { name: name.to_owned() }).is_ok());
+        assert!(meshes.put(&begun, ticket, Mesh { name: name.to_owned() }).is_ok());
     }
     let mut heap = Recorded::guarded(begun, Vec::new()).unwrap();
     heap.name_all(&meshes, |mesh| &mesh.name);
@@ -139,11 +139,11 @@ fn ranges_of_many_heaps_have_their_names() {
 #[test]
 fn a_second_range_has_the_name_of_the_first() {
     let limits = Limits { size: 100, first_size: 100, max_allocs: 16, first_allocs: 16, most: 2, most_larger: 0 };
-    let mut heaps = RecordedHeaps::new(Heaps::<u32>::new(Global, limits, 1).unwrap(), Vec::new()).unwrap();
+    let mut heaps = RecordedHeaps::new(Heaps::<u32>::with_realm(Global, limits, 1).unwrap(), Vec::new()).unwrap();
     let mut tables = [Beside::new(Global), Beside::new(Global)];
     let places = [60, 30, 90].map(|size| heaps.allocate(size).unwrap().place);
     for (place, name) in places.iter().zip(["rock", "moss", "sky"]) {
-        assert!(tables[place.heap as usize].put(place.ticket, name).is_ok());
+        assert!(tables[place.heap as usize].put(heaps.heap(place.heap).unwrap(), place.ticket, name).is_ok());
     }
     for (number, table) in [0, 1].into_iter().zip(&tables) {
         heaps.name_all(number, table, |name| name);
@@ -177,12 +177,13 @@ fn what_has_no_name_of_its_own_gets_one() {
     assert_eq!(text, "space 100 nodes 16 index 32\n#  \nalloc 10\n#! name 1 mesh\n");
     // nor is where a second range comes from
     let limits = Limits { size: 100, first_size: 100, max_allocs: 16, first_allocs: 16, most: 2, most_larger: 0 };
-    let mut heaps = RecordedHeaps::new(Heaps::<u32>::new(Global, limits, 1).unwrap(), Vec::new()).unwrap();
+    let mut heaps = RecordedHeaps::new(Heaps::<u32>::with_realm(Global, limits, 1).unwrap(), Vec::new()).unwrap();
     heaps.name("");
     let places = [60, 5, 90].map(|size| heaps.allocate(size).unwrap().place);
     let second = heaps.relocate(places[1]).unwrap();
     let (mut first, mut other) = (Beside::new(Global), Beside::new(Global));
-    assert!(first.put(places[0].ticket, "rock").is_ok() && other.put(second.ticket, "moss").is_ok());
+    assert!(first.put(heaps.heap(0).unwrap(), places[0].ticket, "rock").is_ok());
+    assert!(other.put(heaps.heap(1).unwrap(), second.ticket, "moss").is_ok());
     heaps.name_all(0, &first, |name| name);
     heaps.name_all(1, &other, |name| name);
     let text = String::from_utf8(heaps.finish().1.unwrap()).unwrap();

@@ -296,7 +296,7 @@ fn a_pass_ends_or_goes_on() {
 #[test]
 fn a_compaction_by_steps_can_be_refused() {
     // four blocks at most, and there are four: free 10, grant 2, free 5, grant 3
-    let text = b"space 30 nodes 5 index 16\nalloc 10\nalloc 10\nalloc 10\nfree 1\nshrink 2 5\ncompact 11\ncompact 10\noffset 2\n\
+    let text = b"space 30 nodes 5 index 16\nalloc 10\nalloc 10\nalloc 10\nfree 1\nshrink 2 5\ncompact 11\ncompact 9\noffset 2\n\
         free 3\ncompact 10\nfirst\n";
     let expected = "grant 1 at 0\ngrant 2 at 10\ngrant 3 at 20\nfreed\nshrunk\ncompacted\nnone\noffset 10\nfreed\ncompacted\nrange 2 at 0\n";
     assert_eq!(String::from_utf8(ours(text).unwrap()).unwrap(), expected);

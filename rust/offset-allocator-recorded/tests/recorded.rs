@@ -107,7 +107,7 @@ fn each_call_is_a_line() {
 #[test]
 fn tickets_that_are_not_live_have_no_number() {
     let seen = Seen::default();
-    let mut heap = Recorded::guarded(Guarded::<u32>::with_max_allocs(Global, 1000, 32, 7).unwrap(), seen.clone()).unwrap();
+    let mut heap = Recorded::guarded(Guarded::<u32>::with_realm(Global, 1000, 32, 7).unwrap(), seen.clone()).unwrap();
     let first = heap.allocate(10).unwrap();
     assert!(heap.free(first));
     let second = heap.allocate(10).unwrap();
@@ -137,7 +137,7 @@ fn budgets_are_those_that_were_passed() {
     for (units, ranges, moved) in [(18, 2, 2), (17, 2, 1), (18, 1, 1), (2, 18, 1)] {
         let (seen, other) = (Seen::default(), Seen::default());
         let mut heap = Recorded::new(Allocator::<u32>::with_max_allocs(Global, 100, 16).unwrap(), seen.clone()).unwrap();
-        let mut tickets = Recorded::guarded(Guarded::<u32>::with_max_allocs(Global, 100, 16, 7).unwrap(), other.clone()).unwrap();
+        let mut tickets = Recorded::guarded(Guarded::<u32>::with_realm(Global, 100, 16, 7).unwrap(), other.clone()).unwrap();
         let (hole, ticket) = (heap.allocate(30).unwrap(), tickets.allocate(30).unwrap());
         for size in [10, 8] {
             assert!(heap.allocate(size).is_some() && tickets.allocate(size).is_some());
@@ -218,7 +218,7 @@ fn a_space_without_live_ranges_is_a_header() {
 #[test]
 fn calls_at_a_place_a_raised_limit_and_marks() {
     let seen = Seen::default();
-    let mut heap = Recorded::guarded(Guarded::<u16>::with_max_allocs(Global, 100, 5, 1).unwrap(), seen.clone()).unwrap();
+    let mut heap = Recorded::guarded(Guarded::<u16>::with_realm(Global, 100, 5, 1).unwrap(), seen.clone()).unwrap();
     let first = heap.name("reserved").allocate_at(20, 30).unwrap();
     assert_eq!((first.offset, heap.allocate_at(40, 20)), (20, None));
     // of the 20 units before it 7, and then there are as many blocks as there may be
@@ -370,7 +370,7 @@ fn playing_gives_what_the_calls_gave() {
 fn random_tickets<T: Tables>(seed: u64) {
     let mut random = Random(seed);
     let seen = Seen::default();
-    let mut heap = Recorded::guarded(GuardedOf::<T>::with_max_allocs(Global, 3000, 40, 1).unwrap(), seen.clone()).unwrap();
+    let mut heap = Recorded::guarded(GuardedOf::<T>::with_realm(Global, 3000, 40, 1).unwrap(), seen.clone()).unwrap();
     let (mut tickets, mut expected) = (Vec::new(), Vec::new());
     for _ in 0..300 {
         let of = |random: &mut Random, tickets: &Vec<_>| tickets.get(random.below(tickets.len() as u32 + 1) as usize).copied();

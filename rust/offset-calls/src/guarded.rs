@@ -133,7 +133,7 @@ pub fn play_guarded<T: Tables>(
     assert!(max_allocs < T::Index::MAX - 1, "max_allocs must be at most NI::MAX - 2");
     assert!(calls.iter().all(|it| it.call.is_valid()), "each alignment must be at least 1");
     let mut player: TicketPlayer<T> = TicketPlayer {
-        space: GuardedOf::with_max_allocs(alloc, size, max_allocs, realm)?,
+        space: GuardedOf::with_realm(alloc, size, max_allocs, realm)?,
         tickets: Vec::new(alloc),
     };
     let mut replies = Vec::with_capacity(alloc, calls.len())?;

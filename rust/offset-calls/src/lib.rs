@@ -18,6 +18,10 @@
 
 pub use offset_allocator_memory as memory;
 pub use offset_allocator_memory::{AllocError, Global};
+pub use offset_allocator::{Allocation, Allocator, AllocatorOf, ByField, ByNode, NodeIndex, NodeIndexNonMax};
+pub use offset_allocator::{Refusal, RoomCost, StorageReport, Tables};
+pub use offset_guarded::{Guarded, GuardedOf, Ticket};
+pub use offset_script::{Answer, Command, FullRow, PlayerOf};
 
 mod calls;
 mod ending;

@@ -8,6 +8,9 @@
 
 pub use offset_allocator_memory as memory;
 pub use offset_allocator_memory::{AllocError, Global};
+pub use offset_allocator::{AllocatorOf, ByField, ByNode, Refusal, StorageReport, Tables};
+pub use offset_script::{Answer, Command, FromRead, IndexWidth, IntoWrite, RunFault, Script, ScriptFault, Sink, Source};
+pub use offset_script::{TextBuffer, parse};
 
 mod ages;
 mod axes;

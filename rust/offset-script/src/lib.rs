@@ -9,6 +9,8 @@
 
 pub use offset_allocator_memory as memory;
 pub use offset_allocator_memory::{AllocError, Global};
+pub use offset_allocator::{Allocation, Allocator, AllocatorOf, ByField, ByNode, NodeIndex, NodeIndexNonMax};
+pub use offset_allocator::{StorageReport, StorageReportFull, StorageReportFullRegion, Tables};
 
 mod answer_text;
 mod answers;

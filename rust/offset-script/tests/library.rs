@@ -29,7 +29,7 @@ fn spaces_as_json() {
     let wanted = "{\"General\":{\"API\":\"Vulkan\"},\"DefaultPools\":{\"Type 0\":{\"PreferredBlockSize\":100,\"Blocks\":{\"0\":{\
                   \"TotalBytes\":100,\"UnusedBytes\":92,\"Allocations\":1,\"UnusedRanges\":2,\"Suballocations\":[\
                   {\"Offset\":0,\"Type\":\"FREE\",\"Size\":16},{\"Offset\":16,\"Type\":\"UNKNOWN\",\"Size\":8},\
-                  {\"Offset\":24,\"Type\":\"FREE\",\"Size\":76}]}}}}}";
+                  {\"Offset\":24,\"Type\":\"FREE\",\"Size\":76}]}},\"DedicatedAllocations\":[]}}}";
     assert_eq!(vma_json_of(Global, &space).unwrap(), wanted);
 }
 

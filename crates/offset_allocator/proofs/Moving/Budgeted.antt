@@ -1,12 +1,14 @@
 -- A compaction within a budget: where it begins, and how far it comes.
 use Rattle.offset_allocator.proofs.Common.{◌≡◌, ◌≢◌, ℕ, ◌+◌, ◌<◌, ◌≤◌, Bool, true, false, not, ◌&&◌, nat_le, List, [], ◌∷◌, ◌++◌, Some, None, if◌then◌else◌, refl, sym, ap, subst, ◌∙◌, arith, nat_tests, Block, units}
-use Rattle.offset_allocator.proofs.Common.{◌⊎◌, inl, inr, cases_lt, ends_used, first_or, last_or, one, true≢false, count_used, used_units, append_assoc, ChainCells, IsChain, IsSpace, HasPlace, blocks, Option}
+use Rattle.offset_allocator.proofs.Common.{◌⊎◌, inl, inr, cases_lt, ◌↔◌, ◌%◌, nat_eq, ap₂, ends_used, first_or, last_or, one, true≢false, count_used, used_units, append_assoc, ChainCells, IsChain, IsSpace, HasPlace, blocks, Option}
 use Rattle.offset_allocator.proofs.{Linking.Places.placed, Tallies.tally_append}
+use Rattle.offset_allocator.proofs.Moving.Stepping.{emptied_free, emptied_used, freed_here, freed_now, freed_still}
+use Rattle.offset_allocator.specs.Moving.Spans.{all_steps}
 use Rattle.offset_allocator.proofs.{Sound.Fields, Moving.Rooms.apart_few, Views.ViewApart.apart_parts, Common.AreCoalesced, Common.max, Common.◌*◌, Moving.Compacting.live_append, Moving.Stepped.stepped_fewer, Moving.Stepped.stepped_length, Moving.Stepped.stepped_live}
-use Rattle.offset_allocator.proofs.Common.{View, AdmitsBlocks, IsWellFormed, append-nil, free_block, length, length-append, live, starts_free}
+use Rattle.offset_allocator.proofs.Common.{View, IsWellFormed, append-nil, free_block, length, length-append, live, starts_free}
 use Rattle.offset_allocator.specs.declared.moves.budget.{Progress.Progress, Reach.Reach}
 use Rattle.offset_allocator.specs.{Accesses.Costs}
-use Rattle.offset_allocator.specs.Moving.{BySteps.given_up, BySteps.stepped}
+use Rattle.offset_allocator.specs.Moving.{BySteps.CanFollow, BySteps.given_up, BySteps.stepped, BySteps.used_up}
 use Rattle.offset_allocator.specs.Moving.Budget.{first_from, start_of, IsWithin, IsRunWithin, SlidesWithin, StopsAt}
 
 -- one block more in front
@@ -153,13 +155,13 @@ stops_apart u r bs [] s = refl
 stops_apart u r bs (b ∷ back) s = ap not s.0
 
 -- a free block after it has a node
-pub few_left : (t m : ℕ) (v : View) → IsWellFormed v → v.max_allocs ≡ m → (front run back : List Block) → v.blocks ≡ front ++ (run ++ back) → run ≢ [] → AdmitsBlocks 1 v ⊎ (ends_used run ≡ false)
+pub few_left : (t m : ℕ) (v : View) → IsWellFormed v → v.max_allocs ≡ m → (front run back : List Block) → v.blocks ≡ front ++ (run ++ back) → CanFollow t v run
     → length front + (length (stepped t run) + length back) + 2 ≤ m
-few_left t m v w limit front run back is some can =
+few_left t m v w limit front run back is can =
     let n : length v.blocks ≡ length front + (length run + length back) = omega (arith, ap (λ (l : List Block). length l) is, length-append front (run ++ back), length-append run back) in
     elim can [
       | inl room ↦ omega (arith, room, n, limit, stepped_length t run)
-      | inr e ↦ omega (arith, w.room, n, limit, stepped_fewer t run some e)
+      | inr e ↦ omega (arith, w.room, n, limit, stepped_fewer t run e)
     ]
 
 module _ (s from u r : ℕ) where
@@ -172,8 +174,87 @@ module _ (s from u r : ℕ) where
       ∙ ap (λ l. l ++ live h.back) (live_append (stepped s run) (free_block h.name (given_up s run) ∷ []) ∙ append-nil (live (stepped s run)) ∙ stepped_live s run)
       ∙ sym (live_append run h.back)) ∙ sym (live_append h.front (run ++ h.back)) ∙ sym (ap live h.reached.is)
 
+-- one more free block of whole steps at the end
+pub added_whole : (s : ℕ) (bs : List Block) (c : Block) → all_steps s (bs ++ c ∷ []) ≡ all_steps s bs + one (not c.used && nat_eq (c.size % s) 0)
+added_whole s bs c = omega (arith, tally_append (λ (b : Block). one (not b.used && nat_eq (b.size % s) 0)) bs (c ∷ []))
+
+one_whole : (s : ℕ) (b : Block) → 1 ≤ one (not b.used && nat_eq (b.size % s) 0) → (b.used ≡ false) × (b.size % s ≡ 0)
+one_whole s b l = go b.used refl (nat_eq (b.size % s) 0) refl
+  where
+    go : (u : Bool) → b.used ≡ u → (t : Bool) → nat_eq (b.size % s) 0 ≡ t → (b.used ≡ false) × (b.size % s ≡ 0)
+    go true u t q = absurd (omega (arith, l, ap (λ (v : Bool). one (not v && nat_eq (b.size % s) 0)) u))
+    go false u true q = (u, grind (arith, nat_tests))
+    go false u false q = absurd (omega (arith, l, ap (λ (v : Bool). one (not v && nat_eq (b.size % s) 0)) u, ap one q))
+
+pub whole_one : (s : ℕ) (b : Block) → b.used ≡ false → b.size % s ≡ 0 → one (not b.used && nat_eq (b.size % s) 0) ≡ 1
+whole_one s b u z = ap₂ (λ (v : Bool) (n : ℕ). one (not v && nat_eq n 0)) u z
+
+-- a block of a run is used up where the last one is free, or one of them has whole steps
+pub freed_run : (s : ℕ) (b : Block) (bs : List Block) → used_up s (b ∷ bs) ≢ [] → (1 ≤ all_steps s (b ∷ bs)) ⊎ (ends_used (b ∷ bs) ≡ false)
+freed_run s b [] e = go b.used refl
+  where
+    go : (u : Bool) → b.used ≡ u → (1 ≤ all_steps s (b ∷ [])) ⊎ (ends_used (b ∷ []) ≡ false)
+    go true u = absurd (e (emptied_used s b [] u))
+    go false u = inr u
+freed_run s b (c ∷ cs) e = elim (freed_here s b (c ∷ cs) (λ q. absurd (cc)) e) [
+  | inl more ↦ elim (freed_run s c cs more) [ inl l ↦ inl (omega (arith, l)) | inr u ↦ inr u ]
+  | inr h ↦ inl (omega (arith, whole_one s b h.0 h.1))
+]
+
+pub run_freed : (s : ℕ) (b : Block) (bs : List Block) → (1 ≤ all_steps s (b ∷ bs)) ⊎ (ends_used (b ∷ bs) ≡ false) → used_up s (b ∷ bs) ≢ []
+run_freed s b [] (inl l) = let w = one_whole s b (omega (arith, l)) in freed_now s b [] w.0 w.1
+run_freed s b [] (inr u) = λ q. let k : b ∷ [] ≡ [] = sym (emptied_free s b [] u 0 refl) ∙ q in absurd (cc)
+run_freed s b (c ∷ cs) (inl l) = elim (cases_lt 0 (one (not b.used && nat_eq (b.size % s) 0))) [
+  | inl here ↦ let w = one_whole s b (omega (arith, here)) in freed_now s b (c ∷ cs) w.0 w.1
+  | inr none ↦ freed_still s b (c ∷ cs) (run_freed s c cs (inl (omega (arith, l, none))))
+]
+run_freed s b (c ∷ cs) (inr u) = freed_still s b (c ∷ cs) (run_freed s c cs (inr u))
+
+-- whether a free block can follow a run, so far
+abbrev pub IsFollowed : ℕ → Bool → Bool → List Block → Type 0
+IsFollowed s admits t bs = (t ≡ true) ↔ ((admits ≡ true) ⊎ (1 ≤ all_steps s bs))
+
+module _ (s : ℕ) (b : Block) (admits : Bool) where
+  pub followed_first : (t : Bool) → (t ≡ true) ↔ ((admits ≡ true) ⊎ (b.size % s ≡ 0)) → b.used ≡ false → IsFollowed s admits t (b ∷ [])
+  followed_first t h u = (
+    λ e. elim (h.0 e) [ inl a ↦ inl a | inr z ↦ inr (omega (arith, whole_one s b u z)) ],
+    λ e. elim e [ inl a ↦ h.1 (inl a) | inr l ↦ h.1 (inr (one_whole s b (omega (arith, l))).1) ],
+  )
+
+  -- one block more
+  pub followed_on : (rest : List Block) (c : Block) (was is : Bool) → IsFollowed s admits was (b ∷ rest) → (is ≡ true) ↔ ((was ≡ true) ⊎ ((c.used ≡ false) × (c.size % s ≡ 0)))
+      → IsFollowed s admits is (b ∷ (rest ++ c ∷ []))
+  followed_on rest c was is h k =
+      let more = added_whole s (b ∷ rest) c in (
+        λ e. elim (k.0 e) [
+          | inl w ↦ elim (h.0 w) [ inl a ↦ inl a | inr l ↦ inr (omega (arith, l, more)) ]
+          | inr z ↦ inr (omega (arith, more, whole_one s c z.0 z.1))
+        ],
+        λ e. elim e [
+          | inl a ↦ k.1 (inl (h.1 (inl a)))
+          | inr l ↦ elim (cases_lt 0 (one (not c.used && nat_eq (c.size % s) 0))) [
+            | inl here ↦ k.1 (inr (one_whole s c (omega (arith, here))))
+            | inr none ↦ k.1 (inl (h.1 (inr (omega (arith, l, more, none)))))
+          ]
+        ],
+      )
+
+  -- where the run ends
+  pub followed_end : (rest : List Block) (t end : Bool) → ends_used (b ∷ rest) ≡ end → IsFollowed s admits t (b ∷ rest)
+      → ((t ≡ true) ⊎ (end ≡ false)) ↔ ((admits ≡ true) ⊎ (used_up s (b ∷ rest) ≢ []))
+  followed_end rest t end e h = (
+    λ can. elim can [
+      | inl w ↦ elim (h.0 w) [ inl a ↦ inl a | inr l ↦ inr (run_freed s b rest (inl l)) ]
+      | inr u ↦ inr (run_freed s b rest (inr (e ∙ u)))
+    ],
+    λ can. elim can [
+      | inl a ↦ inl (h.1 (inl a))
+      | inr f ↦ elim (freed_run s b rest f) [ inl l ↦ inl (h.1 (inr l)) | inr u ↦ inr (sym e ∙ u) ]
+    ],
+  )
+
 -- the run that was found in sound fields
-pub record Run (f : Fields) (x : ℕ) (reach : Reach) (v : View) (s from u r : ℕ) : Type 0 where
+pub record Run (f : Fields) (x : ℕ) (admits : Bool) (reach : Reach) (v : View) (s from u r : ℕ) : Type 0 where
   pub front : List Block
   pub first : Block
   pub rest : List Block
@@ -182,7 +263,7 @@ pub record Run (f : Fields) (x : ℕ) (reach : Reach) (v : View) (s from u r : �
   pub place : HasPlace f.cells.chain f.cells.chain.reserved f.last f.count x (record { before = front; block = first; after = rest ++ back })
   pub free : first.used ≡ false
   pub end : last_or None (first ∷ rest) ≡ Some reach.end
-  pub end_used : ends_used (first ∷ rest) ≡ reach.end_used
+  pub follows : ((reach.follows ≡ true) ⊎ (reach.end_used ≡ false)) ↔ ((admits ≡ true) ⊎ (used_up s (first ∷ rest) ≢ []))
   pub reached : IsRunWithin s from u r v front first rest back
   pub progress : reach.progress ≡ record { units = used_units rest; ranges = count_used rest; next = start_of (units (front ++ first ∷ rest)) back }
 
@@ -197,8 +278,8 @@ few_rest u r v w front b rest back is free within =
 
 -- what the search for the first block and that for the run count
 pub searches_cost : {a k₁ k₂ : ℕ} (u r : ℕ) (bs : List Block) (v : View) → IsWellFormed v → (front : List Block) (b : Block) (rest back after : List Block) → bs ≡ v.blocks → a ≡ v.accesses
-    → bs ≡ front ++ b ∷ after → after ≡ rest ++ back → b.used ≡ false → IsWithin u r rest → Costs 0 (5 * length bs) a k₁ → k₁ ≤ k₂ → k₂ ≤ k₁ + 3 * length rest + 4
-    → (v.accesses ≤ k₂) × (k₂ ≤ v.accesses + (8 * length v.blocks + 4)) × (k₂ ≤ v.accesses + (5 * length v.blocks + 6 * max 1 r + 4))
+    → bs ≡ front ++ b ∷ after → after ≡ rest ++ back → b.used ≡ false → IsWithin u r rest → Costs 0 (5 * length bs) a k₁ → k₁ ≤ k₂ → k₂ ≤ k₁ + 3 * length rest + 5
+    → (v.accesses ≤ k₂) × (k₂ ≤ v.accesses + (8 * length v.blocks + 5)) × (k₂ ≤ v.accesses + (5 * length v.blocks + 6 * max 1 r + 5))
 searches_cost u r bs v w front b rest back after now old is parts free within first more run =
     let all = ap (λ (l : List Block). length l) now in
     let n = ap (λ (l : List Block). length l) is in

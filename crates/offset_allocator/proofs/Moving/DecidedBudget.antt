@@ -3,8 +3,8 @@ use Rattle.offset_allocator.proofs.{Decided.both_leave, Decided.both_stay, Decid
 use Rattle.offset_allocator.proofs.{Tallies.tally_append, Tallies.one-same}
 use Rattle.offset_allocator.proofs.Common.{◌≡◌, ℕ, ◌+◌, ◌≤◌, true, List, [], ◌∷◌, ◌++◌, Option, Some, None, nat_eq, refl, sym, ap, ap₂, subst, ◌∙◌, inl, inr, arith, length, FoldsTo}
 use Rattle.offset_allocator.proofs.Common.{Block, View, units, one, count_used, used_units, count_named, free_block, replace, append_assoc, IsWellFormed, Move, if◌then◌else◌}
-use Rattle.offset_allocator.specs.Moving.BySteps.{given_up, moves_by, stepped, used_up}
-use Rattle.offset_allocator.specs.Moving.Budget.{CanFollow, CompactsWithin, IsRunWithin, IsWithin, SlidesWithin, StopsAt, first_from, start_of}
+use Rattle.offset_allocator.specs.Moving.BySteps.{CanFollow, given_up, moves_by, stepped, used_up}
+use Rattle.offset_allocator.specs.Moving.Budget.{CompactsWithin, IsRunWithin, IsWithin, SlidesWithin, StopsAt, first_from, start_of}
 use Rattle.offset_allocator.specs.{Names.names_of, Relations.SameState}
 use Rattle.offset_allocator.specs.declared.moves.budget.Progress.{Progress}
 
@@ -13,7 +13,7 @@ there : (x : ℕ) (gs : List Block) (c : Block) (cs : List Block) → c.name ≡
 there x gs c cs e =
     omega (arith, tally_append (λ (b : Block). one (nat_eq x b.name)) gs (c ∷ cs), one-same x, ap (λ (y : ℕ). one (nat_eq x y)) e)
 
-same_named : (fs gs : List Block) (b c : Block) (bs cs : List Block) → fs ++ b ∷ bs ≡ gs ++ c ∷ cs → ((x : ℕ) → count_named x (fs ++ b ∷ bs) ≤ 1) → b.name ≡ c.name → (fs ≡ gs) × (b ≡ c) × (bs ≡ cs)
+pub same_named : (fs gs : List Block) (b c : Block) (bs cs : List Block) → fs ++ b ∷ bs ≡ gs ++ c ∷ cs → ((x : ℕ) → count_named x (fs ++ b ∷ bs) ≤ 1) → b.name ≡ c.name → (fs ≡ gs) × (b ≡ c) × (bs ≡ cs)
 same_named [] [] b c bs cs e once n = let q : b ∷ bs ≡ c ∷ cs = e in (refl, cc, cc)
 same_named [] (d ∷ gs) b c bs cs e once n =
     let q : b ∷ bs ≡ d ∷ (gs ++ c ∷ cs) = e in
@@ -112,11 +112,11 @@ module _ (s from u r : ℕ) (v : View) (known : IsWellFormed v) (a : ℕ) where
   within_same R o w w' f g g' None (Some q) m (inl e) = let z = sym m.2.4.begins ∙ e.0 in absurd (cc)
   within_same R o w w' f g g' None (Some q) m (inr k) =
       let e = one_run m.2.0 m.2.1 m.2.2 m.2.3 k.0.front k.0.first k.0.rest k.0.back m.2.4 k.0.reached in
-      absurd (m.2.5 (subst (CanFollow v) (sym (ap₂ (λ (b : Block) (bs : List Block). b ∷ bs) e.1 e.2)) k.1))
+      absurd (m.2.5 (subst (CanFollow s v) (sym (ap₂ (λ (b : Block) (bs : List Block). b ∷ bs) e.1 e.2)) k.1))
   within_same R o w w' f g g' (Some p) None (inl e) n = let z = sym n.2.4.begins ∙ e.0 in absurd (cc)
   within_same R o w w' f g g' (Some p) None (inr k) n =
       let e = one_run k.0.front k.0.first k.0.rest k.0.back n.2.0 n.2.1 n.2.2 n.2.3 k.0.reached n.2.4 in
-      absurd (n.2.5 (subst (CanFollow v) (ap₂ (λ (b : Block) (bs : List Block). b ∷ bs) e.1 e.2) k.1))
+      absurd (n.2.5 (subst (CanFollow s v) (ap₂ (λ (b : Block) (bs : List Block). b ∷ bs) e.1 e.2) k.1))
   within_same R o w w' f g g' (Some p) (Some q) (inl e) (inl k) = (ap Some (e.1 ∙ sym k.1), e.3 ∙ sym k.3, both_stay v w w' e.2 k.2)
   within_same R o w w' f g g' (Some p) (Some q) (inl e) (inr k) = absurd (none_begins' w' q k.0 e.0)
   within_same R o w w' f g g' (Some p) (Some q) (inr e) (inl k) = absurd (none_begins w p e.0 k.0)

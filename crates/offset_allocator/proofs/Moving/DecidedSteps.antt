@@ -1,8 +1,8 @@
 -- A compaction by whole steps: in the same state it leaves the same state.
-use Rattle.offset_allocator.proofs.{Decided.both_leave, Decided.both_stay, Decided.one_name, Moving.Stepping.first_here}
-use Rattle.offset_allocator.proofs.Common.{◌≡◌, ◌≢◌, ℕ, ◌<◌, ◌≤◌, Bool, true, false, not, ◌&&◌, nat_le, Some, None, List, [], ◌∷◌, ◌++◌, length, refl, sym, ap, ap₂, subst, ◌∙◌, arith, inl, inr, AllByRecursion, le-leb}
+use Rattle.offset_allocator.proofs.{Decided.both_leave, Decided.both_stay, Decided.one_name, Moving.Stepping.run_here}
+use Rattle.offset_allocator.proofs.Common.{◌≡◌, ◌≢◌, ℕ, ◌<◌, ◌≤◌, Bool, true, false, not, ◌&&◌, nat_le, List, [], ◌∷◌, ◌++◌, length, refl, sym, ap, ap₂, subst, ◌∙◌, arith, inl, inr, AllByRecursion, le-leb}
 use Rattle.offset_allocator.proofs.Common.{lt-leb, Block, View, free_block, replace}
-use Rattle.offset_allocator.specs.Moving.BySteps.{first_whole, stepped, given_up, used_up, SlidesBy, CompactsBy}
+use Rattle.offset_allocator.specs.Moving.BySteps.{run_by, stepped, given_up, used_up, SlidesBy, CompactsBy}
 use Rattle.offset_allocator.specs.{Names.names_of, Relations.SameState}
 
 same_split : (s : ℕ) (fs gs : List Block) (b c : Block) (bs cs : List Block) → fs ++ b ∷ bs ≡ gs ++ c ∷ cs → AllByRecursion (λ d. d.used ≡ false → d.size < s) fs
@@ -24,10 +24,10 @@ same_split s (d ∷ fs) (k ∷ gs) b c bs cs e f g u v l m =
     (ap₂ (λ (i : Block) (t : List Block). i ∷ t) same r.0, r.1, r.2)
 
 -- there is one where such a block is
-whole_there : (s : ℕ) (fs : List Block) (b : Block) (bs : List Block) → AllByRecursion (λ d. d.used ≡ false → d.size < s) fs → b.used ≡ false → s ≤ b.size → bs ≢ []
-    → first_whole s (fs ++ b ∷ bs) ≡ Some b.name
-whole_there s [] b bs f u l more = first_here s b bs more true (sym (ap (λ t. not t && nat_le s b.size) u ∙ le-leb s b.size l))
-whole_there s (d ∷ fs) b bs f u l more = first_here s d (fs ++ b ∷ bs) (some fs) false (sym (none d.used refl)) ∙ whole_there s fs b bs f.1 u l more
+pub whole_there : (s : ℕ) (fs : List Block) (b : Block) (bs : List Block) → AllByRecursion (λ d. d.used ≡ false → d.size < s) fs → b.used ≡ false → s ≤ b.size → bs ≢ []
+    → run_by s (fs ++ b ∷ bs) ≡ b ∷ bs
+whole_there s [] b bs f u l more = run_here s b bs more true (sym (ap (λ t. not t && nat_le s b.size) u ∙ le-leb s b.size l))
+whole_there s (d ∷ fs) b bs f u l more = run_here s d (fs ++ b ∷ bs) (some fs) false (sym (none d.used refl)) ∙ whole_there s fs b bs f.1 u l more
   where
     some : (gs : List Block) → gs ++ b ∷ bs ≢ []
     some [] q = absurd (cc)
@@ -37,8 +37,8 @@ whole_there s (d ∷ fs) b bs f u l more = first_here s d (fs ++ b ∷ bs) (some
     none true q = ap (λ t. not t && nat_le s d.size) q
     none false q = ap (λ t. not t && nat_le s d.size) q ∙ lt-leb s d.size (f.0 q)
 
-steps_whole : {s : ℕ} {v w : View} → SlidesBy s v w → first_whole s v.blocks ≢ None
-steps_whole {s} {v} {w} h e = let q = sym (whole_there s h.front h.first h.rest h.few h.free h.whole h.more) ∙ ap (first_whole s) (sym h.is) ∙ e in absurd (cc)
+steps_whole : {s : ℕ} {v w : View} → SlidesBy s v w → run_by s v.blocks ≢ []
+steps_whole {s} {v} {w} h e = let q = sym (whole_there s h.front h.first h.rest h.few h.free h.whole h.more) ∙ ap (run_by s) (sym h.is) ∙ e in absurd (cc)
 
 module _ (s : ℕ) (v : View) (a : ℕ) (w w' : View) (f : SlidesBy s v w) (k : SlidesBy s (record v { accesses = a }) w') where
   at : (f.front ≡ k.front) × (f.first ≡ k.first) × (f.rest ≡ k.rest)

@@ -2,15 +2,15 @@
 use Rattle.offset_allocator.proofs.{Joints.free_units-append, Joints.free_units-free, Joints.free_units-used, Joints.free_part_units, Linking.Exchange.each-le, Linking.Exchange.there-below}
 use Rattle.offset_allocator.proofs.{Linking.Places.placed, Moving.Sliding.live_used, Moving.Sliding.live_idle, Moving.Compacting.live_append, Sound.Fields, Sound.AreSound, Sound.shown, Sound.well_counted}
 use Rattle.offset_allocator.proofs.{Moving.Stepping.stepped_used, Moving.Stepping.stepped_free, Moving.Stepping.given_used, Moving.Stepping.given_free, Moving.Stepping.moves_by_used, Moving.Stepping.moves_by_free}
-use Rattle.offset_allocator.proofs.{Moving.Refiled.push_all-append, Moving.Stepping.emptied_used, Moving.Stepping.emptied_free, Linking.Rows.last_or-append, Moving.Stepping.first_here, Moving.Stepping.filed_put, Views.ViewBins.length_put}
+use Rattle.offset_allocator.proofs.{Moving.Refiled.push_all-append, Moving.Stepping.emptied_used, Moving.Stepping.emptied_free, Linking.Rows.last_or-append, Moving.Stepping.run_here, Moving.Stepping.filed_put, Views.ViewBins.length_put}
 use Rattle.offset_allocator.proofs.Views.ViewApart.{apart_parts, apart_append, ends_free, left_false, right_false}
 use Rattle.offset_allocator.proofs.Tallies.{tally_append, units-append, free_units, free_sum, part_sums}
 use Rattle.offset_allocator.proofs.Joints as joints
 use Rattle.offset_allocator.proofs.Common.{◌≡◌, ◌≢◌, ℕ, zero, suc, ◌+◌, ◌-◌, ◌*◌, ◌/◌, ◌%◌, ◌<◌, ◌≤◌, Bool, true, false, not, ◌&&◌, nat_le, Some, None, List, [], ◌∷◌, ◌++◌, if◌then◌else◌, refl, sym}
-use Rattle.offset_allocator.proofs.Common.{ap, subst, ◌∙◌, arith, inl, inr, append_assoc, append-nil, length, length-append, take, AllByRecursion, not-true, not-false, true≢false, leb-true, leb-false, common_steps, last_or, ne_eqb, push_all, remove_all, replace}
-use Rattle.offset_allocator.proofs.Common.{nat_tests, nat_eq, cases_eq, eq-zero-or-pos, Cells, ChainCells, Block, View, one, units, count_used, free_block, free_part, count_named, starts_free, ends_used, live, move_of}
+use Rattle.offset_allocator.proofs.Common.{ap, subst, ◌∙◌, arith, inl, inr, append_assoc, append-nil, length, length-append, take, AllByRecursion, not-true, not-false, true≢false, leb-true, leb-false, common_steps, first_or, last_or, ne_eqb, push_all, remove_all, replace}
+use Rattle.offset_allocator.proofs.Common.{nat_tests, nat_eq, cases_eq, eq-zero-or-pos, Cells, ChainCells, Block, View, one, units, count_used, free_block, free_part, count_named, starts_free, live, move_of}
 use Rattle.offset_allocator.proofs.Common.{down, push, AreInBins, AreCoalesced, IsWellFormed, SameSpace, HasPlace, IsChain, blocks, IsBinned, bins_in}
-use Rattle.offset_allocator.specs.Moving.BySteps.{first_whole, kept, stepped, given_up, used_up, moves_by, CanStep, SlidesBy}
+use Rattle.offset_allocator.specs.Moving.BySteps.{run_by, kept, stepped, given_up, used_up, moves_by, CanFollow, SlidesBy}
 use Rattle.offset_allocator.specs.{Names.IsTaken, Names.names_of}
 use Rattle.std.proofs.Math.Nat.{mod-le, mod-eq_of_lt, mod-mod, add-mod, add-mul-mod_self_right, mul_assoc}
 use Rattle.std.proofs.Math.Nat.{mod-add-div'}
@@ -34,6 +34,7 @@ pub record IsWhole (s : ℕ) (bs : List Block) (x : ℕ) : Type 0 where
   pub free : first.used ≡ false
   pub whole : s ≤ first.size
   pub more : rest ≢ []
+  pub run : run_by s bs ≡ first ∷ rest
   pub moves : (i : ℕ) → moves_by s i i bs ≡ moves_by s (i + units front) (i + units front) (first ∷ rest)
 
 -- a block that is passed before the first one moves none
@@ -52,7 +53,7 @@ module _ (s : ℕ) (b : Block) (bs : List Block) (some : bs ≢ []) (e : (not b.
       go true u = moves_by_used s b bs u i i ∙ ap (λ l. l ++ moves_by s (i + b.size) (i + b.size) bs) (stays i b)
       go false u = moves_by_free s b bs u i i ∙ ap (λ n. moves_by s (i + b.size) (i + n) bs) (whole bs refl (less u))
 
-pub whole_is : (s : ℕ) (bs : List Block) (x : ℕ) → first_whole s bs ≡ Some x → IsWhole s bs x
+pub whole_is : (s : ℕ) (bs : List Block) (x : ℕ) → first_or None (run_by s bs) ≡ Some x → IsWhole s bs x
 whole_is s [] x e = absurd (cc)
 whole_is s (b ∷ []) x e = absurd (cc)
 whole_is s (b ∷ c ∷ bs) x e = go (not b.used && nat_le s b.size) refl (λ h. whole_is s (c ∷ bs) x h)
@@ -60,17 +61,18 @@ whole_is s (b ∷ c ∷ bs) x e = go (not b.used && nat_le s b.size) refl (λ h.
     some : c ∷ bs ≢ []
     some q = absurd (cc)
 
-    go : (t : Bool) → (not b.used && nat_le s b.size) ≡ t → (first_whole s (c ∷ bs) ≡ Some x → IsWhole s (c ∷ bs) x) → IsWhole s (b ∷ c ∷ bs) x
+    go : (t : Bool) → (not b.used && nat_le s b.size) ≡ t → (first_or None (run_by s (c ∷ bs)) ≡ Some x → IsWhole s (c ∷ bs) x) → IsWhole s (b ∷ c ∷ bs) x
     go true t rest = record {
       front = [];
       first = b;
       rest = c ∷ bs;
       is = refl;
-      name = let h : Some b.name ≡ Some x = sym (first_here s b (c ∷ bs) some true (sym t)) ∙ e in cc;
+      name = let h : Some b.name ≡ Some x = ap (first_or None) (sym (run_here s b (c ∷ bs) some true (sym t))) ∙ e in cc;
       few = tt;
       free = not-true b.used (left b.used (nat_le s b.size) t);
       whole = leb-true s b.size (right b.used (nat_le s b.size) t);
       more = some;
+      run = run_here s b (c ∷ bs) some true (sym t);
       moves = λ i. let same : i ≡ i + 0 = omega arith in ap (λ j. moves_by s j j (b ∷ c ∷ bs)) same;
     }
       where
@@ -82,7 +84,7 @@ whole_is s (b ∷ c ∷ bs) x e = go (not b.used && nat_le s b.size) refl (λ h.
         right true v q = absurd (true≢false (sym q))
         right false v q = q
     go false t rest =
-        let o : IsWhole s (c ∷ bs) x = rest (sym (first_here s b (c ∷ bs) some false (sym t)) ∙ e) in
+        let o : IsWhole s (c ∷ bs) x = rest (ap (first_or None) (sym (run_here s b (c ∷ bs) some false (sym t))) ∙ e) in
         record {
           front = b ∷ o.front;
           first = o.first;
@@ -93,11 +95,12 @@ whole_is s (b ∷ c ∷ bs) x e = go (not b.used && nat_le s b.size) refl (λ h.
           free = o.free;
           whole = o.whole;
           more = o.more;
+          run = run_here s b (c ∷ bs) some false (sym t) ∙ o.run;
           moves = λ i. let same : (i + b.size) + units o.front ≡ i + (b.size + units o.front) = omega arith in
               still s b (c ∷ bs) some t i ∙ o.moves (i + b.size) ∙ ap (λ j. moves_by s j j (o.first ∷ o.rest)) same;
         }
 
-pub none_whole : (s : ℕ) (bs : List Block) → first_whole s bs ≡ None → (i : ℕ) → moves_by s i i bs ≡ []
+pub none_whole : (s : ℕ) (bs : List Block) → run_by s bs ≡ [] → (i : ℕ) → moves_by s i i bs ≡ []
 none_whole s [] e i = refl
 none_whole s (b ∷ []) e i = go b.used refl
   where
@@ -109,9 +112,9 @@ none_whole s (b ∷ c ∷ bs) e i = go (not b.used && nat_le s b.size) refl (λ 
     some : c ∷ bs ≢ []
     some q = absurd (cc)
 
-    go : (t : Bool) → (not b.used && nat_le s b.size) ≡ t → (first_whole s (c ∷ bs) ≡ None → moves_by s (i + b.size) (i + b.size) (c ∷ bs) ≡ []) → moves_by s i i (b ∷ c ∷ bs) ≡ []
-    go true t rest = let h : Some b.name ≡ None = sym (first_here s b (c ∷ bs) some true (sym t)) ∙ e in absurd (cc)
-    go false t rest = still s b (c ∷ bs) some t i ∙ rest (sym (first_here s b (c ∷ bs) some false (sym t)) ∙ e)
+    go : (t : Bool) → (not b.used && nat_le s b.size) ≡ t → (run_by s (c ∷ bs) ≡ [] → moves_by s (i + b.size) (i + b.size) (c ∷ bs) ≡ []) → moves_by s i i (b ∷ c ∷ bs) ≡ []
+    go true t rest = let h : b ∷ c ∷ bs ≡ [] = sym (run_here s b (c ∷ bs) some true (sym t)) ∙ e in absurd (cc)
+    go false t rest = still s b (c ∷ bs) some t i ∙ rest (sym (run_here s b (c ∷ bs) some false (sym t)) ∙ e)
 
 -- what is left of a run
 pub stepped_units : (s : ℕ) (bs : List Block) → units (stepped s bs) + given_up s bs ≡ units bs
@@ -187,22 +190,6 @@ stepped_length s (b ∷ bs) = go b.used refl (stepped_length s bs)
       (part_sums b.name (kept s b.size bs)).0,
     )
 
--- a free one at the end goes
-pub stepped_fewer : (s : ℕ) (bs : List Block) → bs ≢ [] → ends_used bs ≡ false → length (stepped s bs) + 1 ≤ length bs
-stepped_fewer s [] some e = absurd (some refl)
-stepped_fewer s (b ∷ []) some e = omega (arith, ap (λ (l : List Block). length l) (stepped_free s b [] e))
-stepped_fewer s (b ∷ c ∷ bs) some e = go b.used refl (stepped_fewer s (c ∷ bs) (λ q. absurd (cc)) e)
-  where
-    go : (u : Bool) → b.used ≡ u → length (stepped s (c ∷ bs)) + 1 ≤ length (c ∷ bs) → length (stepped s (b ∷ c ∷ bs)) + 1 ≤ length (b ∷ c ∷ bs)
-    go true u ih = omega (arith, ih, ap (λ (l : List Block). length l) (stepped_used s b (c ∷ bs) u))
-    go false u ih = omega (
-      arith,
-      ih,
-      ap (λ (l : List Block). length l) (stepped_free s b (c ∷ bs) u),
-      length-append (free_part b.name (kept s b.size (c ∷ bs))) (stepped s (c ∷ bs)),
-      (part_sums b.name (kept s b.size (c ∷ bs))).0,
-    )
-
 -- what free blocks keep is between used ones
 pub stepped_apart : (s : ℕ) (bs : List Block) (h : Block) (cs : List Block) → AreCoalesced bs → AreCoalesced (h ∷ cs) → AreCoalesced (stepped s bs ++ h ∷ cs)
 stepped_apart s [] h cs a k = k
@@ -252,6 +239,14 @@ used_up_length s (b ∷ bs) = go b.used refl (used_up_length s bs)
       length-append (if nat_eq (kept s b.size bs) 0 then b ∷ [] else []) (used_up s bs),
       part (kept s b.size bs),
     )
+
+-- so where one is used up, there are fewer
+pub stepped_fewer : (s : ℕ) (bs : List Block) → used_up s bs ≢ [] → length (stepped s bs) + 1 ≤ length bs
+stepped_fewer s bs e = let n = used_up_length s bs in go (used_up s bs) n e
+  where
+    go : (l : List Block) → length (stepped s bs) + length l ≡ length bs → l ≢ [] → length (stepped s bs) + 1 ≤ length bs
+    go [] n some = absurd (some refl)
+    go (b ∷ l) n some = omega (arith, n)
 
 -- the bins, once the free ones have left theirs, and what they keep is in its own
 abbrev pub refiled : ℕ → List Block → List (List ℕ) → List (List ℕ)
@@ -393,13 +388,8 @@ module _ (f : Fields) (s : AreSound f) (t : ℕ) (x : ℕ) (o : IsWhole t (block
   pub run_ends : last_or None (o.first ∷ o.rest) ≡ Some f.last
   run_ends = sym (ap (last_or None) o.is ∙ last_or-append None o.front run) ∙ s.space.ends
 
-  ends : (fs : List Block) → ends_used (fs ++ o.first ∷ o.rest) ≡ ends_used (o.first ∷ o.rest)
-  ends [] = refl
-  ends (b ∷ []) = refl
-  ends (b ∷ c ∷ fs) = ends (c ∷ fs)
-
   -- what is left
-  pub fewer : CanStep (shown f) → length o.front + (length (stepped t (o.first ∷ o.rest)) + 0) + 2 ≤ f.limit
+  pub fewer : CanFollow t (shown f) (o.first ∷ o.rest) → length o.front + (length (stepped t (o.first ∷ o.rest)) + 0) + 2 ≤ f.limit
   fewer can = elim can [
     | inl room ↦ omega (arith, room, ap (λ (l : List Block). length l) o.is, length-append o.front run, stepped_length t run)
     | inr e ↦ omega (
@@ -407,7 +397,7 @@ module _ (f : Fields) (s : AreSound f) (t : ℕ) (x : ℕ) (o : IsWhole t (block
       (well_counted (shown (record f { accesses = 0 })) f.accesses s.well).room,
       ap (λ (l : List Block). length l) o.is,
       length-append o.front run,
-      stepped_fewer t run (λ q. absurd (cc)) (sym (ends o.front) ∙ sym (ap ends_used o.is) ∙ e),
+      stepped_fewer t run e,
     )
   ]
 

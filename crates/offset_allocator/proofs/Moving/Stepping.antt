@@ -6,8 +6,8 @@ use Rattle.offset_allocator.proofs.{Moving.Gaps.next_after, Moving.Gaps.seen, Mo
 use Rattle.offset_allocator.proofs.{Views.ViewBins.hit, Views.ViewBins.length_remove, Views.ViewBins.times_put, Classes.down_small}
 use Rattle.offset_allocator.proofs.Common.{◌≡◌, ◌≢◌, ℕ, ◌+◌, ◌-◌, ◌*◌, ◌<◌, ◌≤◌, Bool, true, false, not, ◌&&◌, nat_le, nat_eq, Some, None, Option, List, [], ◌∷◌, ◌++◌, if◌then◌else◌, refl, sym}
 use Rattle.offset_allocator.proofs.Common.{ap, ap₂, subst, ◌∙◌, arith, append_assoc, append-nil, length, length-append, FoldsTo, ChainCells, node, Block, free_block, free_part, units, first_or, Move, move_of, HasPlace}
-use Rattle.offset_allocator.proofs.Common.{AreInBins, IsAmong, IsUnlisted, ne_eqb, eq-eqb, bin_at, last_or, down, remove, push, push_all, count_named, one}
-use Rattle.offset_allocator.specs.Moving.BySteps.{first_whole, kept, stepped, given_up, used_up, moves_by}
+use Rattle.offset_allocator.proofs.Common.{◌%◌, ◌⊎◌, ◌↔◌, inl, inr, nat_tests, AreInBins, IsAmong, IsUnlisted, ne_eqb, eq-eqb, bin_at, last_or, down, remove, push, push_all, count_named, one}
+use Rattle.offset_allocator.specs.Moving.BySteps.{run_by, kept, stepped, given_up, used_up, moves_by}
 use Rattle.offset_allocator.specs.{Accesses.Costs, Moving.Gaps.HasGap, Moving.Gaps.IsGap, Names.names_of}
 use Rattle.offset_allocator.specs.declared.moves.gap.Gap.{Gap}
 
@@ -17,10 +17,10 @@ rebinned s [] bins = bins
 rebinned s (b ∷ bs) bins = rebinned s bs (if b.used then bins else push_all (free_part b.name (kept s b.size bs)) (remove (down b.size) b.name bins))
 
 -- one block more in front
-pub first_here : (s : ℕ) (b : Block) (bs : List Block) → bs ≢ [] → (u : Bool) → u ≡ (not b.used && nat_le s b.size)
-    → first_whole s (b ∷ bs) ≡ (if u then Some b.name else first_whole s bs)
-first_here s b [] some u e = absurd (some refl)
-first_here s b (c ∷ bs) some u e = ap (λ (t : Bool). if t then Some b.name else first_whole s (c ∷ bs)) (sym e)
+pub run_here : (s : ℕ) (b : Block) (bs : List Block) → bs ≢ [] → (u : Bool) → u ≡ (not b.used && nat_le s b.size)
+    → run_by s (b ∷ bs) ≡ (if u then b ∷ bs else run_by s bs)
+run_here s b [] some u e = absurd (some refl)
+run_here s b (c ∷ bs) some u e = ap (λ (t : Bool). if t then b ∷ c ∷ bs else run_by s (c ∷ bs)) (sym e)
 
 -- a used block stays as it is
 module _ (s : ℕ) (b : Block) (bs : List Block) (u : b.used ≡ true) where
@@ -56,6 +56,75 @@ module _ (s : ℕ) (b : Block) (bs : List Block) (u : b.used ≡ false) where
 
   pub moves_by_free : (i j : ℕ) → moves_by s i j (b ∷ bs) ≡ moves_by s (i + b.size) (j + kept s b.size bs) bs
   moves_by_free i j = ap (λ (t : Bool). if t then move_of i j b ++ moves_by s (i + b.size) (j + b.size) bs else moves_by s (i + b.size) (j + kept s b.size bs) bs) u
+
+-- what one block more in front gives up its node for
+module _ (s : ℕ) (b : Block) where
+  pub freed_here : (bs : List Block) → bs ≢ [] → used_up s (b ∷ bs) ≢ [] → (used_up s bs ≢ []) ⊎ ((b.used ≡ false) × (b.size % s ≡ 0))
+  freed_here [] some e = absurd (some refl)
+  freed_here (c ∷ cs) some e = go b.used refl (nat_eq (b.size % s) 0) refl
+    where
+      go : (u : Bool) → b.used ≡ u → (t : Bool) → nat_eq (b.size % s) 0 ≡ t → (used_up s (c ∷ cs) ≢ []) ⊎ ((b.used ≡ false) × (b.size % s ≡ 0))
+      go true u t q = inl (λ z. e (emptied_used s b (c ∷ cs) u ∙ z))
+      go false u true q = inr (u, grind (arith, nat_tests))
+      go false u false q = inl (λ z. e (ap (λ (v : Bool). (if not v && nat_eq (b.size % s) 0 then b ∷ [] else []) ++ used_up s (c ∷ cs)) u
+          ∙ ap (λ (v : Bool). (if v then b ∷ [] else []) ++ used_up s (c ∷ cs)) q ∙ z))
+
+  pub freed_still : (bs : List Block) → used_up s bs ≢ [] → used_up s (b ∷ bs) ≢ []
+  freed_still bs e z = go (not b.used && nat_eq (kept s b.size bs) 0) z
+    where
+      go : (t : Bool) → (if t then b ∷ [] else []) ++ used_up s bs ≡ [] → ⊥
+      go true q = absurd (cc)
+      go false q = e q
+
+  pub freed_now : (bs : List Block) → b.used ≡ false → b.size % s ≡ 0 → used_up s (b ∷ bs) ≢ []
+  freed_now bs u e z = go (kept s b.size bs) (none bs) (sym (emptied_free s b bs u (kept s b.size bs) refl) ∙ z)
+    where
+      none : (l : List Block) → kept s b.size l ≡ 0
+      none [] = refl
+      none (c ∷ cs) = e
+
+      go : (n : ℕ) → n ≡ 0 → (if nat_eq n 0 then b ∷ [] else []) ++ used_up s bs ≡ [] → ⊥
+      go n q r = let k : b ∷ used_up s bs ≡ [] = ap (λ (m : ℕ). (if nat_eq m 0 then b ∷ [] else []) ++ used_up s bs) (sym q) ∙ r in absurd (cc)
+
+-- a walk back knows whether a free block can follow these blocks
+abbrev pub IsFreed : ℕ → Bool → Bool → List Block → Type 0
+IsFreed s admits t bs = (t ≡ true) ↔ ((admits ≡ true) ⊎ (used_up s bs ≢ []))
+
+pub follows_none : (s : ℕ) (admits : Bool) → IsFreed s admits admits []
+follows_none s admits = (λ e. inl e, λ e. elim e [ inl a ↦ a | inr f ↦ absurd (f refl) ])
+
+pub freed_end : (s : ℕ) (admits t : Bool) (b : Block) → (t ≡ true) ↔ ((admits ≡ true) ⊎ (b.used ≡ false)) → IsFreed s admits t (b ∷ [])
+freed_end s admits t b h = (
+  λ e. elim (h.0 e) [ inl a ↦ inl a | inr u ↦ inr (λ q. let k : b ∷ [] ≡ [] = sym (emptied_free s b [] u 0 refl) ∙ q in absurd (cc)) ],
+  λ e. elim e [ inl a ↦ h.1 (inl a) | inr f ↦ h.1 (inr (idle b.used refl f)) ],
+)
+  where
+    idle : (u : Bool) → b.used ≡ u → used_up s (b ∷ []) ≢ [] → b.used ≡ false
+    idle true u f = absurd (f (emptied_used s b [] u))
+    idle false u f = u
+
+module _ (s : ℕ) (b : Block) (bs : List Block) (admits : Bool) where
+  -- one block more
+  pub freed_on : bs ≢ [] → (was is : Bool) → IsFreed s admits was bs → (is ≡ true) ↔ ((was ≡ true) ⊎ ((b.used ≡ false) × (b.size % s ≡ 0))) → IsFreed s admits is (b ∷ bs)
+  freed_on some was is h k = (
+    λ e. elim (k.0 e) [
+      | inl w ↦ elim (h.0 w) [ inl a ↦ inl a | inr f ↦ inr (freed_still s b bs f) ]
+      | inr n ↦ inr (freed_now s b bs n.0 n.1)
+    ],
+    λ e. elim e [
+      | inl a ↦ k.1 (inl (h.1 (inl a)))
+      | inr f ↦ elim (freed_here s b bs some f) [ inl g ↦ k.1 (inl (h.1 (inr g))) | inr n ↦ k.1 (inr n) ]
+    ],
+  )
+
+  pub follows_on : (u freed was is : Bool) → IsFreed s admits freed (b ∷ bs) → IsFreed s admits was (run_by s bs) → is ≡ (if u then freed else was)
+      → run_by s (b ∷ bs) ≡ (if u then b ∷ bs else run_by s bs) → IsFreed s admits is (run_by s (b ∷ bs))
+  follows_on true freed was is h k e r = subst (IsFreed s admits is) (sym r) (subst (λ t. IsFreed s admits t (b ∷ bs)) (sym e) h)
+  follows_on false freed was is h k e r = subst (IsFreed s admits is) (sym r) (subst (λ t. IsFreed s admits t (run_by s bs)) (sym e) k)
+
+  pub named_on : (u : Bool) (x : ℕ) (first : Option ℕ) → b.name ≡ x → first ≡ first_or None (run_by s bs) → (if u then Some x else first) ≡ first_or None (if u then b ∷ bs else run_by s bs)
+  named_on true x first n e = ap Some (sym n)
+  named_on false x first n e = e
 
 -- a free block goes into its bin
 pub filed_put : (fs cs : List Block) (d : Block) (ls : List (List ℕ)) → d.used ≡ false → length ls ≡ 256 → AreInBins (fs ++ cs) ls → AreInBins ((fs ++ d ∷ []) ++ cs) (push (down d.size) d.name ls)

@@ -1,13 +1,12 @@
 -- What `compact_within` leaves: a compaction by whole steps that goes on from an offset, and stops within a budget.
-use Rattle.std.specs.Prelude.{◌≡◌, ℕ, ◌+◌, ◌≤◌, ◌⊎◌, true, false, not, ◌&&◌, List, [], ◌∷◌, ◌++◌, Option, Some, None, length, nat_le, if◌then◌else◌}
+use Rattle.std.specs.Prelude.{◌≡◌, ℕ, ◌+◌, ◌≤◌, ◌⊎◌, true, not, ◌&&◌, List, [], ◌∷◌, ◌++◌, Option, Some, None, length, nat_le, if◌then◌else◌}
 use Rattle.std.specs.List.{FoldsTo}
 use Rattle.offset_allocator.specs.declared.moves.budget.Progress.{Progress}
-use Rattle.offset_allocator.specs.Moving.BySteps.{given_up, moves_by, stepped, used_up}
+use Rattle.offset_allocator.specs.Moving.BySteps.{CanFollow, given_up, moves_by, stepped, used_up}
 use Rattle.offset_allocator.specs.Moving.Compacting.{Move}
 use Rattle.offset_allocator.specs.Names.{IsTaken, names_of}
 use Rattle.offset_allocator.specs.Relations.{SameSpace, SameState}
-use Rattle.offset_allocator.specs.Requests.{AdmitsBlocks}
-use Rattle.offset_allocator.specs.View.{View, Block, ends_used, free_block, replace, units, count_used, used_units}
+use Rattle.offset_allocator.specs.View.{View, Block, free_block, replace, units, count_used, used_units}
 
 -- the name of the first free block of at least a step that ends at an offset or behind it and has a block after it, of
 -- blocks that begin at o
@@ -51,15 +50,11 @@ pub record SlidesWithin (s from u r : ℕ) (v w : View) (p : Progress) : Type 0 
   pub names : w.unused ≡ left ++ names_of (used_up s (first ∷ rest))
   pub view : SameSpace (replace v front (first ∷ rest) (stepped s (first ∷ rest) ++ free_block name (given_up s (first ∷ rest)) ∷ []) back) w
 
--- there is a name for a free block after these blocks, or the last of them is free, whose name is unused then
-abbrev pub CanFollow : View → List Block → Type 0
-CanFollow v bs = AdmitsBlocks 1 v ⊎ (ends_used bs ≡ false)
-
 -- a call: where `first_from` finds no block, nothing changes; where no free block can follow the run, it is refused
 abbrev pub CompactsWithin : {F : Type 0} → (F → Move → F → Type 0) → ℕ → ℕ → ℕ → ℕ → View → F → Option Progress → View → F → Type 0
 CompactsWithin R s from u r v f None w g =
     SameState v w × (g ≡ f)
-    × ((front : List Block) × (first : Block) × (rest back : List Block) × IsRunWithin s from u r v front first rest back × (CanFollow v (first ∷ rest) → ⊥))
+    × ((front : List Block) × (first : Block) × (rest back : List Block) × IsRunWithin s from u r v front first rest back × (CanFollow s v (first ∷ rest) → ⊥))
 CompactsWithin R s from u r v f (Some p) w g =
     ((first_from s from 0 v.blocks ≡ None) × (p ≡ record { units = 0; ranges = 0; next = None }) × SameState v w × (g ≡ f))
-    ⊎ ((k : SlidesWithin s from u r v w p) × CanFollow v (k.first ∷ k.rest) × FoldsTo R f (moves_by s (units k.front) (units k.front) (k.first ∷ k.rest)) g)
+    ⊎ ((k : SlidesWithin s from u r v w p) × CanFollow s v (k.first ∷ k.rest) × FoldsTo R f (moves_by s (units k.front) (units k.front) (k.first ∷ k.rest)) g)

@@ -1,11 +1,11 @@
 -- What `compact_by` leaves: each live range moves by whole steps, so that it keeps what its offset leaves of one.
-use Rattle.std.specs.Prelude.{◌≡◌, ◌≢◌, ℕ, ◌+◌, ◌-◌, ◌%◌, ◌<◌, ◌≤◌, ◌⊎◌, Bool, true, false, not, ◌&&◌, List, [], ◌∷◌, ◌++◌, Option, Some, None, length, nat_eq, nat_le, if◌then◌else◌}
+use Rattle.std.specs.Prelude.{◌≡◌, ◌≢◌, ℕ, ◌+◌, ◌-◌, ◌%◌, ◌<◌, ◌≤◌, ◌⊎◌, Bool, true, false, not, ◌&&◌, List, [], ◌∷◌, ◌++◌, length, nat_eq, nat_le, if◌then◌else◌}
 use Rattle.std.specs.List.{AllByRecursion}
 use Rattle.offset_allocator.specs.Moving.Compacting.{Move, move_of}
 use Rattle.offset_allocator.specs.Names.{IsTaken, names_of}
 use Rattle.offset_allocator.specs.Relations.{SameSpace, SameState}
 use Rattle.offset_allocator.specs.Requests.{AdmitsBlocks}
-use Rattle.offset_allocator.specs.View.{View, Block, ends_used, free_block, free_part, replace}
+use Rattle.offset_allocator.specs.View.{View, Block, free_block, free_part, replace}
 
 -- what a free block of n units keeps, which has these blocks after it: what whole steps leave of it, or 0 where the list
 -- ends with it
@@ -34,15 +34,16 @@ abbrev pub moves_by : ℕ → ℕ → ℕ → List Block → List Move
 moves_by s from to [] = []
 moves_by s from to (b ∷ bs) = if b.used then move_of from to b ++ moves_by s (from + b.size) (to + b.size) bs else moves_by s (from + b.size) (to + kept s b.size bs) bs
 
--- the name of the first free block of at least a step that has a block after it
-abbrev pub first_whole : ℕ → List Block → Option ℕ
-first_whole s [] = None
-first_whole s (b ∷ []) = None
-first_whole s (b ∷ c ∷ bs) = if not b.used && nat_le s b.size then Some b.name else first_whole s (c ∷ bs)
+-- the blocks from the first free one of at least a step on that has a block after it: those that slide
+abbrev pub run_by : ℕ → List Block → List Block
+run_by s [] = []
+run_by s (b ∷ []) = []
+run_by s (b ∷ c ∷ bs) = if not b.used && nat_le s b.size then b ∷ c ∷ bs else run_by s (c ∷ bs)
 
--- the node limit admits one more block, or the last block is free, which gives its name back
-abbrev pub CanStep : View → Type 0
-CanStep v = AdmitsBlocks 1 v ⊎ (ends_used v.blocks ≡ false)
+-- a free block can follow these blocks once they have slid: the node limit admits one more, or one of them is used up,
+-- which gives its node back
+abbrev pub CanFollow : ℕ → View → List Block → Type 0
+CanFollow s v bs = AdmitsBlocks 1 v ⊎ (used_up s bs ≢ [])
 
 -- from the first free block of at least a step on, each free block keeps what whole steps leave of its units, and the
 -- units that they give up are one free block at the end. Each of these free blocks leaves its bin; what it keeps becomes
@@ -62,8 +63,8 @@ pub record SlidesBy (s : ℕ) (v w : View) : Type 0 where
   pub names : w.unused ≡ left ++ names_of (used_up s (first ∷ rest))
   pub view : SameSpace (replace v front (first ∷ rest) (stepped s (first ∷ rest) ++ free_block name (given_up s (first ∷ rest)) ∷ []) []) w
 
--- a compaction by steps: where a free block before another has a step, it is refused exactly if `CanStep` fails; where none
--- has, nothing changes
+-- a compaction by steps: where blocks slide, it is refused exactly if no free block can follow them; where none do, nothing
+-- changes
 abbrev pub CompactsBy : ℕ → View → View → Bool → Type 0
-CompactsBy s v w true = ((first_whole s v.blocks ≡ None) × SameState v w) ⊎ (CanStep v × SlidesBy s v w)
-CompactsBy s v w false = (first_whole s v.blocks ≢ None) × (CanStep v → ⊥) × SameState v w
+CompactsBy s v w true = ((run_by s v.blocks ≡ []) × SameState v w) ⊎ (CanFollow s v (run_by s v.blocks) × SlidesBy s v w)
+CompactsBy s v w false = (run_by s v.blocks ≢ []) × (CanFollow s v (run_by s v.blocks) → ⊥) × SameState v w

@@ -61,4 +61,4 @@ vma_numbers size s =
 
 -- a space with these statistics in the form of VMA's dumps
 abbrev pub vma_space_json : Statistics → View → List ℕ
-vma_space_json s v = vma_numbers v.size s ++ (joined vma_json true (placed 0 v.blocks) ++ codes "]}}}}}")
+vma_space_json s v = vma_numbers v.size s ++ (joined vma_json true (placed 0 v.blocks) ++ codes "]}},\"DedicatedAllocations\":[]}}}")

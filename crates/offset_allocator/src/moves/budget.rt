@@ -1,17 +1,17 @@
 //! A compaction by whole steps that goes on from an offset, and stops within a budget, so that it can be done
 //! over several frames. It changes what `compact_by` changes, for a run of blocks.
-ghost use Rattle.std.specs.Prelude.{◌≡◌, ◌↔◌, ◌+◌, ◌*◌, ◌⊎◌, ◌≤◌, ◌<◌, ◌∷◌, ◌++◌, ℕ, List, None, Some, IfSome};
+ghost use Rattle.std.specs.Prelude.{◌≡◌, ◌≢◌, ◌↔◌, ◌+◌, ◌*◌, ◌⊎◌, ◌≤◌, ◌<◌, [], ◌∷◌, ◌++◌, ℕ, List, None, Some, IfSome};
 ghost use Rattle.std.specs.Prelude.{IsTrue, false, length, max};
 ghost use Rattle.offset_allocator.specs.Accesses.{Costs};
 ghost use Rattle.offset_allocator.specs.Chain.{IsSpace, blocks, last_or};
 ghost use Rattle.offset_allocator.specs.Moving.Budget.{CompactsWithin, IsWithin, StopsAt, first_from, start_of};
+ghost use Rattle.offset_allocator.specs.Moving.BySteps.{used_up};
 ghost use Rattle.offset_allocator.specs.Moving.Compacting.{IsCalledWith, KeepsSizes, live};
-ghost use Rattle.offset_allocator.specs.Requests.{AdmitsBlocks};
-ghost use Rattle.offset_allocator.specs.View.{Block, ends_used, units, count_used, used_units};
+ghost use Rattle.offset_allocator.specs.View.{Block, units, count_used, used_units};
 
 use crate::accesses::Accesses;
 use crate::index::linked;
-use crate::moves::by_steps::{has_step, slide_run};
+use crate::moves::by_steps::{has_step, is_freed, is_freed_by, slide_run};
 use crate::tables::Tables;
 use crate::{AllocatorOf, Move, chain};
 
@@ -31,6 +31,8 @@ pub struct Progress {
 struct Reach {
     end: u32,
     end_used: bool,
+    // whether the node limit admits a free block after it, or one before the last block is used up
+    follows: bool,
     progress: Progress,
 }
 
@@ -71,14 +73,25 @@ fn is_beyond(moved: Progress, size: u32, most_units: u32, most_ranges: u32) -> b
         && (moved.units as u64 + size as u64 > most_units as u64 || moved.ranges >= most_ranges)
 }
 
+// Whether a free block can follow a run: one that ends in a free block has a node for it.
+fn can_follow(reach: Reach) -> bool
+    ensures is { IsTrue result ↔ (IsTrue reach.follows ⊎ (reach.end_used ≡ false)) }
+{
+    !reach.end_used || reach.follows
+}
+
 // The run from the free block `first` on, as far as a budget goes.
+#[inline(always)]
 fn run_from<T: Tables>(
     tables: &T,
     first: u32,
+    step: u32,
+    admits: bool,
     most_units: u32,
     most_ranges: u32,
     count: &mut Accesses,
 ) -> Reach
+    requires some { 1 ≤ step }
     requires place { (last spare : ℕ) × (front : List Block) × (b : Block) × (after : List Block)
         × IsSpace (T.cells tables.now).chain last spare
         × (blocks (T.cells tables.now).chain last ≡ front ++ b ∷ after) × (b.name ≡ first) × (b.used ≡ false) }
@@ -87,18 +100,20 @@ fn run_from<T: Tables>(
         → blocks (T.cells tables.now).chain last ≡ front ++ b ∷ after → b.name ≡ first → b.used ≡ false
         → (rest back : List Block) × (after ≡ rest ++ back) × IsWithin most_units most_ranges rest
         × StopsAt most_units most_ranges rest back × (last_or None (b ∷ rest) ≡ Some result.end)
-        × (ends_used (b ∷ rest) ≡ result.end_used)
+        × ((IsTrue result.follows ⊎ (result.end_used ≡ false))
+        ↔ (IsTrue admits ⊎ (used_up step (b ∷ rest) ≢ [])))
         × (result.progress ≡ record {
           units = used_units rest;
           ranges = count_used rest;
           next = start_of (units (front ++ b ∷ rest)) back;
         })
-        × (count.old ≤ count.new) × (count.new ≤ count.old + 3 * length rest + 4) }
+        × (count.old ≤ count.new) × (count.new ≤ count.old + 3 * length rest + 5) }
 {
     tables.shape();
     let mut reach = Reach {
         end: first,
         end_used: false,
+        follows: is_freed_by(tables, admits, first, step, count),
         progress: Progress {
             units: 0,
             ranges: 0,
@@ -116,6 +131,8 @@ fn run_from<T: Tables>(
             }
             reach.progress.units += size;
             reach.progress.ranges += 1;
+        } else {
+            reach.follows = is_freed(reach.follows, size, step);
         }
         reach.end = name;
         reach.end_used = used;
@@ -125,13 +142,6 @@ fn run_from<T: Tables>(
 }
 
 impl<T: Tables> AllocatorOf<T> {
-    // Whether there is a name for a free block after a run: one that ends in a free block has it.
-    fn can_follow(&self, end_used: bool) -> bool
-        ensures is { IsTrue result ↔ (AdmitsBlocks 1 self.now ⊎ (end_used ≡ false)) }
-    {
-        !end_used || self.admits_blocks(1)
-    }
-
     /// As `compact_by`, for a part of the space: moves the live ranges behind the first free block of at least a
     /// step that ends at the offset `from` or later, in space order, until the next one would take more than
     /// `most_units` units, or more than `most_ranges` ranges, in all. The first one moves in any case, so that
@@ -143,10 +153,10 @@ impl<T: Tables> AllocatorOf<T> {
     /// The result says how many units and ranges moved, each by at least a step, and `next`. That is the same
     /// offset again where a range of no units began there, and `None` where the end of the space was reached: a
     /// pass is done, and the next one begins at 0. Where nothing has to move, these are 0, 0 and `None`. `None`
-    /// is returned, and nothing changes, where the run of blocks that would slide ends in a live range and the
-    /// node limit admits no further block, also where a free block would be used up: with a larger budget the
-    /// run may end elsewhere, and `compact` is never refused. `moved`, handles and alignments are as of
-    /// `compact_by`.
+    /// is returned, and nothing changes, where the free block behind the last range that would move needs a node
+    /// that there is not, as by `compact_by`: the node limit admits no further block, and no free block of the
+    /// run is used up. With a larger budget one may be; where the step is 1 it is never refused. `moved`, handles
+    /// and alignments are as of `compact_by`. If `moved` panics, the allocator must not be used any more: drop it.
     ///
     /// The step has to be at least 1. It walks from the last block back to `from`, also where nothing moves: it
     /// makes at most 5 accesses to the tables for each block, 42 for each range that the budget allows, and 60,
@@ -203,14 +213,17 @@ impl<T: Tables> AllocatorOf<T> {
                 next: None,
             });
         };
+        let admits = self.admits_blocks(1);
         let reach = run_from(
             &self.store.tables,
             first,
+            step,
+            admits,
             most_units,
             most_ranges,
             &mut self.store.accesses,
         );
-        if !self.can_follow(reach.end_used) {
+        if !can_follow(reach) {
             return None;
         }
         slide_run(&mut self.store, first, reach.end, step, moved);

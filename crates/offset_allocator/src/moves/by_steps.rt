@@ -1,13 +1,14 @@
 //! Slides live ranges to the front by whole steps, of the space or of a run of blocks that makes room, so that
 //! each keeps what its offset leaves of a step, and with it its alignment. It may make a node, changes the chain
 //! by one split and by `gap`, and the bins of the free blocks that are passed and of the one at the end.
-ghost use Rattle.std.specs.Prelude.{ℕ, IsTrue, ◌≡◌, ◌↔◌, ◌+◌, ◌*◌, ◌<◌, ◌≤◌, [], ◌∷◌, ◌++◌, List, Some, None, false};
+ghost use Rattle.std.specs.Prelude.{ℕ, IsTrue, ◌≡◌, ◌≢◌, ◌↔◌, ◌⊎◌, ◌+◌, ◌*◌, ◌%◌, ◌<◌, ◌≤◌, [], ◌∷◌, ◌++◌, List, Some};
+ghost use Rattle.std.specs.Prelude.{None, false};
 ghost use Rattle.std.specs.Prelude.{IfSome, true, length, if◌then◌else◌, not, ◌&&◌, nat_eq, nat_le};
 ghost use Rattle.offset_allocator.specs.Cells.{node};
 ghost use Rattle.std.specs.List.{FoldsTo};
 ghost use Rattle.offset_allocator.specs.Accesses.{Costs};
 ghost use Rattle.offset_allocator.specs.Chain.{IsSpace, blocks, first_or, last_or};
-ghost use Rattle.offset_allocator.specs.Moving.BySteps.{CanStep, CompactsBy, used_up, first_whole, given_up, kept};
+ghost use Rattle.offset_allocator.specs.Moving.BySteps.{CompactsBy, given_up, kept, run_by, used_up};
 ghost use Rattle.offset_allocator.specs.Moving.BySteps.{moves_by, stepped};
 ghost use Rattle.offset_allocator.specs.Moving.Compacting.{IsCalledWith, KeepsSizes, live};
 ghost use Rattle.offset_allocator.specs.Classes.{down, up, value};
@@ -44,22 +45,106 @@ pub(crate) fn has_step<T: Tables>(tables: &T, name: u32, step: u32, count: &mut 
     tables.size(name, count) >= step
 }
 
-// The name of the first free block of at least `step` units that has a block after it, if there is one.
-fn first_whole<T: Tables>(tables: &T, last: u32, step: u32, count: &mut Accesses) -> Option<u32>
+// How far a walk back over the blocks of a space came.
+#[derive(Clone, Copy)]
+struct Walk {
+    // the name of the first free block of at least a step that has a block after it, if one was met
+    first: Option<u32>,
+    // whether a free block can follow from there on
+    follows: bool,
+    // the same from the last block that was met
+    freed: bool,
+}
+
+// Whether there is a node already, or a free block of `size` units before another one is used up.
+pub(crate) fn is_freed(freed: bool, size: u32, step: u32) -> bool
+    requires some { 1 ≤ step }
+    ensures is { IsTrue result ↔ (IsTrue freed ⊎ (size % step ≡ 0)) }
+{
+    freed || size % step == 0
+}
+
+// The same of a free block by its name.
+pub(crate) fn is_freed_by<T: Tables>(
+    tables: &T,
+    freed: bool,
+    name: u32,
+    step: u32,
+    count: &mut Accesses,
+) -> bool
+    requires below { name < length (T.cells tables.now).chain.nodes }
+    requires some { 1 ≤ step }
+    ensures is { IsTrue result ↔ (IsTrue freed ⊎ ((node (T.cells tables.now).chain name).size % step ≡ 0)) }
+    ensures accesses { Costs 0 1 count.old count.new }
+{
+    freed || tables.size(name, count) % step == 0
+}
+
+// A walk that meets one block more, which is not the last one.
+fn meet<T: Tables>(tables: &T, walk: Walk, name: u32, step: u32, count: &mut Accesses) -> Walk
+    requires below { name < length (T.cells tables.now).chain.nodes }
+    requires some { 1 ≤ step }
+    ensures first { result.first ≡ (if not (node (T.cells tables.now).chain name).used
+        && nat_le step (node (T.cells tables.now).chain name).size then Some name else walk.first) }
+    ensures follows { result.follows ≡ (if not (node (T.cells tables.now).chain name).used
+        && nat_le step (node (T.cells tables.now).chain name).size then result.freed else walk.follows) }
+    ensures freed { IsTrue result.freed ↔ (IsTrue walk.freed
+        ⊎ (((node (T.cells tables.now).chain name).used ≡ false)
+        × ((node (T.cells tables.now).chain name).size % step ≡ 0))) }
+    ensures accesses { Costs 1 2 count.old count.new }
+{
+    if chain::is_used(tables, name, count) {
+        return walk;
+    }
+    let size = tables.size(name, count);
+    let freed = is_freed(walk.freed, size, step);
+    if size >= step {
+        return Walk {
+            first: Some(name),
+            follows: freed,
+            freed,
+        };
+    }
+    Walk { freed, ..walk }
+}
+
+// Whether there is a node already, or the last block is free, which is used up then.
+fn can_end<T: Tables>(tables: &T, admits: bool, last: u32, count: &mut Accesses) -> bool
+    requires { last < length (T.cells tables.now).chain.nodes }
+    ensures is { IsTrue result ↔ (IsTrue admits ⊎ ((node (T.cells tables.now).chain last).used ≡ false)) }
+    ensures accesses { Costs 0 1 count.old count.new }
+{
+    admits || !chain::is_used(tables, last, count)
+}
+
+// The first free block of at least `step` units that has a block after it, if there is one, and whether a free
+// block can follow those from there on: where the node limit admits one, or one of them is used up.
+fn first_whole<T: Tables>(
+    tables: &T,
+    last: u32,
+    step: u32,
+    admits: bool,
+    count: &mut Accesses,
+) -> Walk
+    requires some { 1 ≤ step }
     requires space { (spare : ℕ) × IsSpace (T.cells tables.now).chain last spare }
-    ensures first { result ≡ first_whole step (blocks (T.cells tables.now).chain last) }
+    ensures first { result.first ≡ first_or None (run_by step (blocks (T.cells tables.now).chain last)) }
+    ensures follows { IsTrue result.follows
+        ↔ (IsTrue admits ⊎ (used_up step (run_by step (blocks (T.cells tables.now).chain last)) ≢ [])) }
     ensures accesses { Costs (length (blocks (T.cells tables.now).chain last))
         (3 * length (blocks (T.cells tables.now).chain last)) count.old count.new }
 {
-    let mut first = None;
+    let mut walk = Walk {
+        first: None,
+        follows: admits,
+        freed: can_end(tables, admits, last, count),
+    };
     let mut at = chain::before(tables, last, count);
     while let Some(name) = at {
-        if has_step(tables, name, step, count) {
-            first = Some(name);
-        }
+        walk = meet(tables, walk, name, step, count);
         at = chain::before(tables, name, count);
     }
-    first
+    walk
 }
 
 // What a free block of `size` units keeps, which has the block after it that a link names: what whole steps
@@ -201,19 +286,6 @@ pub(crate) fn slide_run<T: Tables, F: FnMut(Move<T::Index>)>(
 }
 
 impl<T: Tables> AllocatorOf<T> {
-    // Whether there is a name for the block that is left at the end.
-    fn can_step(&mut self) -> bool
-        ensures is { IsTrue result ↔ CanStep self.old }
-        ensures same { SameState self.old self.new }
-        ensures accesses { Costs 0 1 self.old.accesses self.new.accesses }
-    {
-        if self.admits_blocks(1) {
-            return true;
-        }
-        let last = self.store.last;
-        !chain::is_used(&self.store.tables, last, &mut self.store.accesses)
-    }
-
     /// As `compact`, by whole steps: each live range moves to the front by a multiple of `step` units, by as
     /// many as the free blocks before it have, and so keeps its alignment where that divides `step`. An
     /// engine passes the least common multiple of the alignments that it uses. What whole steps leave of a
@@ -223,8 +295,10 @@ impl<T: Tables> AllocatorOf<T> {
     /// Every handle stays live, with its name and its size; only the public `offset` of a moved one is that
     /// of before, and `allocation_offset` returns the new one. Nothing changes where no free block before
     /// another block has a whole step. `false` is returned, and nothing changes, where there is such a block
-    /// but the last one is live and the node limit admits no further block, also where a free block would be
-    /// used up; `compact` is never refused.
+    /// but the free block at the end would need a node that there is not: the node limit admits no further
+    /// block, and none of the free ones from that one on is used up, which would give its node back, as one of
+    /// whole steps is, and a last one. So where the step is 1 it is never refused, as `compact` is not. If
+    /// `moved` panics, the allocator must not be used any more: drop it.
     ///
     /// The step has to be at least 1. It makes at most 21 accesses to the tables for each block, and 40, and
     /// takes no memory.
@@ -251,13 +325,19 @@ impl<T: Tables> AllocatorOf<T> {
         // The step as a whole: what stays of the free blocks, and the one at the end.
         ensures step { CompactsBy step self.old self.new result }
     {
-        let can = self.can_step();
+        let admits = self.admits_blocks(1);
         let last = self.store.last;
-        let Some(first) = first_whole(&self.store.tables, last, step, &mut self.store.accesses)
-        else {
+        let walk = first_whole(
+            &self.store.tables,
+            last,
+            step,
+            admits,
+            &mut self.store.accesses,
+        );
+        let Some(first) = walk.first else {
             return true;
         };
-        if !can {
+        if !walk.follows {
             return false;
         }
         slide_run(&mut self.store, first, last, step, moved);
@@ -279,7 +359,7 @@ impl<T: Tables> AllocatorOf<T> {
     /// blocks gives up enough units and nodes by such steps, and where the cost has no ranges, since the request
     /// is granted as it is. Of several runs that cost as much it is the last in space.
     /// At the node limit a cost may count ranges of the run that stay, since the free blocks before them have no
-    /// units.
+    /// units. If `moved` panics, the allocator must not be used any more: drop it.
     ///
     /// The step and `align` have to be at least 1. It makes at most 7 accesses to the tables for
     /// each block, 36 for each range of the run, and 60, and takes no memory.

@@ -173,8 +173,9 @@ impl<T: Tables> AllocatorOf<T> {
     /// of before, and `allocation_offset` returns the new one. A moved range keeps no alignment: `compact_by`
     /// keeps those that divide its step. The free block at the end has the name of the first one that there
     /// was. `moved` has to be callable with any move: its contract may require nothing of it but what every
-    /// move is, to a smaller offset and within the offsets that there are. It makes at most 10 accesses to the
-    /// tables for each block, and 384, and takes no memory.
+    /// move is, to a smaller offset and within the offsets that there are. If `moved` panics, the allocator must
+    /// not be used any more: drop it. It makes at most 10 accesses to the tables for each block, and 384, and
+    /// takes no memory.
     ///
     /// ```
     /// let hole = space.allocate(300).unwrap();

@@ -95,9 +95,9 @@ impl<T: Tables> AllocatorOf<T> {
     /// free units together are not enough, and where the cost has no ranges, since one free block is large
     /// enough. Else the request is granted afterwards, also at the node limit. For an aligned request ask
     /// with `size + align - 1`: it is granted where the limit admits two blocks more. Of several runs that
-    /// cost as much it is the last in space, and its free block keeps the name of its first one. It makes at
-    /// most 6 accesses to the tables for each block, 40 for each range that moves, and 20, and takes no
-    /// memory.
+    /// cost as much it is the last in space, and its free block keeps the name of its first one. If `moved`
+    /// panics, the allocator must not be used any more: drop it. It makes at most 6 accesses to the tables for
+    /// each block, 40 for each range that moves, and 20, and takes no memory.
     ///
     /// ```
     /// let hole = space.allocate(300).unwrap();

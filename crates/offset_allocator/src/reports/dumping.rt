@@ -186,8 +186,8 @@ pub fn json_of<T: Tables>(alloc: Global, space: &AllocatorOf<T>) -> Result<Strin
     Ok(text)
 }
 
-/// A space in the form of the dumps of VMA, the Vulkan Memory Allocator, as one block of memory: with the
-/// fields that its documentation names, for its `GpuMemDumpVis.py`. That script has not been tried on it.
+/// A space in the form of the dumps of VMA, the Vulkan Memory Allocator, as one block of memory, with the fields
+/// that its viewer, `GpuMemDumpVis.py`, reads.
 ///
 /// It returns the text, or `AllocError` where an allocation fails.
 ///
@@ -204,6 +204,6 @@ pub fn vma_json_of<T: Tables>(alloc: Global, space: &AllocatorOf<T>) -> Result<S
     let sums = space.statistics();
     put_vma_numbers(&mut text, space.size(), &sums)?;
     put_vma_blocks(&mut text, &blocks)?;
-    write!(text, "]}}}}}}}}}}")?;
+    write!(text, "]}}}},\"DedicatedAllocations\":[]}}}}}}")?;
     Ok(text)
 }

@@ -552,7 +552,7 @@ const STEPPED: [Case; 19] = [
             Grants(28, 12),
         ],
     },
-    // The last range is live, and there is no node for a free block behind it.
+    // The last range is live, and there is no node for a free block behind it, unless the one of 7 units is used up.
     Case {
         name: "refused at the node limit behind a last range",
         size: 20,
@@ -563,7 +563,7 @@ const STEPPED: [Case; 19] = [
             Frees(0),
             Grants(5, 0),
             CompactsBy(4, &[], false),
-            CompactsBy(7, &[], false),
+            CompactsBy(6, &[], false),
             Walks(&[(12, 8, Some(1)), (5, 7, None), (0, 5, Some(2))]),
             Is(20, 3, true),
             Counts(&[(7, 7, 1)]),
@@ -571,10 +571,13 @@ const STEPPED: [Case; 19] = [
             Lives(1, 8),
             CompactsBy(8, &[], true),
             Counts(&[(7, 7, 1)]),
+            CompactsBy(7, &[(1, 12, 5, 8)], true),
+            Walks(&[(13, 7, None), (5, 8, Some(1)), (0, 5, Some(2))]),
+            Is(20, 3, true),
             Frees(2),
-            CompactsBy(4, &[(1, 12, 0, 8)], true),
-            Is(20, 2, false),
-            Counts(&[(12, 12, 1)]),
+            CompactsBy(4, &[(1, 5, 1, 8)], true),
+            Is(20, 3, true),
+            Counts(&[(1, 1, 1), (11, 11, 1)]),
         ],
     },
     Case {

@@ -8,7 +8,7 @@ use offset_allocator::{json_of, vma_json_of, AllocatorOf, Tables};
 const VMA: &str =
     "{\"General\":{\"API\":\"Vulkan\"},\"DefaultPools\":{\"Type 0\":{\"PreferredBlockSize\":20,\
     \"Blocks\":{\"0\":{\"TotalBytes\":20,\"UnusedBytes\":17,\"Allocations\":1,\"UnusedRanges\":1,\
-    \"Suballocations\":[{\"Offset\":0,\"Type\":\"UNKNOWN\",\"Size\":3},{\"Offset\":3,\"Type\":\"FREE\",\"Size\":17}]}}}}}";
+    \"Suballocations\":[{\"Offset\":0,\"Type\":\"UNKNOWN\",\"Size\":3},{\"Offset\":3,\"Type\":\"FREE\",\"Size\":17}]}},\"DedicatedAllocations\":[]}}}";
 
 // What is wanted of a space of 20 units with a range of 3.
 fn wanted(limit: u32, name: u32) -> String {

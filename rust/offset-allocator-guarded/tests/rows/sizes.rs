@@ -41,7 +41,7 @@ fn use_of<T: Tables>(max_allocs: u32, units: u32) -> Result<u32, AllocError> {
     let bytes = space.write_state(Global)?;
     read(AllocatorOf::<T>::read_state(Global, &bytes, max_allocs))?;
     space.reset();
-    let mut guarded = GuardedOf::<T>::with_max_allocs(Global, units, max_allocs, 1)?;
+    let mut guarded = GuardedOf::<T>::with_realm(Global, units, max_allocs, 1)?;
     if let Some(ticket) = guarded.allocate(units) {
         guarded.extend(units);
         guarded.grow_in_place(ticket, units.saturating_add(1));
@@ -61,7 +61,7 @@ struct Spaces;
 impl Expectation for Spaces {
     fn check<T: Tables>(&self) {
         AllocatorOf::<T>::new(Global, u32::MAX).expect("memory");
-        GuardedOf::<T>::new(Global, u32::MAX, 1).expect("memory");
+        GuardedOf::<T>::new(Global, u32::MAX).expect("memory");
         let mut count = 0;
         for power in 1..23 {
             count += use_of::<T>(1 << power, 1 << (3 * power % 32)).expect("memory");
@@ -154,7 +154,7 @@ fn filled<T: Tables>(max_allocs: u32) -> Result<AllocatorOf<T>, AllocError> {
 
 // The same with tickets.
 fn filled_guarded<T: Tables>(max_allocs: u32) -> Result<GuardedOf<T>, AllocError> {
-    let mut guarded = GuardedOf::<T>::with_max_allocs(Global, u32::MAX, max_allocs, 1)?;
+    let mut guarded = GuardedOf::<T>::with_realm(Global, u32::MAX, max_allocs, 1)?;
     let tickets: Vec<Ticket> = (0..max_allocs - 2).map(|_| guarded.allocate(1).expect("room")).collect();
     for (place, ticket) in tickets.iter().enumerate() {
         if place % 2 == 0 || place > tickets.len() / 2 {

@@ -164,7 +164,7 @@ impl Expectation for ExactBytes {
             0, 0, 0, 0, 0, 0, 100, 0, 0, 0, 0, 0, 0, 0, 71, 235, 117, 192,
         ];
         assert_that(5 < T::Index::MAX - 1);
-        let space = GuardedOf::<T>::with_max_allocs(Global, 100, 5, 7).expect("memory");
+        let space = GuardedOf::<T>::with_realm(Global, 100, 5, 7).expect("memory");
         let written = space.write_state(Global).expect("memory");
         assert_same(&*written, &wanted[..]);
     }
@@ -181,7 +181,7 @@ impl Expectation for GoesOn {
     // What is freed after the bytes were written is live in the space that is read, and what was freed before
     // is not.
     fn check<T: Tables>(&self) {
-        let mut space = GuardedOf::<T>::new(Global, 64, 7).expect("memory");
+        let mut space = GuardedOf::<T>::with_realm(Global, 64, 16, 7).expect("memory");
         let first = space.allocate(8).expect("a grant");
         let second = space.allocate(8).expect("a grant");
         assert_that(space.free(first));

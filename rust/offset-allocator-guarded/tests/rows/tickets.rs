@@ -7,7 +7,7 @@ use offset_allocator::{Move, NodeIndex, Tables};
 use offset_allocator_guarded::{GuardedOf, Refusal, Ticket};
 
 fn make<T: Tables>(size: u32, realm: u32) -> GuardedOf<T> {
-    GuardedOf::new(Global, size, realm).expect("memory")
+    GuardedOf::with_realm(Global, size, 131_072.min(T::Index::MAX - 2), realm).expect("memory")
 }
 
 fn grant<T: Tables>(space: &mut GuardedOf<T>, size: u32) -> Ticket {
@@ -161,7 +161,7 @@ fn of_ranges_that_step<T: Tables>() {
 
 // No node is left for a free block at the end.
 fn of_steps_that_are_refused<T: Tables>() {
-    let full = GuardedOf::<T>::with_max_allocs(Global, 20, 4, 9);
+    let full = GuardedOf::<T>::with_realm(Global, 20, 4, 9);
     let mut full = full.expect("memory");
     let first = grant(&mut full, 12);
     let second = grant(&mut full, 8);
@@ -251,9 +251,9 @@ fn of_a_walk<T: Tables>() {
 
 fn requests_that_are_refused<T: Tables>() {
     assert_that(3 < T::Index::MAX);
-    let full = GuardedOf::<T>::with_max_allocs(Global, 64, 2, 0);
+    let full = GuardedOf::<T>::with_realm(Global, 64, 2, 0);
     let mut full = full.expect("memory");
-    let why = Some(Refusal::Allocator(offset_allocator::Refusal::Nodes));
+    let why = Some(Refusal::Nodes);
     assert_that(full.allocate(1).is_none());
     assert_same(&full.refusal(1), &why);
     assert_same(&full.refusal_aligned(1, 4), &why);

@@ -27,7 +27,7 @@ fn limits(size: u32, max_allocs: u32, first_allocs: u32, most: u32, most_larger:
 
 /// No heap yet, of the realm 9.
 fn new<T: Tables>(limits: Limits) -> HeapsOf<T> {
-    HeapsOf::new(Global, limits, 9).expect("memory")
+    HeapsOf::with_realm(Global, limits, 9).expect("memory")
 }
 
 /// The place of a grant.

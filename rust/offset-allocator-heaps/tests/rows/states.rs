@@ -23,7 +23,7 @@ struct Case {
     fault: Option<(usize, StateFaultKind)>,
 }
 
-// The limits, how many heaps were made, the realm, and the places: of one usual heap, and of a
+// The limits, the realm of the heap that was made last, the realm, and the places: of one usual heap, and of a
 // larger one that is not there. The state of the heap begins behind 8 * 14 bytes.
 const CASES: [Case; 32] = [
     Case {

@@ -5,7 +5,7 @@
 
 use crate::accesses::Accesses;
 use crate::index::linked;
-use crate::moves::by_steps::{has_step, slide_run};
+use crate::moves::by_steps::{has_step, is_freed, is_freed_by, slide_run};
 use crate::tables::Tables;
 use crate::{AllocatorOf, Move, chain};
 
@@ -25,6 +25,8 @@ pub struct Progress {
 struct Reach {
     end: u32,
     end_used: bool,
+    // whether the node limit admits a free block after it, or one before the last block is used up
+    follows: bool,
     progress: Progress,
 }
 
@@ -58,10 +60,18 @@ fn is_beyond(moved: Progress, size: u32, most_units: u32, most_ranges: u32) -> b
         && (moved.units as u64 + size as u64 > most_units as u64 || moved.ranges >= most_ranges)
 }
 
+// Whether a free block can follow a run: one that ends in a free block has a node for it.
+fn can_follow(reach: Reach) -> bool {
+    !reach.end_used || reach.follows
+}
+
 // The run from the free block `first` on, as far as a budget goes.
+#[inline(always)]
 fn run_from<T: Tables>(
     tables: &T,
     first: u32,
+    step: u32,
+    admits: bool,
     most_units: u32,
     most_ranges: u32,
     count: &mut Accesses,
@@ -69,6 +79,7 @@ fn run_from<T: Tables>(
     let mut reach = Reach {
         end: first,
         end_used: false,
+        follows: is_freed_by(tables, admits, first, step, count),
         progress: Progress {
             units: 0,
             ranges: 0,
@@ -86,6 +97,8 @@ fn run_from<T: Tables>(
             }
             reach.progress.units += size;
             reach.progress.ranges += 1;
+        } else {
+            reach.follows = is_freed(reach.follows, size, step);
         }
         reach.end = name;
         reach.end_used = used;
@@ -95,11 +108,6 @@ fn run_from<T: Tables>(
 }
 
 impl<T: Tables> AllocatorOf<T> {
-    // Whether there is a name for a free block after a run: one that ends in a free block has it.
-    fn can_follow(&self, end_used: bool) -> bool {
-        !end_used || self.admits_blocks(1)
-    }
-
     /// As `compact_by`, for a part of the space: moves the live ranges behind the first free block of at least a
     /// step that ends at the offset `from` or later, in space order, until the next one would take more than
     /// `most_units` units, or more than `most_ranges` ranges, in all. The first one moves in any case, so that
@@ -111,10 +119,10 @@ impl<T: Tables> AllocatorOf<T> {
     /// The result says how many units and ranges moved, each by at least a step, and `next`. That is the same
     /// offset again where a range of no units began there, and `None` where the end of the space was reached: a
     /// pass is done, and the next one begins at 0. Where nothing has to move, these are 0, 0 and `None`. `None`
-    /// is returned, and nothing changes, where the run of blocks that would slide ends in a live range and the
-    /// node limit admits no further block, also where a free block would be used up: with a larger budget the
-    /// run may end elsewhere, and `compact` is never refused. `moved`, handles and alignments are as of
-    /// `compact_by`.
+    /// is returned, and nothing changes, where the free block behind the last range that would move needs a node
+    /// that there is not, as by `compact_by`: the node limit admits no further block, and no free block of the
+    /// run is used up. With a larger budget one may be; where the step is 1 it is never refused. `moved`, handles
+    /// and alignments are as of `compact_by`. If `moved` panics, the allocator must not be used any more: drop it.
     ///
     /// The step has to be at least 1. It walks from the last block back to `from`, also where nothing moves: it
     /// makes at most 5 accesses to the tables for each block, 42 for each range that the budget allows, and 60,
@@ -163,14 +171,17 @@ impl<T: Tables> AllocatorOf<T> {
                 next: None,
             });
         };
+        let admits = self.admits_blocks(1);
         let reach = run_from(
             &self.store.tables,
             first,
+            step,
+            admits,
             most_units,
             most_ranges,
             &mut self.store.accesses,
         );
-        if !self.can_follow(reach.end_used) {
+        if !can_follow(reach) {
             return None;
         }
         slide_run(&mut self.store, first, reach.end, step, &mut moved);

@@ -24,17 +24,75 @@ pub(crate) fn has_step<T: Tables>(tables: &T, name: u32, step: u32, count: &mut 
     tables.size(name, count) >= step
 }
 
-// The name of the first free block of at least `step` units that has a block after it, if there is one.
-fn first_whole<T: Tables>(tables: &T, last: u32, step: u32, count: &mut Accesses) -> Option<u32> {
-    let mut first = None;
+// How far a walk back over the blocks of a space came.
+#[derive(Clone, Copy)]
+struct Walk {
+    // the name of the first free block of at least a step that has a block after it, if one was met
+    first: Option<u32>,
+    // whether a free block can follow from there on
+    follows: bool,
+    // the same from the last block that was met
+    freed: bool,
+}
+
+// Whether there is a node already, or a free block of `size` units before another one is used up.
+pub(crate) fn is_freed(freed: bool, size: u32, step: u32) -> bool {
+    freed || size % step == 0
+}
+
+// The same of a free block by its name.
+pub(crate) fn is_freed_by<T: Tables>(
+    tables: &T,
+    freed: bool,
+    name: u32,
+    step: u32,
+    count: &mut Accesses,
+) -> bool {
+    freed || tables.size(name, count) % step == 0
+}
+
+// A walk that meets one block more, which is not the last one.
+fn meet<T: Tables>(tables: &T, walk: Walk, name: u32, step: u32, count: &mut Accesses) -> Walk {
+    if chain::is_used(tables, name, count) {
+        return walk;
+    }
+    let size = tables.size(name, count);
+    let freed = is_freed(walk.freed, size, step);
+    if size >= step {
+        return Walk {
+            first: Some(name),
+            follows: freed,
+            freed,
+        };
+    }
+    Walk { freed, ..walk }
+}
+
+// Whether there is a node already, or the last block is free, which is used up then.
+fn can_end<T: Tables>(tables: &T, admits: bool, last: u32, count: &mut Accesses) -> bool {
+    admits || !chain::is_used(tables, last, count)
+}
+
+// The first free block of at least `step` units that has a block after it, if there is one, and whether a free
+// block can follow those from there on: where the node limit admits one, or one of them is used up.
+fn first_whole<T: Tables>(
+    tables: &T,
+    last: u32,
+    step: u32,
+    admits: bool,
+    count: &mut Accesses,
+) -> Walk {
+    let mut walk = Walk {
+        first: None,
+        follows: admits,
+        freed: can_end(tables, admits, last, count),
+    };
     let mut at = chain::before(tables, last, count);
     while let Some(name) = at {
-        if has_step(tables, name, step, count) {
-            first = Some(name);
-        }
+        walk = meet(tables, walk, name, step, count);
         at = chain::before(tables, name, count);
     }
-    first
+    walk
 }
 
 // What a free block of `size` units keeps, which has the block after it that a link names: what whole steps
@@ -106,15 +164,6 @@ pub(crate) fn slide_run<T: Tables, F: FnMut(Move<T::Index>)>(
 }
 
 impl<T: Tables> AllocatorOf<T> {
-    // Whether there is a name for the block that is left at the end.
-    fn can_step(&mut self) -> bool {
-        if self.admits_blocks(1) {
-            return true;
-        }
-        let last = self.store.last;
-        !chain::is_used(&self.store.tables, last, &mut self.store.accesses)
-    }
-
     /// As `compact`, by whole steps: each live range moves to the front by a multiple of `step` units, by as
     /// many as the free blocks before it have, and so keeps its alignment where that divides `step`. An
     /// engine passes the least common multiple of the alignments that it uses. What whole steps leave of a
@@ -124,8 +173,10 @@ impl<T: Tables> AllocatorOf<T> {
     /// Every handle stays live, with its name and its size; only the public `offset` of a moved one is that
     /// of before, and `allocation_offset` returns the new one. Nothing changes where no free block before
     /// another block has a whole step. `false` is returned, and nothing changes, where there is such a block
-    /// but the last one is live and the node limit admits no further block, also where a free block would be
-    /// used up; `compact` is never refused.
+    /// but the free block at the end would need a node that there is not: the node limit admits no further
+    /// block, and none of the free ones from that one on is used up, which would give its node back, as one of
+    /// whole steps is, and a last one. So where the step is 1 it is never refused, as `compact` is not. If
+    /// `moved` panics, the allocator must not be used any more: drop it.
     ///
     /// The step has to be at least 1. It makes at most 21 accesses to the tables for each block, and 40, and
     /// takes no memory.
@@ -148,13 +199,19 @@ impl<T: Tables> AllocatorOf<T> {
     #[track_caller]
     pub fn compact_by<F: FnMut(Move<T::Index>)>(&mut self, step: u32, mut moved: F) -> bool {
         assert!(1 <= step, "the step must be at least 1");
-        let can = self.can_step();
+        let admits = self.admits_blocks(1);
         let last = self.store.last;
-        let Some(first) = first_whole(&self.store.tables, last, step, &mut self.store.accesses)
-        else {
+        let walk = first_whole(
+            &self.store.tables,
+            last,
+            step,
+            admits,
+            &mut self.store.accesses,
+        );
+        let Some(first) = walk.first else {
             return true;
         };
-        if !can {
+        if !walk.follows {
             return false;
         }
         slide_run(&mut self.store, first, last, step, &mut moved);
@@ -176,7 +233,7 @@ impl<T: Tables> AllocatorOf<T> {
     /// blocks gives up enough units and nodes by such steps, and where the cost has no ranges, since the request
     /// is granted as it is. Of several runs that cost as much it is the last in space.
     /// At the node limit a cost may count ranges of the run that stay, since the free blocks before them have no
-    /// units.
+    /// units. If `moved` panics, the allocator must not be used any more: drop it.
     ///
     /// The step and `align` have to be at least 1. It makes at most 7 accesses to the tables for
     /// each block, 36 for each range of the run, and 60, and takes no memory.

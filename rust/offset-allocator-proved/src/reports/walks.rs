@@ -95,7 +95,7 @@ impl<T: Tables> AllocatorOf<T> {
     /// makes 2 accesses to the tables for each block, and one more: the first block of a space is not
     /// known, so it walks back from the last one. With `live_after` a walk from here meets each live
     /// range once, as one with `live_before` does from `last_live`: see
-    /// `laws::each_live_range_is_met_once`.
+    /// the law `each_live_range_is_met_once` of the proved sources.
     ///
     /// ```
     /// # use offset_allocator_proved::*;

@@ -106,7 +106,7 @@ impl<T: Tables> AllocatorOf<T> {
     /// `max_allocs` as its limit. It is for a space that refuses requests as `Nodes`: put it in place of the
     /// first one, and all handles go on. While the first one has room for the blocks that they may add,
     /// requests, second ranges, releases, changes of size and `compact` return the same in both, by
-    /// `laws::a_raised_limit_changes_no_answer`; reports, reasons and slides by whole steps look at the limit too.
+    /// the law `a_raised_limit_changes_no_answer` of the proved sources; reports, reasons and slides by whole steps look at the limit too.
     ///
     /// The limit is at most `T::Index::MAX - 2`. It reserves what `with_max_allocs` does for that limit,
     /// beside the memory of the first space until that is dropped, and takes time for the nodes that were

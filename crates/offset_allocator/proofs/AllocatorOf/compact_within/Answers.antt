@@ -1,17 +1,17 @@
 use Rattle.offset_allocator.proofs.{Moving.Packed.live_sizes, Sound.AreSound, Sound.Fields, Sound.shown, Sound.fields_of, Sound.known_sound, Linking.Places.placed}
 use Rattle.offset_allocator.proofs.Moving.Stepped.{split_filed, split_few, split_steps}
 use Rattle.offset_allocator.proofs.Moving.Budgeted.{IsBegun, Run, begun, slides_live, searches_cost, few_left, few_rest, stops_apart}
-use Rattle.offset_allocator.proofs.Common.{◌≡◌, ℕ, ◌+◌, ◌*◌, ◌≤◌, ◌⊎◌, true, false, List, [], ◌∷◌, ◌++◌, Some, length, refl, sym, ap, subst, ◌∙◌, arith, inl, inr, length-append, not, Block, View, blocks, units, ends_used, AdmitsBlocks, IsChain, IsCalledWith, true≢false}
+use Rattle.offset_allocator.proofs.Common.{◌≡◌, ℕ, ◌+◌, ◌*◌, ◌≤◌, true, List, [], ◌∷◌, ◌++◌, Some, length, refl, sym, ap, subst, ◌∙◌, arith, inl, inr, length-append, not, Block, View, blocks, units, AdmitsBlocks, IsChain, IsCalledWith, true≢false}
 use Rattle.offset_allocator.proofs.Common.{max, free_block, replace, take, SameSpace}
 use Rattle.std.specs.List.{FoldsTo}
 use Rattle.offset_allocator.specs.Names.{IsTaken}
-use Rattle.offset_allocator.specs.Moving.BySteps.{given_up, moves_by, stepped}
-use Rattle.offset_allocator.specs.Moving.Budget.{CanFollow, SlidesWithin, first_from}
+use Rattle.offset_allocator.specs.Moving.BySteps.{CanFollow, given_up, moves_by, stepped}
+use Rattle.offset_allocator.specs.Moving.Budget.{SlidesWithin, first_from}
 use Rattle.offset_allocator.proofs.AllocatorOf.compact_within.Goals as goal
 use Rattle.offset_allocator.proofs.AllocatorOf.compact_within.{Goals.After-run_from-reach, Goals.After-slide_run, Given.Over}
 
 run_of : (g : Over) (c : After-run_from-reach g)
-    → Run (fields_of g.T.Tables.cells g.T.Index.NodeIndex.MAX c.self.inside) c.in-Some.first c.run_from-reach.result c.args.self.now c.args.step c.args.from c.args.most_units c.args.most_ranges
+    → Run (fields_of g.T.Tables.cells g.T.Index.NodeIndex.MAX c.self.inside) c.in-Some.first c.admits_blocks-admits.result c.run_from-reach.result c.args.self.now c.args.step c.args.from c.args.most_units c.args.most_ranges
 run_of g c =
     let o : IsBegun (blocks (g.T.Tables.cells c.self.inside.store.tables).chain c.self.inside.store.last) c.in-Some.first = begun c.args.step c.args.from 0 _ _ (sym c.first_from.ensures.first ∙ c.in-Some.is) in
     let e = c.run_from-reach.ensures.place _ _ o.front o.first o.rest c.self.invariant.space o.is o.name o.free in
@@ -26,7 +26,7 @@ run_of g c =
       place = placed (subst (λ (l : List Block). IsChain (g.T.Tables.cells c.self.inside.store.tables).chain (g.T.Tables.cells c.self.inside.store.tables).chain.reserved c.self.inside.store.last c.self.inside.store.spare_count l) is c.self.invariant.space) o.name;
       free = o.free;
       end = e.5;
-      end_used = e.6;
+      follows = e.6;
       reached = record {
         is = sym now ∙ is;
         begins = ap (first_from c.args.step c.args.from 0) (sym now) ∙ sym c.first_from.ensures.first ∙ c.in-Some.is ∙ ap Some (sym o.name);
@@ -39,12 +39,12 @@ run_of g c =
 pub run_from-reach-requires : goal.run_from-reach-requires
 run_from-reach-requires g c =
     let o : IsBegun (blocks (g.T.Tables.cells c.self.inside.store.tables).chain c.self.inside.store.last) c.in-Some.first = begun c.args.step c.args.from 0 _ _ (sym c.first_from.ensures.first ∙ c.in-Some.is) in
-    record { place = (_, _, o.front, o.first, o.rest, c.self.invariant.space, o.is, o.name, o.free) }
+    record { some = c.requires.some; place = (_, _, o.front, o.first, o.rest, c.self.invariant.space, o.is, o.name, o.free) }
 
 -- what both searches count
 counted : (g : Over) (c : After-run_from-reach g)
-    → (c.args.self.now.accesses ≤ c.run_from-reach.new.count) × (c.run_from-reach.new.count ≤ c.args.self.now.accesses + (8 * length c.args.self.now.blocks + 4))
-    × (c.run_from-reach.new.count ≤ c.args.self.now.accesses + (5 * length c.args.self.now.blocks + 6 * max 1 c.args.most_ranges + 4))
+    → (c.args.self.now.accesses ≤ c.run_from-reach.new.count) × (c.run_from-reach.new.count ≤ c.args.self.now.accesses + (8 * length c.args.self.now.blocks + 5))
+    × (c.run_from-reach.new.count ≤ c.args.self.now.accesses + (5 * length c.args.self.now.blocks + 6 * max 1 c.args.most_ranges + 5))
 counted g c =
     let o : IsBegun (blocks (g.T.Tables.cells c.self.inside.store.tables).chain c.self.inside.store.last) c.in-Some.first = begun c.args.step c.args.from 0 _ _ (sym c.first_from.ensures.first ∙ c.in-Some.is) in
     let e = c.run_from-reach.ensures.place _ _ o.front o.first o.rest c.self.invariant.space o.is o.name o.free in
@@ -72,8 +72,8 @@ returns-then-not-can_follow-clause-step g c =
         r.back,
         r.reached,
         λ can. elim can [
-          | inl room ↦ absurd (no (c.can_follow.ensures.is.1 (inl (subst (AdmitsBlocks 1) (sym c.self.view_is) room))))
-          | inr free ↦ absurd (no (c.can_follow.ensures.is.1 (inr (sym r.end_used ∙ free))))
+          | inl room ↦ no (c.can_follow.ensures.is.1 (r.follows.1 (inl (c.admits_blocks-admits.ensures.1 (subst (AdmitsBlocks 1) (sym c.self.view_is) room)))))
+          | inr freed ↦ no (c.can_follow.ensures.is.1 (r.follows.1 (inr freed)))
         ],
       ),
     )
@@ -95,7 +95,7 @@ slide_run-requires-clause-place g c =
 
 -- the fields that are left, and what they show
 done : (g : Over) (c : After-slide_run g)
-    → (r : Run (fields_of g.T.Tables.cells g.T.Index.NodeIndex.MAX c.self.inside) c.in-Some.first c.run_from-reach.result c.args.self.now c.args.step c.args.from c.args.most_units c.args.most_ranges)
+    → (r : Run (fields_of g.T.Tables.cells g.T.Index.NodeIndex.MAX c.self.inside) c.in-Some.first c.admits_blocks-admits.result c.run_from-reach.result c.args.self.now c.args.step c.args.from c.args.most_units c.args.most_ranges)
     → (k : ℕ) (f : Fields) → f ≡ record (fields_of g.T.Tables.cells g.T.Index.NodeIndex.MAX c.self.inside) {
       cells = (g.T.Tables.cells c.slide_run.new.store.tables);
       last = c.slide_run.new.store.last;
@@ -104,7 +104,7 @@ done : (g : Over) (c : After-slide_run g)
       accesses = k;
     }
     → AreSound f × ((p : SlidesWithin c.args.step c.args.from c.args.most_units c.args.most_ranges c.args.self.now (shown f) c.run_from-reach.result.progress)
-    × CanFollow c.args.self.now (p.first ∷ p.rest)
+    × CanFollow c.args.step c.args.self.now (p.first ∷ p.rest)
     × FoldsTo (IsCalledWith g.T.Index.NonMax.NodeIndexNonMax.number (λ f range h. goal.F-step g f range tt h)) c.args.moved.now
     (moves_by c.args.step (units p.front) (units p.front) (p.first ∷ p.rest)) c.slide_run.new.moved)
     × (c.slide_run.new.store.accesses ≤ c.run_from-reach.new.count + 18 * length (r.first ∷ r.rest) + 36)
@@ -113,8 +113,8 @@ done g c r k f is =
     let t = c.args.step in
     let run : List Block = r.first ∷ r.rest in
     let e = c.slide_run.ensures.place _ r.front r.first r.rest r.back r.place r.end (split_filed old c.self.invariant t r.front run r.back r.is) in
-    let can : AdmitsBlocks 1 (shown old) ⊎ (ends_used run ≡ false) = elim (c.can_follow.ensures.is.0 c.if-not-can_follow.false) [ inl room ↦ inl room | inr free ↦ inr (r.end_used ∙ free) ] in
-    let few = few_left t old.limit (shown old) (known_sound old c.self.invariant (shown old) refl).0 refl r.front run r.back r.is (λ q. absurd (cc)) can in
+    let can : CanFollow t c.args.self.now run = elim (r.follows.0 (c.can_follow.ensures.is.0 c.if-not-can_follow.false)) [ inl a ↦ inl (subst (AdmitsBlocks 1) c.self.view_is (c.admits_blocks-admits.ensures.0 a)) | inr f ↦ inr f ] in
+    let few = few_left t old.limit (shown old) (known_sound old c.self.invariant (shown old) refl).0 refl r.front run r.back r.is (subst (λ (u : View). CanFollow t u run) (sym c.self.view_is) can) in
     let s = split_steps old c.self.invariant t r.front run r.back r.is (ap not r.free) (stops_apart c.args.most_units c.args.most_ranges r.rest r.back r.reached.stops) few (g.T.Tables.cells c.slide_run.new.store.tables)
     c.slide_run.new.store.last c.slide_run.new.store.spare_count e.0 e.3 {accesses = k} c.slide_run.ensures.binned e.5 e.6 in
     let new : Fields = record old {
@@ -141,7 +141,7 @@ done g c r k f is =
       names = e.4;
       view = view;
     } in
-    rw is (s.0, (p, subst (λ (u : View). CanFollow u run) c.self.view_is can, e.7), e.8)
+    rw is (s.0, (p, can, e.7), e.8)
 
 pub invariant_of-self-2 : goal.invariant_of-self-2
 invariant_of-self-2 g c = c.self.invariant

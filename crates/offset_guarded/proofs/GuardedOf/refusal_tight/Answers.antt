@@ -1,6 +1,7 @@
-use Rattle.std.proofs.Common.{ap, arith, refl, subst, sym}
+use Rattle.std.proofs.Common.{◌≡◌, ap, arith, refl, subst, sym}
 use Rattle.offset_allocator.specs.Tight.{CanHold, IsWhyTight}
-use Rattle.offset_guarded.specs.Guard.{Guard, HasSerialLeft}
+use Rattle.offset_guarded.specs.Guard.{Guard, HasSerialLeft, last_serial}
+use Rattle.offset_guarded.proofs.Guards.{why_for}
 use Rattle.offset_guarded.proofs.GuardedOf.refusal_tight.Goals as goal
 
 pub returns-then-is_spent-clause-granted : goal.returns-then-is_spent-clause-granted
@@ -19,5 +20,6 @@ returns-in-Some-clause-granted g c = (
 
 pub returns-in-Some-clause-why : goal.returns-in-Some-clause-why
 returns-in-Some-clause-why g c =
-    subst (λ (k : Guard). HasSerialLeft k × IsWhyTight c.args.size 1 k.space c.in-Some.why) c.self.view_is
-    (c.is_spent.ensures.left c.if-is_spent.false, c.in-Some.ensures.why)
+    why_for (λ w. HasSerialLeft c.args.self.now × IsWhyTight c.args.size 1 c.args.self.now.space w) (c.args.self.now.given ≡ last_serial) c.in-Some.why c.from.result c.from.ensures
+    (subst (λ (k : Guard). HasSerialLeft k × IsWhyTight c.args.size 1 k.space c.in-Some.why) c.self.view_is
+    (c.is_spent.ensures.left c.if-is_spent.false, c.in-Some.ensures.why))

@@ -2,4 +2,4 @@ use Rattle.offset_heaps.proofs.Rooms.{new_holds}
 use Rattle.offset_heaps.proofs.fresh.larger.Goals as goal
 
 pub grant_tight_in-ticket-requires : goal.grant_tight_in-ticket-requires
-grant_tight_in-ticket-requires g c = new_holds c.args.size c.in_ok-with_max_allocs.field-0 c.in_ok-with_max_allocs.ensures.space c.in_ok-with_max_allocs.ensures.serials.0
+grant_tight_in-ticket-requires g c = new_holds c.args.size c.in_ok-with_realm.field-0 c.in_ok-with_realm.ensures.space c.in_ok-with_realm.ensures.serials.0

@@ -1,7 +1,7 @@
-use Rattle.offset_allocator.proofs.Common.{◌≡◌, ◌+◌, ◌*◌, ◌<◌, ◌≤◌, ◌⊎◌, ◌∙◌, ℕ, true, false, List, [], ◌∷◌, ◌++◌, Some, None, length, refl, sym, ap, subst, arith, inl, inr, append_assoc, length-append, Node, Block, IsChain}
+use Rattle.offset_allocator.proofs.Common.{◌≡◌, ◌%◌, ◌↔◌, ◌+◌, ◌*◌, ◌<◌, ◌≤◌, ◌⊎◌, ◌∙◌, ℕ, true, false, List, [], ◌∷◌, ◌++◌, Some, None, length, refl, sym, ap, subst, arith, inl, inr, append_assoc, length-append, Node, Block, IsChain}
 use Rattle.offset_allocator.proofs.Common.{HasPlace, IsSpace, blocks, ends_used, last_or, count_used, used_units, ap₂, true≢false}
 use Rattle.offset_allocator.proofs.{Extending.ends_last, Linking.Places.at_place, Linking.Places.end_fits, Linking.Places.placed, Tallies.units-append}
-use Rattle.offset_allocator.proofs.Moving.Budgeted.{Started, started, started_place, none_left, last_added, free_added, live_added, free_within, live_within, not_within, used_fit}
+use Rattle.offset_allocator.proofs.Moving.Budgeted.{Started, started, started_place, none_left, last_added, free_added, live_added, free_within, live_within, not_within, used_fit, IsFollowed, followed_first, followed_on, followed_end}
 use Rattle.offset_allocator.specs.declared.moves.budget.{Progress.Progress, Reach.Reach}
 use Rattle.offset_allocator.specs.Moving.Budget.{IsWithin}
 use Rattle.offset_allocator.proofs.moves.budget.run_from.Given.{Over}
@@ -10,6 +10,11 @@ use Rattle.offset_allocator.proofs.moves.budget.run_from.Goals as goal
 
 pub after-requires : goal.after-requires
 after-requires g c =
+    let r = c.requires.place in
+    (placed (subst (λ (l : List Block). IsChain (g.T.Tables.cells c.args.tables.now).chain (g.T.Tables.cells c.args.tables.now).chain.reserved r.0 r.1 l) r.6 r.5) r.7).below
+
+pub is_freed_by-requires-clause-below : goal.is_freed_by-requires-clause-below
+is_freed_by-requires-clause-below g c =
     let r = c.requires.place in
     (placed (subst (λ (l : List Block). IsChain (g.T.Tables.cells c.args.tables.now).chain (g.T.Tables.cells c.args.tables.now).chain.reserved r.0 r.1 l) r.6 r.5) r.7).below
 
@@ -26,6 +31,8 @@ loop-at-init g c = record {
         inr (omega arith, omega arith),
         ap Some name,
         idle,
+        followed_first c.args.step b c.args.admits c.is_freed_by.result
+            (subst (λ (n : Node). (c.is_freed_by.result ≡ true) ↔ ((c.args.admits ≡ true) ⊎ (n.size % c.args.step ≡ 0))) (at_place place) c.is_freed_by.ensures.is) idle,
         refl,
         omega arith,
       );
@@ -43,6 +50,7 @@ record Met (g : Over) (c : After-is_used-used g) (last spare : ℕ) (front : Lis
   within : IsWithin c.args.most_units c.args.most_ranges rest
   ends : last_or None (b ∷ rest) ≡ Some c.loop-at.reach.end
   used_end : ends_used (b ∷ rest) ≡ c.loop-at.reach.end_used
+  follows : IsFollowed c.args.step c.args.admits c.loop-at.reach.follows (b ∷ rest)
   so_far : c.loop-at.reach.progress ≡ record { units = used_units rest; ranges = count_used rest; next = None }
   counted : c.is_used-used.new.count ≤ c.after.new.count + 3 * length rest + 2
 
@@ -63,8 +71,9 @@ met g c last spare front b after space is name idle =
       within = i.4;
       ends = i.5;
       used_end = i.6;
-      so_far = i.7;
-      counted = omega (arith, i.8, c.size-size.ensures.accesses, c.is_used-used.ensures.accesses);
+      follows = i.7;
+      so_far = i.8;
+      counted = omega (arith, i.9, c.size-size.ensures.accesses, c.is_used-used.ensures.accesses);
     }
 
 pub size-size-requires : goal.size-size-requires
@@ -107,7 +116,7 @@ returns-then-is_beyond g c = record {
         m.within,
         (live, not_within m.rest m.next c.args.most_units c.args.most_ranges live past),
         m.ends,
-        m.used_end,
+        followed_end c.args.step b c.args.admits m.rest c.loop-at.reach.follows c.loop-at.reach.end_used m.used_end m.follows,
         ap (λ (p : Progress). let q : Progress = record { units = p.units; ranges = p.ranges; next = Some c.offset.result } in q) m.so_far
             ∙ ap (λ (n : ℕ). let q : Progress = record { units = used_units m.rest; ranges = count_used m.rest; next = Some n } in q) (c.offset.ensures.cell ∙ ap (λ (n : Node). n.offset) (at_place m.place)),
         omega (arith, c.loop-at.invariant.grows, c.after.ensures.accesses, c.size-size.ensures.accesses, c.is_used-used.ensures.accesses, c.offset.ensures.accesses),
@@ -138,7 +147,7 @@ loop-at-preserved g c = record {
   at = λ last spare front b after space is name idle.
       let m = met g (goal.at.loop-at-preserved g c).After-is_used-used last spare front b after space is name idle in
       let more : List Block = m.rest ++ m.next ∷ [] in
-      let both : IsWithin c.args.most_units c.args.most_ranges more × (c.if-used.reach.progress ≡ record { units = used_units more; ranges = count_used more; next = None }) = elim c.if-used.branch [
+      let both : IsWithin c.args.most_units c.args.most_ranges more × IsFollowed c.args.step c.args.admits c.if-used.reach.follows (b ∷ more) × (c.if-used.reach.progress ≡ record { units = used_units more; ranges = count_used more; next = None }) = elim c.if-used.branch [
         | then-used+else-is_beyond w ↦
             let live : m.next.used ≡ true = sym m.used ∙ w.if-used.true in
             let a = live_added m.rest m.next live in (
@@ -149,6 +158,9 @@ loop-at-preserved g c = record {
                         [ inl l ↦ inl (omega (arith, l, m.size, ap (λ (p : Progress). p.units) m.so_far)) | inr l ↦ inr (omega (arith, l, ap (λ (p : Progress). p.ranges) m.so_far)) ],
                   ) in
                   absurd (true≢false (sym far ∙ w.if-is_beyond.false))),
+              followed_on c.args.step b c.args.admits m.rest m.next c.loop-at.reach.follows c.if-used.reach.follows m.follows
+                  (let same : c.if-used.reach.follows ≡ c.loop-at.reach.follows = ap (λ (r : Reach). r.follows) w.reach-is in
+                  (λ e. inl (sym same ∙ e), λ e. elim e [ inl f ↦ same ∙ f | inr z ↦ absurd (true≢false (sym live ∙ z.0)) ])),
               ap (λ (r : Reach). r.progress) w.reach-is
                   ∙ ap (λ (p : Progress). let q : Progress = record { units = p.units + c.size-size.result; ranges = p.ranges + 1; next = p.next } in q) m.so_far
                   ∙ ap₂ (λ (u r : ℕ). let q : Progress = record { units = u; ranges = r; next = None } in q) (omega (arith, a.0, m.size)) (sym a.1),
@@ -157,6 +169,11 @@ loop-at-preserved g c = record {
             let still : m.next.used ≡ false = sym m.used ∙ w.if-used.false in
             let a = free_added m.rest m.next still in (
               free_within m.rest m.next c.args.most_units c.args.most_ranges still m.within,
+              followed_on c.args.step b c.args.admits m.rest m.next c.loop-at.reach.follows c.if-used.reach.follows m.follows
+                  (let same : c.if-used.reach.follows ≡ w.is_freed.result = ap (λ (r : Reach). r.follows) w.reach-is in (
+                    λ e. elim (w.is_freed.ensures.is.0 (sym same ∙ e)) [ inl f ↦ inl f | inr z ↦ inr (still, ap (λ n. n % c.args.step) (sym m.size) ∙ z) ],
+                    λ e. same ∙ w.is_freed.ensures.is.1 (elim e [ inl f ↦ inl f | inr z ↦ inr (ap (λ n. n % c.args.step) m.size ∙ z.1) ]),
+                  )),
               ap (λ (r : Reach). r.progress) w.reach-is ∙ m.so_far ∙ ap₂ (λ (u r : ℕ). let q : Progress = record { units = u; ranges = r; next = None } in q) (sym a.0) (sym a.1),
             )
       ] in (
@@ -168,6 +185,7 @@ loop-at-preserved g c = record {
         last_added (Some b.name) m.rest m.next ∙ ap Some m.place.name,
         ends_last (b ∷ m.rest) m.next ∙ sym m.used,
         both.1,
+        both.2,
         omega (arith, m.counted, c.after-in-Some.ensures.accesses, length-append m.rest (m.next ∷ [])),
       );
 }
@@ -183,9 +201,9 @@ returns g c = record {
         i.4,
         tt,
         i.5,
-        i.6,
-        i.7,
+        followed_end c.args.step b c.args.admits i.0 c.loop-at.reach.follows c.loop-at.reach.end_used i.6 i.7,
+        i.8,
         omega (arith, c.loop-at.invariant.grows, c.after.ensures.accesses),
-        omega (arith, i.8, c.after.ensures.accesses),
+        omega (arith, i.9, c.after.ensures.accesses),
       );
 }

@@ -1,22 +1,16 @@
-use Rattle.std.proofs.Common.{◌∙◌, ◌+◌, ◌≤◌, None, length, ap, arith}
-use Rattle.std.proofs.lemmas.List.{get_or-set_same, get_or-set_other, get_or_read}
-use Rattle.offset_guarded.specs.Values.{entry}
-use Rattle.offset_guarded.proofs.Entries.{if_ok, named_set}
+use Rattle.std.proofs.Common.{◌+◌, ◌≤◌, Result, Ok, Err, arith, refl, subst}
+use Rattle.std.specs.Prelude.{OnOk}
+use Rattle.offset_allocator.specs.View.{IsWellFormed}
+use Rattle.offset_guarded.proofs.Guards.{live_name, name_below}
 use Rattle.offset_guarded.proofs.values.Beside.put.Goals as goal
 
-pub invariant_of-self : goal.invariant_of-self
-invariant_of-self g c = named_set _ _ _ c.self.invariant (λ e q. cc)
+-- what holds in any case
+on_ok : {X E : Type 0} (P : Type 0) (r : Result X E) → P → OnOk r P
+on_ok P (Ok x) p = p
+on_ok P (Err e) p = tt
 
-pub returns-clause-put : goal.returns-clause-put
-returns-clause-put g c =
-    let l = if_ok (c.args.ticket.name + 1 ≤ length c.cover.new.self) c.cover.result c.cover.ensures.covers c.if-is_err.ensures.negation in
-    get_or-set_same c.self.inside.cells.items _ _ None (omega (arith, l, ap length c.self.view_is)) ∙ c.replace.ensures.after
-
-pub returns-clause-was : goal.returns-clause-was
-returns-clause-was g c =
-    let l = if_ok (c.args.ticket.name + 1 ≤ length c.cover.new.self) c.cover.result c.cover.ensures.covers c.if-is_err.ensures.negation in
-    c.replace.ensures.value ∙ get_or_read c.self.inside.cells.items _ _ (omega (arith, l, ap length c.self.view_is)) c.index_mut.ensures.value None
-    ∙ ap (entry c.args.ticket.name) c.self.view_is ∙ c.cover.ensures.same c.args.ticket.name
-
-pub returns-clause-others : goal.returns-clause-others
-returns-clause-others g c y n = get_or-set_other c.self.inside.cells.items _ y _ None n ∙ ap (entry y) c.self.view_is ∙ c.cover.ensures.same y
+pub returns-clause-few : goal.returns-clause-few
+returns-clause-few g c =
+    let formed = subst IsWellFormed c.allocator.ensures c.is_well_formed.ensures in
+    let below = name_below c.args.ticket.name c.args.space.now.space formed (live_name c.args.ticket c.args.space.now (c.if-not-is_live.ensures.0 refl)) in
+    on_ok (c.args.ticket.name + 1 ≤ c.args.space.now.space.max_allocs) c.put_at.result (omega (arith, below))

@@ -3,7 +3,7 @@ use Rattle.std.proofs.lemmas.Bool.{cases_lt}
 use Rattle.std.proofs.lemmas.List.{length-replicate}
 use Rattle.offset_guarded.specs.Guard.{Guard}
 use Rattle.offset_heaps.proofs.Sound.{empty_slot, noted_more, started}
-use Rattle.offset_heaps.proofs.HeapsOf.new.Goals as goal
+use Rattle.offset_heaps.proofs.HeapsOf.with_realms.Goals as goal
 
 pub loop-number-init : goal.loop-number-init
 loop-number-init g c =

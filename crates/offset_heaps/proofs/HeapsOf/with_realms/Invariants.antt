@@ -1,6 +1,6 @@
 use Rattle.std.proofs.Common.{◌≡◌, ℕ, ◌<◌, ◌≤◌, ◌⊎◌}
 use Rattle.offset_heaps.specs.Soundness.{IsNoted, IsWide}
-use Rattle.offset_heaps.proofs.HeapsOf.new.Given as goal
+use Rattle.offset_heaps.proofs.HeapsOf.with_realms.Given as goal
 
 -- the numbers so far are noted, and those behind the last
 abbrev pub invariant-loop-number : goal.invariant-loop-number
