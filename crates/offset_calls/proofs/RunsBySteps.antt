@@ -1,8 +1,7 @@
 -- The run by whole steps that the plain machine chooses is the cheapest one of the allocator, and of several the last.
-use Rattle.offset_calls.proofs.Common.{◌≡◌, ℕ, ◌+◌, ◌≤◌, ◌⊎◌, ◌&&◌, Bool, true, false, not, List, [], ◌∷◌, ◌++◌, length, Option, Some, None, option_map, nat_eq, nat_le, if◌then◌else◌}
+use Rattle.offset_calls.proofs.Common.{◌≡◌, ℕ, ◌+◌, ◌≤◌, ◌⊎◌, ◌&&◌, Bool, true, false, not, List, [], ◌∷◌, ◌++◌, length, Option, Some, None, option_map, nat_le, if◌then◌else◌}
 use Rattle.offset_calls.proofs.Common.{refl, sym, ap, ap₂, subst, ◌∙◌, inl, inr, arith, drop, leb-true, le-leb, map-append, true≢false, false≢true, and_parts, is_free, subst₂, ◌-◌, View, IsWellFormed, AreCoalesced, State}
 use Rattle.offset_allocator.specs.declared.moves.room.RoomCost.{RoomCost}
-use Rattle.offset_allocator.specs.Moving.BySteps as by
 use Rattle.offset_allocator.specs.Moving.Room.{IsRun, IsAtMost, IsLess, cost_of}
 use Rattle.offset_allocator.specs.Moving.RoomBySteps.{IsLeastCostBy, Serves, names_short}
 use Rattle.offset_allocator.specs.View.{starts_free, ends_used}
@@ -12,8 +11,7 @@ use Rattle.offset_script.proofs.{Agreement.Label, Agreement.by_name, Agreement.b
 use Rattle.offset_script.specs.Machine as machine
 use Rattle.offset_calls.specs.Room.{Split, from_first, after_first, is_less, cheaper}
 use Rattle.offset_calls.specs.Room as plain
-use Rattle.offset_calls.specs.Stepped.{given_up}
-use Rattle.offset_calls.specs.Stepped as step
+use Rattle.offset_calls.specs.Stepped.{given_up, used_up}
 use Rattle.offset_calls.specs.RoomBySteps.{serves, shortest_that, cheapest_that, blocks_short, cheapest_by, room_cost_by}
 use Rattle.offset_calls.proofs.Runs.{IsChosenOf, IsLabelledRun, cost_same, is_less_is, not_less_is, only_one, run_of, same_cost}
 use Rattle.offset_calls.proofs.Stepped.{given_same, same_end, used_same}

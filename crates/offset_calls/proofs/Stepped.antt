@@ -1,6 +1,6 @@
 -- Sliding by whole steps: what a run leaves agrees with the plain machine, and the moves are the same; and a compaction
 -- by whole steps.
-use Rattle.offset_calls.proofs.Common.{◌≡◌, ◌≢◌, ℕ, zero, suc, ◌+◌, ◌-◌, ◌<◌, ◌≤◌, Bool, true, false, not, ◌&&◌, List, [], ◌∷◌, ◌++◌, map, length, Option, Some, None, is_some, nat_eq, nat_le, if◌then◌else◌, refl, sym}
+use Rattle.offset_calls.proofs.Common.{◌≡◌, ◌≢◌, ℕ, zero, suc, ◌+◌, ◌-◌, ◌<◌, ◌≤◌, Bool, true, false, not, ◌&&◌, List, [], ◌∷◌, ◌++◌, map, length, Option, Some, None, nat_eq, nat_le, if◌then◌else◌, refl, sym}
 use Rattle.offset_calls.proofs.Common.{◌⊎◌, units, ap, ap₂, subst, subst₂, ◌∙◌, inl, inr, arith, le-leb, lt-leb, leb-false, cases_lt, true≢false, false≢true, and_parts, and_right, append-nil, length-append, length-map, map-append}
 use Rattle.offset_calls.proofs.Common.{option_map, AllByRecursion, Block, View, Handle, replace, IsWellFormed, SameSpace, kept_name, Tag, Live, Free, State, is_free, is_short_of}
 use Rattle.offset_calls.proofs.Common.{free_part, stamp_of_call, stamp_of_padding, Move, number, AreNumbered, Reply, Answer, Compacted, Outcome, replies_only}
@@ -221,7 +221,7 @@ stepped_spent n s (b ∷ bs) = go (is_free b.tag) (kept n b.size bs) (stepped_sp
     go : (t : Bool) (m : ℕ) → length (stepped n (s + 1) bs) + used_up n bs ≤ length bs
         → length ((if t then free_part m s else b ∷ []) ++ stepped n (s + 1) bs) + ((if t && nat_eq m 0 then 1 else 0) + used_up n bs) ≤ suc (length bs)
     go true zero l = omega (arith, l)
-    go true (suc m) l = omega (arith, l, ap (λ (x : Bool). if x then 1 else 0) (ne_eqb (suc m) 0 (λ q. absurd (omega (arith, q)))))
+    go true (suc m) l = omega (arith, l, ap {B = ℕ} (λ (x : Bool). if x then 1 else 0) (ne_eqb (suc m) 0 (λ q. absurd (omega (arith, q)))))
     go false m l = omega (arith, l)
 
 -- a last block that is free is used up

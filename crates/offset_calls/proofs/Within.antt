@@ -1,8 +1,8 @@
 -- A compaction by whole steps within a budget: the run that slides is the one that the plain machine finds, what is left
 -- agrees with it, and where it goes on and the moves are the same.
 use Rattle.offset_calls.proofs.Common.{◌≡◌, ◌≢◌, ℕ, ◌+◌, ◌≤◌, ◌⊎◌, ◌&&◌, ◌||◌, Bool, true, false, not, List, [], ◌∷◌, ◌++◌, length, Option, Some, None, is_some, option_map, nat_eq, nat_le, if◌then◌else◌}
-use Rattle.offset_calls.proofs.Common.{refl, sym, ap, ap₂, subst, subst₂, ◌∙◌, inl, inr, arith, map-append, append-nil, length-append, true≢false, cases_lt, and_parts, and_right, Block, View, Handle, IsWellFormed, FoldsTo, kept_name}
-use Rattle.offset_calls.proofs.Common.{State, is_free, is_short_of, total, units, count_named, one, Move, AreNumbered, Reply, Answer, Outcome, replies_only}
+use Rattle.offset_calls.proofs.Common.{refl, sym, ap, ap₂, subst, subst₂, ◌∙◌, inl, inr, arith, map-append, append-nil, length-append, true≢false, cases_lt, and_parts, Block, View, Handle, IsWellFormed, FoldsTo}
+use Rattle.offset_calls.proofs.Common.{State, is_free, total, units, count_named, one, Move, AreNumbered, Reply, Answer, Outcome, replies_only}
 use Rattle.std.proofs.lemmas.Bool.Decides.{nat_tests}
 use Rattle.std.proofs.lemmas.List.Elements.{filter-append}
 use Rattle.offset_allocator.specs.declared.moves.budget.Progress.{Progress}
