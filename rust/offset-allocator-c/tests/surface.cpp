@@ -592,7 +592,6 @@ static void tickets() {
     CHECK(several[4].allocate(200).realm == 4 && !several[0].allocate(1));
 }
 
-// At most 2 blocks, and then 3: the second range begins where the first one ends.
 // As README has them: no ticket of one is live in the other.
 static void realms() {
     GuardedAllocator vertices(1000), indices(1000);
@@ -602,6 +601,7 @@ static void realms() {
     CHECK(GuardedAllocator::withRealm(1000, 8, 7).realm() == 7 && !GuardedAllocator::withRealm(1000, 1, 7));
 }
 
+// At most 2 blocks, and then 3: the second range begins where the first one ends.
 static void raised() {
     Allocator heap(100, 3);
     Allocation rock = heap.allocate(30);
