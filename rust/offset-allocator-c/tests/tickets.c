@@ -71,7 +71,6 @@ static void stale(void) {
 
 static bool same(oag_ticket a, oag_ticket b) { return a.serial == b.serial && a.name == b.name && a.realm == b.realm; }
 
-/* a range finds a multiple of 256 before it */
 /* Of spaces that are made without a realm no ticket is taken for another's. */
 static void realms(void) {
     oag_allocator *vertices = oag_new(100, 16), *indices = oag_new(100, 16);
@@ -84,6 +83,7 @@ static void realms(void) {
     oag_drop(indices);
 }
 
+/* a range finds a multiple of 256 before it */
 static void to_a_multiple(void) {
     oag_allocator *space = oag_with_realm(1000, 16, 9);
     oag_allocate(space, 10);
