@@ -9,9 +9,13 @@ use Rattle.offset_allocator.specs.Relations.{SameState, Splits, Aligns}
 use Rattle.offset_allocator.specs.Requests.{AdmitsBlocks, CanGrant, Holds, blocks_needed, units_needed}
 use Rattle.offset_allocator.specs.View.{View, Handle, Place, units, place_of, padding_to, push, remove, free_sizes}
 
--- a free block holds n units from a multiple of align on, and there is room for the blocks that the request may add
+-- a free block holds n units from a multiple of align on
+abbrev pub HasBlockFor : ℕ → ℕ → View → Type 0
+HasBlockFor n align v = (p : Place) × (v.blocks ≡ p.before ++ (p.block ∷ p.after)) × (p.block.used ≡ false) × Holds n align p
+
+-- one does, and there is room for the blocks that the request may add
 abbrev pub CanHold : ℕ → ℕ → View → Type 0
-CanHold n align v = AdmitsBlocks (blocks_needed align) v × ((p : Place) × (v.blocks ≡ p.before ++ (p.block ∷ p.after)) × (p.block.used ≡ false) × Holds n align p)
+CanHold n align v = AdmitsBlocks (blocks_needed align) v × HasBlockFor n align v
 
 -- whether the block of a name holds them
 abbrev pub holds : ℕ → ℕ → Option Place → Bool

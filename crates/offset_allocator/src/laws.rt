@@ -44,7 +44,9 @@ pub use crate::moves::room::room_cost_counted;
 pub use crate::moves::room_by_steps::room_cost_by_counted;
 pub use crate::reports::beginning::would_begin_counted;
 pub use crate::reports::blocks::next_block_counted;
-pub use crate::reports::statistics::{is_empty_counted, statistics_counted};
+pub use crate::reports::statistics::{
+    is_empty_counted, largest_region_counted, statistics_counted,
+};
 pub use crate::reports::walks::{
     first_live_counted, last_live_counted, live_after_counted, live_before_counted,
 };
@@ -54,7 +56,9 @@ pub use crate::reports::{
 };
 use crate::store::Store;
 use crate::tables::Tables;
-pub use crate::tight::{refusal_tight_aligned_counted, refusal_tight_counted};
+pub use crate::tight::{
+    has_block_for_counted, refusal_tight_aligned_counted, refusal_tight_counted,
+};
 
 /// Grants a request for `n` units and frees the grant at once. The blocks, their names and the bins are then
 /// as they were. It is `false` where the request was refused.

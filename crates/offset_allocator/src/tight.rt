@@ -2,7 +2,7 @@
 //! bins from the class of the request on are walked. It changes the order of one bin, then grants as
 //! `allocate`.
 ghost use Rattle.std.specs.Prelude.{◌≡◌, ◌↔◌, ◌+◌, ◌*◌, ◌<◌, ◌≤◌, ◌%◌, ◌⊎◌, ◌++◌, ◌∷◌, ℕ, None, Some, false};
-ghost use Rattle.std.specs.Prelude.{length, nat_le, IsSome, IfSome};
+ghost use Rattle.std.specs.Prelude.{length, nat_le, IsSome, IsTrue, IfSome};
 ghost use Rattle.std.specs.List.{find};
 ghost use Rattle.offset_allocator.specs.Accesses.{Costs};
 ghost use Rattle.offset_allocator.specs.Bins.{HasBins, IsBinned, bins_in};
@@ -11,7 +11,7 @@ ghost use Rattle.offset_allocator.specs.Ranges.{Grants};
 ghost use Rattle.offset_allocator.specs.Relations.{Aligns, Allocates, SameState, Splits};
 ghost use Rattle.offset_allocator.specs.Requests.{CanGrant, AdmitsBlocks, blocks_needed, units_needed};
 ghost use Rattle.offset_allocator.specs.Reporting.Statistics.{greatest};
-ghost use Rattle.offset_allocator.specs.Tight.{AlignsTight, CanHold, FillsFirst, IsWhyTight, first_holding};
+ghost use Rattle.offset_allocator.specs.Tight.{AlignsTight, CanHold, FillsFirst, HasBlockFor, IsWhyTight, first_holding};
 ghost use Rattle.offset_allocator.specs.Tight.{holds_in, listed_from, with_first};
 ghost use Rattle.offset_allocator.specs.View.{IsWellFormed, Place, bin_at, free_sizes, padding_to};
 
@@ -92,6 +92,27 @@ fn choose<T: Tables>(
         }
     }
     None
+}
+
+/// Whether a free block holds `size` units from a multiple of `align` on, however many nodes are unused. The
+/// count grows by at most 2, and 6 for each free block of the class of `size` units or above.
+pub fn has_block_for_counted<T: Tables>(
+    allocator: &AllocatorOf<T>,
+    size: u32,
+    align: u32,
+    count: &mut Accesses,
+) -> bool
+    requires alignment { 1 ≤ align }
+    ensures holds { IsTrue result ↔ HasBlockFor size align allocator.now }
+    ensures accesses { Costs 0 (2
+        + 6 * length (listed_from (down size) allocator.now.bins)) count.old count.new }
+{
+    allocator.formed();
+    let store = &allocator.store;
+    match choose(&store.tables, store.top_mask, size, align, count) {
+        Some(_) => true,
+        None => false,
+    }
 }
 
 /// As `Allocator::refusal_tight_aligned`. The count grows by at most 2, and 6 for each free block of the

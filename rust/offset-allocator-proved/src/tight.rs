@@ -63,6 +63,27 @@ fn choose<T: Tables>(
     None
 }
 
+/// Whether a free block holds `size` units from a multiple of `align` on, however many nodes are unused. The
+/// count grows by at most 2, and 6 for each free block of the class of `size` units or above.
+///
+/// # Panics
+///
+/// It panics unless the alignment is at least 1.
+#[track_caller]
+pub fn has_block_for_counted<T: Tables>(
+    allocator: &AllocatorOf<T>,
+    size: u32,
+    align: u32,
+    count: &mut Accesses,
+) -> bool {
+    assert!(1 <= align, "the alignment must be at least 1");
+    let store = &allocator.store;
+    match choose(&store.tables, store.top_mask, size, align, count) {
+        Some(_) => true,
+        None => false,
+    }
+}
+
 /// As `Allocator::refusal_tight_aligned`. The count grows by at most 2, and 6 for each free block of the
 /// class of `size` units or above.
 ///

@@ -94,6 +94,17 @@ fn largest_free<T: Tables>(allocator: &AllocatorOf<T>, count: &mut Accesses) -> 
     }
 }
 
+/// The `largest_free_region` of `Allocator::statistics`, alone. The count grows by at most 8.
+pub fn largest_region_counted<T: Tables>(allocator: &AllocatorOf<T>, count: &mut Accesses) -> u32
+    ensures region { result ≡ largest (free_sizes allocator.now.blocks) }
+    ensures accesses { Costs 0 8 count.old count.new }
+{
+    match bins::largest(&allocator.store.tables, allocator.store.top_mask, count) {
+        None => 0,
+        Some(class) => float_to_uint(class),
+    }
+}
+
 /// As `Allocator::statistics`. The count grows by at most 520, and 4 for each free block.
 pub fn statistics_counted<T: Tables>(allocator: &AllocatorOf<T>, count: &mut Accesses) -> Statistics
     ensures statistics { AreStatistics result allocator.now }
