@@ -7,7 +7,7 @@ from measures import processors
 
 OUT = pathlib.Path(sys.argv[1])
 HERE = pathlib.Path(__file__).resolve().parent
-SIDES, PROFILES, SITES = ("original", "ours"), ("release", "lto"), ("one", "two")
+SIDES, PROFILES, SITES = ("original", "ours", "tickets"), ("release", "lto"), ("one", "two")
 BUILDS = [(profile, sites) for profile in PROFILES for sites in SITES]
 # the programs, in the order in which they take turns
 PROGRAMS = [(side, *build) for build in BUILDS for side in SIDES]
@@ -20,6 +20,8 @@ RANDOM = {"random, 1k live": (0.70, "random, 1,000 live"), "random, 16k live": (
           "growth, 1048576 nodes": (0.85, "random, 262,144 live"), "random, a million live": (0.85, "random, a million live")}
 RECORDED = 0.65
 AIMS = {"recorded programs": RECORDED, "random, to 60,000 live": 0.70, "random, more": 0.85}
+# of tickets in parts of handles
+TICKETS = {"recorded programs": 1.10, "random, to 60,000 live": 1.35, "random, more": 1.35}
 # the random workload that is counted: one is as the others, and larger tables take long
 ALSO = "random, 60k live"
 # memset by vectors: callgrind counts each byte of `rep stosb`
@@ -94,10 +96,19 @@ def label(name):
     return RANDOM.get(name, (0, name))[1]
 
 
-def ratio(row, build, at=None):
-    """Ours in parts of the original."""
-    ours, original = (row[" ".join((side, *build))] for side in ("ours", "original"))
-    return ours / original if at is None else ours[at] / original[at]
+def ratio(row, build, at=None, sides=("ours", "original")):
+    """A side in parts of another: ours in parts of the original."""
+    one, other = (row[" ".join((side, *build))] for side in sides)
+    return one / other if at is None else one[at] / other[at]
+
+
+def aims_of(work, limits, sides):
+    """For each kind of workload and each profile the aim, the most, and how many are above it."""
+    for what, limit in limits.items():
+        for profile in PROFILES:
+            values = [ratio(row, build, None, sides) for name, row in work.items() if kind(name) == what for build in BUILDS if build[0] == profile]
+            above = sum(round(value, 2) > limit for value in values)
+            yield [f"{what}, {profile}", f"{limit:.2f}", cell(max(values), limit), f"{above} of {len(values)}"]
 
 
 def cell(value, limit=float("inf")):
@@ -127,19 +138,20 @@ def report():
     parts = [[label(name), *(cell(ratio(row, build, 0)) for build in BUILDS)] for name, row in counted.items()]
     number = [[label(name), *(f"{row[' '.join(program)][0]:.1f}" for program in PROGRAMS)] for name, row in counted.items()]
     jumps = [[label(name), *(f"{row[' '.join(program)][1]:.1f}" for program in PROGRAMS)] for name, row in counted.items()]
-    aims = []
-    for what, limit in AIMS.items():
-        for profile in PROFILES:
-            values = [ratio(row, build) for name, row in work.items() if kind(name) == what for build in BUILDS if build[0] == profile]
-            above = sum(round(value, 2) > limit for value in values)
-            aims.append([f"{what}, {profile}", f"{limit:.2f}", cell(max(values), limit), f"{above} of {len(values)}"])
+    aims = list(aims_of(work, AIMS, ("ours", "original")))
+    beside = ("tickets", "ours")
+    ticket_aims = list(aims_of(work, TICKETS, beside))
+    tickets = [[label(name), *(cell(ratio(row, build, None, beside), TICKETS[kind(name)]) for build in BUILDS)] for name, row in work.items()]
+    ticket_parts = [[label(name), *(cell(ratio(row, build, 0, beside)) for build in BUILDS)] for name, row in counted.items()]
     when = (f"All times took {timed['minutes']:.0f} minutes ({timed['processor']}, {timed['rustc']}), by turns, and the fastest run counts. "
             f"Meanwhile other programs took {timed['others']:.2f} of a processor. All answers were equal.")
-    explained = ("*release* is `cargo build --release` with no flag, *lto* has `lto = true` and `codegen-units = 1`; ours is the crate for cargo. "
-                 "Each program has one side, and calls each function from one place or from two.")
+    explained = ("*release* is `cargo build --release` with no flag, *lto* has `lto = true` and `codegen-units = 1`; ours is the crate for cargo, with "
+                 "handles, and *tickets* that with tickets. Each program has one side, and calls each function from one place or from two.")
     shown = ["# As a user builds it", "", explained, "", when, "",
              "## Aims", "", "Time, ours/original. Marked by *: above the aim.", "", *table(["", "aim: at most", "the most", "above the aim"], aims), "",
              "## Time, ours/original", "", *table(["workload", *HEADS], ratios), "",
+             "## Tickets", "", "Time, tickets/handles. Marked by *: above the aim.", "", *table(["", "aim: at most", "the most", "above the aim"], ticket_aims), "",
+             *table(["workload", *HEADS], tickets), "", "Instructions, tickets/handles.", "", *table(["workload", *HEADS], ticket_parts), "",
              "## Nanoseconds a step", "", *table(["workload", *(f"{profile}, {sites}: {side}" for side, profile, sites in PROGRAMS)], ns), "",
              "## Instructions, ours/original", "", *table(["workload", *HEADS], parts), "",
              "## Instructions a step", "", *table(["workload", *(f"{profile}, {sites}: {side}" for side, profile, sites in PROGRAMS)], number), "",
@@ -148,7 +160,9 @@ def report():
     pages.put(HERE, 0, [explained + " [default.txt](default.txt) has all tables.", "", when, "",
                         *table(["time, ours/original", "aim: at most", "the most", "above the aim"], aims), "",
                         *table(["workload", *(f"time/original: {it}" if not k else it for k, it in enumerate(HEADS)),
-                                *(f"instructions/original: {it}" if not k else f"{it} " for k, it in enumerate(HEADS))], both)], "default", shown)
+                                *(f"instructions/original: {it}" if not k else f"{it} " for k, it in enumerate(HEADS))], both), "",
+                        *table(["time, tickets/handles", "aim: at most", "the most", "above the aim"], ticket_aims), "",
+                        *table(["workload", *(f"time/handles: {it}" if not k else it for k, it in enumerate(HEADS))], tickets)], "default", shown)
     print(pages.text_of(shown))
 
 

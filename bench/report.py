@@ -425,7 +425,7 @@ def main():
              "## By field", "",
              "In parts of ours by node.", "", *by_field_table(rows), "",
              "## Tickets", "",
-             "In parts of the same side with handles. The bytes are the library's; the caller keeps 24 for a "
+             "In parts of the same side with handles. The bytes are the library's; the caller keeps 20 for a "
              f"ticket, and 8 for a handle. Marked by *: more than {REACH_GUARDED:.2f} of the time.", "",
              *guarded_table(rows), ""]
     if resident:

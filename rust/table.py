@@ -141,6 +141,8 @@ IMPORTS = {
     "std::alloc::AllocFailed": None,                        # a push that fails gives an AllocError here
     "std::alloc::Global": "crate::memory::Global",          # no stable Rust has it
     "std::fmt": "core::fmt",                                # the library has no std
+    "std::hash::Hash": "core::hash::Hash",                  # the library has no std
+    "std::hash::Hasher": "core::hash::Hasher",              # the same
     "std::io::Read": "std::io::Read",                       # the same
     "std::io::Write": "std::io::Write",                     # the same
     "std::iter::FusedIterator": "core::iter::FusedIterator",  # the library has no std
@@ -300,7 +302,7 @@ ALWAYS = {
     "20 + length self.old ≤ ROOM": "",
     "23 + length text.old ≤ ROOM": "",
     "is_refusal (answer_view answer.now) ≡ true → IsRefusedBy space.now command": "",
-    "AreHeld self.old.space self.old.handles.items": "each call of a player keeps it, and `free` itself panics at a handle that is not live",
+    "AreHeld self.old.space self.old.handles.items": "players and lists of calls alone call it, which are proved to keep it, and `free` itself panics at a handle that is not live",
     "MayBeKept granted self.old.space self.old.handles.items": "`free` itself panics at a handle that is not live, as one that was kept twice is at the second `free`",
     "F.IsAlwaysCallable moved.old": "a closure of Rust may be called at any time; if it panics, that is its own panic",
 }

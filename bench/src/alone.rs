@@ -13,7 +13,9 @@
 #![allow(unexpected_cfgs)]
 #[cfg(feature = "original")]
 mod original;
-#[cfg(not(feature = "original"))]
+#[cfg(feature = "tickets")]
+mod guarded;
+#[cfg(not(any(feature = "original", feature = "tickets")))]
 mod erased;
 
 mod player;
@@ -22,7 +24,9 @@ mod workloads;
 
 #[cfg(feature = "original")]
 use {offset_allocator::Allocator, original::original_play_32 as play};
-#[cfg(not(feature = "original"))]
+#[cfg(feature = "tickets")]
+use {guarded::guarded_play_32 as play, offset_allocator_guarded::Guarded as Allocator};
+#[cfg(not(any(feature = "original", feature = "tickets")))]
 use {erased::erased_play_32 as play, offset_allocator_proved::Allocator};
 use std::hint::black_box;
 use std::path::{Path, PathBuf};

@@ -1,13 +1,11 @@
 //! Ours as plain Rust, with tickets in place of handles.
 use crate::traces::REFUSED;
-use crate::player::{exported, second_site, Space};
-use offset_allocator_guarded::{Global, Guarded, Ticket};
-use offset_allocator_proved::NodeIndex;
+use crate::player::{exported, Space};
+use offset_allocator_guarded::{Global, Guarded, NodeIndex, Ticket};
 
 impl<NI: NodeIndex> Space for Guarded<NI> {
-    /// No grant has the serial 0. An `Option` of a ticket would take 32 bytes, a ticket takes 24.
-    type Slot = Ticket;
-    const EMPTY: Ticket = Ticket { offset: 0, name: 0, serial: 0, realm: 0 };
+    type Slot = Option<Ticket>;
+    const EMPTY: Option<Ticket> = None;
 
     #[inline(always)]
     fn make(size: u32, max_allocs: u32) -> Self {
@@ -15,23 +13,18 @@ impl<NI: NodeIndex> Space for Guarded<NI> {
     }
 
     #[inline(always)]
-    fn request(&mut self, slot: &mut Ticket, size: u32) -> u64 {
-        match self.allocate(size) {
+    fn request(&mut self, slot: &mut Option<Ticket>, size: u32) -> u64 {
+        *slot = self.allocate(size);
+        match slot {
             None => REFUSED,
-            Some(ticket) => {
-                *slot = ticket;
-                ticket.offset.into()
-            }
+            Some(ticket) => ticket.offset.into(),
         }
     }
 
     #[inline(always)]
-    fn release(&mut self, slot: &mut Ticket) -> bool {
-        if slot.serial == 0 {
-            return false;
-        }
-        assert!(self.free(*slot));
-        slot.serial = 0;
+    fn release(&mut self, slot: &mut Option<Ticket>) -> bool {
+        let Some(ticket) = slot.take() else { return false };
+        assert!(self.free(ticket));
         true
     }
 
@@ -48,5 +41,10 @@ impl<NI: NodeIndex> Space for Guarded<NI> {
 
 exported! { guarded_play_32 guarded_make_32 Guarded<u32> }
 exported! { guarded_play_16 guarded_make_16 Guarded<u16> }
-second_site! { guarded_elsewhere_32 Guarded<u32> }
-second_site! { guarded_elsewhere_16 Guarded<u16> }
+
+#[cfg(not(feature = "other-sites"))]
+mod second {
+    use super::Guarded;
+    crate::player::second_site! { guarded_elsewhere_32 Guarded<u32> }
+    crate::player::second_site! { guarded_elsewhere_16 Guarded<u16> }
+}

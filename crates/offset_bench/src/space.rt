@@ -69,18 +69,11 @@ impl<T: Tables> Space for AllocatorOf<T> {
     }
 }
 
-/// A slot has a ticket, or one with the serial 0, which no grant has: an `Option` of a ticket takes 32 bytes,
-/// a ticket takes 24.
 impl<NI: NodeIndex> Space for Guarded<NI> {
-    type Slot = Ticket;
+    type Slot = Option<Ticket>;
 
-    fn empty() -> Ticket {
-        Ticket {
-            offset: 0,
-            name: 0,
-            serial: 0,
-            realm: 0,
-        }
+    fn empty() -> Option<Ticket> {
+        None
     }
 
     fn make(alloc: Global, size: u32, max_allocs: u32) -> Result<Self, AllocError> {
@@ -90,20 +83,21 @@ impl<NI: NodeIndex> Space for Guarded<NI> {
         Guarded::with_realm(alloc, size, max_allocs, 1)
     }
 
-    fn take(&mut self, slot: &mut Ticket, size: u32) -> u64 {
-        if slot.serial == 0 {
-            match self.allocate(size) {
+    fn take(&mut self, slot: &mut Option<Ticket>, size: u32) -> u64 {
+        match *slot {
+            None => match self.allocate(size) {
                 None => 1 << 32,
                 Some(ticket) => {
-                    *slot = ticket;
+                    *slot = Some(ticket);
                     u64::from(ticket.offset)
                 }
+            },
+            Some(ticket) => {
+                let done = self.free(ticket);
+                *slot = None;
+                // a ticket that is not live would change the checksum
+                if done { 1 << 33 } else { 1 << 34 }
             }
-        } else {
-            let done = self.free(*slot);
-            slot.serial = 0;
-            // a ticket that is not live would change the checksum
-            if done { 1 << 33 } else { 1 << 34 }
         }
     }
 

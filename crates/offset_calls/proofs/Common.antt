@@ -20,8 +20,7 @@ pub use Rattle.offset_calls.specs.Steps.{AreKept, AreNumbered, Takes, IsReason}
 pub use Rattle.offset_calls.specs.Tickets.{IsGrantOf, IsGrown, AreAllTickets, TakesTicket, IsNumberOf, handle_of, handles_of, is_that, live_name, meant, number_in, number_of, passed, ticket_of, AreInOrder}
 pub use Rattle.offset_calls.specs.Tickets.{IsStored}
 pub use Rattle.offset_calls.specs.declared.calls.Call.{Call}
-pub use Rattle.offset_guarded.specs.Guard.{Guard, AreAlike, IsLive, range_of, Grants, IsSame, KeepsAll, KeepsLive, KeepsOthers, KeepsSerials, KeepsSizes, handle_in, serial_of}
-pub use Rattle.offset_guarded.specs.declared.ticket.Ticket.{Ticket}
+pub use Rattle.offset_guarded.specs.Guard.{Guard, AreAlike, IsLive, range_of, Grants, IsSame, KeepsAll, KeepsLive, KeepsOthers, KeepsSerials, KeepsSizes, Ticket, handle_in, serial_of}
 pub use Rattle.offset_script.specs.Histories.{number_without, HasNoLive, IsNest, IsCollapse, collapse, outline, releases}
 pub use Rattle.offset_script.specs.Machine.{State, is_free, has_number, total, free_sizes, place_of, chosen_place, is_short_of, units_at_start, without_start, free_part, stamp_of_call, fits, start}
 pub use Rattle.offset_script.specs.Machine.{Tag, Live, Free, stamp_of_padding}

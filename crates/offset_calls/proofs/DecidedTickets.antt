@@ -1,7 +1,10 @@
 -- The same call in the same guarded allocator, with the same tickets, has the same reply, and leaves the same tickets.
 use Rattle.offset_calls.proofs.Common.{◌≡◌, ℕ, ◌+◌, ◌-◌, Bool, true, false, ◌⊎◌, List, [], ◌∷◌, ◌++◌, length, Option, Some, None, refl, sym, ap, ap₂, subst, subst₂, ◌∙◌, inl, inr, arith, length-append}
 use Rattle.offset_calls.proofs.Common.{length-map, map-append, if◌then◌else◌, View, Handle, IsWellFormed, kept_name, IsKept, Call, Command, Reply, Answer, Takes, Guard, Ticket, handle_in, handle_of, handles_of}
-use Rattle.offset_calls.proofs.{Common.meant, Common.AreInOrder, Common.IsGrown, Common.AreAllTickets, Common.TakesTicket, Decided.takes_decided, Kept.either, Tickets.kept_serial}
+use Rattle.offset_calls.proofs.{Common.meant, Common.AreInOrder, Common.IsGrown, Common.AreAllTickets, Common.TakesTicket, Decided.takes_decided, Kept.either, Tickets.kept_serial, Tickets.same_ledger}
+use Rattle.offset_calls.proofs.Common.{slice_set}
+use Rattle.offset_guarded.specs.Guard.{covering, nodes}
+use Rattle.offset_calls.specs.Tickets.{AreSerials, serials_kept}
 use Rattle.std.proofs.lemmas.List.{length-set}
 use Rattle.offset_allocator.specs.Relations.{SameState}
 use Rattle.offset_allocator.proofs.Decided.{last_same}
@@ -82,21 +85,21 @@ handle_name h t a e = go _ e
 last_name : (h : Guard) (ts : List Ticket) (t : Ticket) (hs : List (Option Handle)) (a : Handle) → handles_of h (ts ++ t ∷ []) ≡ hs ++ Some a ∷ [] → t.name ≡ a.name
 last_name h ts t hs a e = handle_name h t a (last_same (handles_of h ts) hs (handle_of h t) (Some a) (sym (map-append (handle_of h) ts (t ∷ [])) ∙ e)).0
 
-named_apart : (g : Guard) (ts : List Ticket) → AreAllTickets g ts → AreNamedApart (handles_of g ts)
+pub named_apart : (g : Guard) (ts : List Ticket) → AreAllTickets g ts → AreNamedApart (handles_of g ts)
 named_apart g ts is j k x d e = sym (kept_serial g ts j x is d) ∙ kept_serial g ts k x is e
 
--- one step
-record AreTwins (g g' : Guard) (ts : List Ticket) : Type 0 where
-  state : SameState g.space g'.space
-  handles : handles_of g ts ≡ handles_of g' ts
-  realm : g.realm ≡ g'.realm
-  all_tickets : AreAllTickets g ts
+-- ---- one step
+-- two guarded allocators alike, whose spaces are so in this way: the tickets of all grants are the same
+pub record AreTwins (R : View → View → Type 0) (g g' : Guard) (ts : List Ticket) : Type 0 where
+  pub state : R g.space g'.space
+  pub handles : handles_of g ts ≡ handles_of g' ts
+  pub serials : g.serials ≡ g'.serials
+  pub realm : g.realm ≡ g'.realm
+  pub all_tickets : AreAllTickets g ts
+  pub all_others : AreAllTickets g' ts
 
-module _ (c : Call) (g g' h h' : Guard) (ts us us' : List Ticket) (r r' : Reply) (known : IsWellFormed g.space) (twins : AreTwins g g' ts) (s : TakesTicket c g ts h us r) (t : TakesTicket c g' ts h' us' r') where
-  step : (r ≡ r') × SameState h.space h'.space × (handles_of h us ≡ handles_of h' us')
-  step = takes_decided c g.space g'.space h.space h'.space known twins.state (handles_of g ts) (handles_of h us) (handles_of h' us') (named_apart g ts twins.all_tickets) r r' s.takes
-      (subst (λ l. Takes c g'.space l h'.space (handles_of h' us') r') (sym twins.handles) t.takes)
-
+module _ (R : View → View → Type 0) (counted : (v w : View) → R v w → nodes v ≡ nodes w) (c : Call) (g g' h h' : Guard) (ts us us' : List Ticket) (r r' : Reply) (twins : AreTwins R g g' ts)
+    (s : TakesTicket c g ts h us r) (t : TakesTicket c g' ts h' us' r') (step : (r ≡ r') × R h.space h'.space × (handles_of h us ≡ handles_of h' us')) where
   lengths : length us ≡ length us'
   lengths = sym (length-map us (handle_of h)) ∙ ap length step.2 ∙ length-map us' (handle_of h')
 
@@ -124,7 +127,20 @@ module _ (c : Call) (g g' h h' : Guard) (ts us us' : List Ticket) (r r' : Reply)
   same_tickets (inr a) (inl b) = absurd (omega (arith, ap length (sym a.1) ∙ lengths ∙ ap length b, length-append ts (a.0 ∷ [])))
   same_tickets (inr a) (inr b) = a.1 ∙ ap (λ (u : Ticket). ts ++ u ∷ []) (same_ticket a.0 b.0 a.1 b.1 a.2 b.2) ∙ sym b.1
 
-  served : (r ≡ r') × (us ≡ us') × AreTwins h h' us
+  -- the cells of serials
+  same_cells : covering (nodes h.space) g.serials ≡ covering (nodes h'.space) g'.serials
+  same_cells = ap₂ covering (counted h.space h'.space step.1) twins.serials
+
+  same_serials : us ≡ us' → AreSerials c g ts h us r → AreSerials c g' ts h' us' r' → h.serials ≡ h'.serials
+  same_serials e (inl a) (inl b) =
+      a.1 ∙ ap (λ (x : Reply). serials_kept c x (nodes h.space) g.serials) step.0 ∙ ap₂ (serials_kept c r') (counted h.space h'.space step.1) twins.serials ∙ sym b.1
+  same_serials e (inl a) (inr b) = absurd (omega (arith, ap length (sym a.0) ∙ lengths ∙ ap length b.1, length-append ts (b.0 ∷ [])))
+  same_serials e (inr a) (inl b) = absurd (omega (arith, ap length (sym a.1) ∙ lengths ∙ ap length b.0, length-append ts (a.0 ∷ [])))
+  same_serials e (inr a) (inr b) =
+      let last : a.0 ≡ b.0 = (last_same ts ts a.0 b.0 (sym a.1 ∙ e ∙ b.1)).0 in
+      a.2 ∙ ap₂ (λ (cells : List ℕ) (u : Ticket). slice_set cells u.name u.serial) same_cells last ∙ sym b.2
+
+  pub served : (r ≡ r') × (us ≡ us') × AreTwins R h h' us
   served =
       let same = same_tickets s.grown t.grown in (
         step.0,
@@ -132,32 +148,51 @@ module _ (c : Call) (g g' h h' : Guard) (ts us us' : List Ticket) (r r' : Reply)
         record {
           state = step.1;
           handles = step.2 ∙ ap (handles_of h') (sym same);
+          serials = same_serials same s.serials t.serials;
           realm = s.realm ∙ twins.realm ∙ sym t.realm;
           all_tickets = s.all_tickets;
+          all_others = subst (AreAllTickets h') (sym same) t.all_tickets;
         },
       )
 
+-- what the fields of twins say of both
+pub same_given : (R : View → View → Type 0) (g g' : Guard) (ts : List Ticket) → AreTwins R g g' ts → g.given ≡ g'.given
+same_given R g g' ts t = sym t.all_tickets.all ∙ t.all_others.all
+
+-- twins in the same state are the same
+state_counted : (v w : View) → SameState v w → nodes v ≡ nodes w
+state_counted v w e = sym (ap nodes e)
+
+twins_same : (g g' : Guard) (ts : List Ticket) → AreTwins SameState g g' ts → SameGuard g g'
+twins_same g g' ts t =
+    let space : g'.space ≡ record g.space { accesses = g'.space.accesses } = t.state in
+    ap₂ (λ (v : View) (l : List ℕ). let u : Guard = record g' { space = v; serials = l } in u) space (sym t.serials)
+    ∙ ap₂ (λ (n m : ℕ). let u : Guard = record g { space = record g.space { accesses = g'.space.accesses }; given = n; realm = m } in u) (sym (same_given SameState g g' ts t)) (sym t.realm)
+
 -- ---- runs
-served_alike : (cs : List TicketCall) (g g' h h' : Guard) (ts us us' : List Ticket) (rs rs' : List Reply) → IsWellFormed g.space → AreTwins g g' ts → AreServed g ts cs rs h us → AreServed g' ts cs rs' h' us'
-    → (rs ≡ rs') × SameState h.space h'.space × (us ≡ us')
-served_alike [] g g' h h' ts us us' [] [] known twins s t =
-    (refl, subst₂ (λ (x y : Guard). SameState x.space y.space) (sym s.0) (sym t.0) twins.state, s.1 ∙ sym t.1)
+served_alike : (cs : List TicketCall) (g g' h h' : Guard) (ts us us' : List Ticket) (rs rs' : List Reply) → IsWellFormed g.space → AreTwins SameState g g' ts → AreServed g ts cs rs h us → AreServed g' ts cs rs' h' us'
+    → (rs ≡ rs') × SameGuard h h' × (us ≡ us')
+served_alike [] g g' h h' ts us us' [] [] known twins s t = (refl, subst₂ SameGuard (sym s.0) (sym t.0) (twins_same g g' ts twins), s.1 ∙ sym t.1)
 served_alike [] g g' h h' ts us us' [] (r ∷ rs') known twins s t = absurd t
 served_alike [] g g' h h' ts us us' (r ∷ rs) rs' known twins s t = absurd s
 served_alike (c ∷ cs) g g' h h' ts us us' [] rs' known twins s t = absurd s
 served_alike (c ∷ cs) g g' h h' ts us us' (r ∷ rs) [] known twins s t = absurd t
 served_alike (c ∷ cs) g g' h h' ts us us' (r ∷ rs) (r' ∷ rs') known twins s t =
-    let e = served (meant ts c) g g' s.0 t.0 ts s.1 t.1 r r' known twins s.2 t.2 in
+    let step = takes_decided (meant ts c) g.space g'.space s.0.space t.0.space known twins.state (handles_of g ts) (handles_of s.0 s.1) (handles_of t.0 t.1) (named_apart g ts twins.all_tickets) r r' s.2.takes
+    (subst (λ l. Takes (meant ts c) g'.space l t.0.space (handles_of t.0 t.1) r') (sym twins.handles) t.2.takes) in
+    let e = served SameState state_counted (meant ts c) g g' s.0 t.0 ts s.1 t.1 r r' twins s.2 t.2 step in
     let later = served_alike cs s.0 t.0 h h' s.1 us us' rs rs' s.3 e.2 s.4 (subst (λ now. AreServed t.0 now cs rs' h' us') (sym e.1) t.4) in
     (ap₂ (λ (a : Reply) (l : List Reply). a ∷ l) e.0 later.0, later.1, later.2)
 
 pub guarded_decided : (g g' h h' : Guard) (ts us us' : List Ticket) (cs : List TicketCall) (rs rs' : List Reply) → IsWellFormed g.space → SameGuard g g' → AreAllTickets g ts → AreServed g ts cs rs h us
-    → AreServed g' ts cs rs' h' us' → (rs ≡ rs') × SameState h.space h'.space × (us ≡ us')
+    → AreServed g' ts cs rs' h' us' → (rs ≡ rs') × SameGuard h h' × (us ≡ us')
 guarded_decided g g' h h' ts us us' cs rs rs' known same is s t = served_alike cs g g' h h' ts us us' rs rs' known
     (record {
       state = ap (λ (z : Guard). z.space) same;
       handles = sym (ap (λ (z : Guard). handles_of z ts) same);
+      serials = sym (ap (λ (z : Guard). z.serials) same);
       realm = sym (ap (λ (z : Guard). z.realm) same);
       all_tickets = is;
+      all_others = same_ledger g g' ts is (ap (λ (z : Guard). z.realm) same) (ap (λ (z : Guard). z.given) same);
     })
     s t

@@ -4,7 +4,10 @@ mod Decided
 mod DecidedTickets
 mod EndPairs
 mod EndServed
+mod Furthest
 mod Kept
+mod Raised
+mod RaisedTickets
 mod Reached
 mod Relocated
 mod Retracted

@@ -3,7 +3,11 @@ use Rattle.offset_calls.proofs.Common.{◌≡◌, ◌≢◌, ℕ, zero, suc, ◌
 use Rattle.offset_calls.proofs.Common.{option_map, if◌then◌else◌, refl, sym, ap, ap₂, subst, ◌∙◌, inl, inr, arith, length-append, false≢true, map-append, length-map, Handle, View, Ticket, Guard}
 use Rattle.offset_calls.proofs.Common.{AreAlike, Grants, IsLive, IsSame, KeepsAll, KeepsLive, KeepsOthers, KeepsSerials, KeepsSizes, handle_in, range_of, serial_of, Extends, Frees, Resets, Command}
 use Rattle.offset_calls.proofs.Common.{kept_name, IsKept, Call, Answer, Reply, Takes, renumber, AreInOrder, IsGrown, AreAllTickets, IsStored, TakesTicket, IsNumberOf}
-use Rattle.offset_calls.proofs.Common.{handle_of, handles_of, live_name, ticket_of}
+use Rattle.offset_calls.proofs.Common.{true, false, handle_of, handles_of, live_name, ticket_of}
+use Rattle.offset_calls.specs.Calls as plain
+use Rattle.offset_calls.specs.Tickets.{AreSerials, is_gone, serials_kept}
+use Rattle.offset_guarded.specs.Guard.{CoversNodes, covering, nodes}
+use Rattle.offset_allocator.specs.Resizing.{Grows, Shrinks}
 use Rattle.offset_allocator.specs.{View.free_sizes, Reporting.FreeSizes.rows_below}
 use Rattle.offset_guarded.proofs.Guards.{live_fits}
 use Rattle.offset_script.proofs.Simulation.{if_some}
@@ -121,6 +125,20 @@ stored n g h ts us (Some t) a is some none f = (
   some.realm.1,
 )
 
+-- a call with this reply makes no cells, where it gives no ticket
+abbrev pub IsQuiet : Call → Reply → Type 0
+IsQuiet c r = (n : ℕ) (cells : List ℕ) → serials_kept c r n cells ≡ cells
+
+-- serials after a request
+pub stored_serials : (n : ℕ) (c : Call) (g h : Guard) (ts us : List Ticket) (r : Option Ticket) (a : machine.Answer) → IsQuiet c (Answer a) → IfSome r (Grants n g h) → (r ≡ None → h ≡ record g { space = h.space })
+    → IsStored r ts us a → AreSerials c g ts h us (Answer a)
+stored_serials n c g h ts us None a quiet some none f = inl (f.0, ap (λ (g : Guard). g.serials) (none refl) ∙ sym (quiet (nodes h.space) g.serials))
+stored_serials n c g h ts us (Some t) a quiet some none f = inr (t, f.0, some.serials)
+
+-- and after a call that gives none
+pub kept_serials : (c : Call) (g h : Guard) (ts : List Ticket) (r : Reply) → IsQuiet c r → h ≡ record g { space = h.space } → AreSerials c g ts h ts r
+kept_serials c g h ts r quiet same = inl (refl, ap (λ (g : Guard). g.serials) same ∙ sym (quiet (nodes h.space) g.serials))
+
 -- the live name of a live ticket
 pub live_named_by : (t : Ticket) (g : Guard) → IsLive t g → live_name (Some t) g ≡ Some t.name
 live_named_by t g h = ap (λ b. option_map (λ (h : Handle). h.name) (handle_if b t)) h
@@ -133,30 +151,83 @@ alike t u g lt lu e = search (arith, live_fits)
 pub freed : (g h : Guard) (ts : List Ticket) (t : Ticket) (k : ℕ) → AreAllTickets g ts → IsNumberOf k (Some t) g ts → IsLive t g → Frees t.name g.space h.space → KeepsOthers t g h → range_of t h ≡ None
     → h ≡ record g { space = h.space }
     → TakesTicket (call.Command (command.Free k)) g ts h ts (Answer machine.Freed)
-freed g h ts t k is is_number live frees others gone same = search (arith, if_some, same_ledger, live_named_by, kept_ticket, slice_set, freed_handles, alike)
+freed g h ts t k is is_number live frees others gone same =
+    let takes : Takes (call.Command (command.Free k)) g.space (handles_of g ts) h.space (handles_of h ts) (Answer machine.Freed) =
+    search (arith, if_some, live_named_by, kept_ticket, slice_set, freed_handles, alike) in
+    record {
+      takes = takes;
+      all_tickets = same_ledger g h ts is (ap (λ (g : Guard). g.realm) same) (ap (λ (g : Guard). g.given) same);
+      grown = inl refl;
+      serials = kept_serials (call.Command (command.Free k)) g h ts (Answer machine.Freed) (λ _ l. refl) same;
+      realm = ap (λ (g : Guard). g.realm) same;
+    }
 
 -- a reset
 pub emptied : (g h : Guard) (ts : List Ticket) → AreAllTickets g ts → Resets g.space h.space → ((t : Ticket) → range_of t h ≡ None) → h ≡ record g { space = h.space }
     → TakesTicket (call.Command command.Reset) g ts h ts (Answer machine.Reset)
-emptied g h ts is resets gone same = search (arith, length-map, kept_of, same_ledger, option_map, is_some)
+emptied g h ts is resets gone same =
+    let takes : Takes (call.Command command.Reset) g.space (handles_of g ts) h.space (handles_of h ts) (Answer machine.Reset) = search (arith, length-map, kept_of, option_map, is_some) in
+    record {
+      takes = takes;
+      all_tickets = same_ledger g h ts is (ap (λ (g : Guard). g.realm) same) (ap (λ (g : Guard). g.given) same);
+      grown = inl refl;
+      serials = kept_serials (call.Command command.Reset) g h ts (Answer machine.Reset) (λ _ l. refl) same;
+      realm = ap (λ (g : Guard). g.realm) same;
+    }
+
+-- the serials after a call that makes a cell for each node
+covered_serials : (c : Call) (g h : Guard) (ts : List Ticket) (r : Reply) → ((n : ℕ) (cells : List ℕ) → serials_kept c r n cells ≡ covering n cells) → CoversNodes g h → AreSerials c g ts h ts r
+covered_serials c g h ts r covers same = inl (refl, ap (λ (g : Guard). g.serials) same ∙ sym (covers (nodes h.space) g.serials))
 
 -- an extension
-pub extended : (more : ℕ) (g h : Guard) (ts : List Ticket) (done : Bool) (a : machine.Answer) → AreAllTickets g ts → Extends more g.space h.space done → KeepsAll g h → KeepsSerials g h
+pub extended : (more : ℕ) (g h : Guard) (ts : List Ticket) (done : Bool) (a : machine.Answer) → AreAllTickets g ts → Extends more g.space h.space done → KeepsAll g h → KeepsSerials g h → CoversNodes g h
     → a ≡ (if done then machine.Extended else machine.Refused)
     → TakesTicket (call.Command (command.Extend more)) g ts h ts (Answer a)
-extended more g h ts done a is extends keeps same e = search (arith, same_handles, is_some, same_ledger)
+extended more g h ts done a is extends keeps same covers e = record {
+  takes = (a, (done, extends, same_handles g h ts (λ t. ap is_some (keeps t)), e), refl);
+  all_tickets = same_ledger g h ts is same.realm same.given;
+  grown = inl refl;
+  serials = covered_serials (call.Command (command.Extend more)) g h ts (Answer a) (λ m l. refl) covers;
+  realm = same.realm;
+}
+
+-- a range that may have another size
+not_gone : (done : Bool) (r : Reply) → r ≡ (if done then plain.Resized else Answer machine.Refused) → is_gone r ≡ false
+not_gone true r e = ap is_gone e
+not_gone false r e = ap is_gone e
+
+module _ (n : ℕ) (g h : Guard) (ts : List Ticket) (t : Ticket) (k : ℕ) (done : Bool) (r : Reply) (is : AreAllTickets g ts) (number : IsNumberOf k (Some t) g ts) (live : IsLive t g) (keeps : KeepsLive g h)
+    (same : KeepsSerials g h) (cells : CoversNodes g h) (e : r ≡ (if done then plain.Resized else Answer machine.Refused)) where
+  pub shrink_serves : Shrinks t.name n g.space h.space done → TakesTicket (call.Shrink k n) g ts h ts r
+  shrink_serves step = record {
+    takes = if_some (kept_name (handles_of g ts) k) t.name _ _ (number ∙ live_named_by t g live) (done, step, same_handles g h ts keeps, e);
+    all_tickets = same_ledger g h ts is same.realm same.given;
+    grown = inl refl;
+    serials = covered_serials (call.Shrink k n) g h ts r (λ m l. ap (λ (b : Bool). if b then l else covering m l) (not_gone done r e)) cells;
+    realm = same.realm;
+  }
+
+  pub grow_serves : Grows t.name n g.space h.space done → TakesTicket (call.Grow k n) g ts h ts r
+  grow_serves step = record {
+    takes = if_some (kept_name (handles_of g ts) k) t.name _ _ (number ∙ live_named_by t g live) (done, step, same_handles g h ts keeps, e);
+    all_tickets = same_ledger g h ts is same.realm same.given;
+    grown = inl refl;
+    serials = covered_serials (call.Grow k n) g h ts r (λ m l. ap (λ (b : Bool). if b then l else covering m l) (not_gone done r e)) cells;
+    realm = same.realm;
+  }
 
 -- where sizes stay, tickets do
 pub sizes_live : (g h : Guard) → KeepsSizes g h → KeepsLive g h
 sizes_live g h same t = search (arith, is_some, option_map)
 
 -- a call that gives no ticket, and leaves serials, sizes and handles
-pub slid_serves : (c : Call) (g h : Guard) (ts : List Ticket) (r : Reply) → AreAllTickets g ts → KeepsSizes g h → h ≡ record g { space = h.space }
+pub slid_serves : (c : Call) (g h : Guard) (ts : List Ticket) (r : Reply) → IsQuiet c r → AreAllTickets g ts → KeepsSizes g h → h ≡ record g { space = h.space }
     → Takes c g.space (handles_of g ts) h.space (handles_of g ts) r → TakesTicket c g ts h ts r
-slid_serves c g h ts r is sizes serials t = record {
+slid_serves c g h ts r quiet is sizes serials t = record {
   takes = subst (λ l. Takes c g.space (handles_of g ts) h.space l r) (sym (same_handles g h ts (sizes_live g h sizes))) t;
   all_tickets = same_ledger g h ts is (ap (λ (g : Guard). g.realm) serials) (ap (λ (g : Guard). g.given) serials);
   grown = inl refl;
+  serials = kept_serials c g h ts r quiet serials;
   realm = ap (λ (g : Guard). g.realm) serials;
 }
 
@@ -169,14 +240,14 @@ module _ (g h : Guard) (ts : List Ticket) (is : AreAllTickets g ts) (sizes : Kee
   slid_live = kept_live h ts k x (ap (λ l. kept_name l k) (same_handles g h ts (sizes_live g h sizes)) ∙ e)
 
 -- a question
-pub asked_serves : (c : Call) (g : Guard) (ts : List Ticket) (r : Reply) → AreAllTickets g ts → Takes c g.space (handles_of g ts) g.space (handles_of g ts) r → TakesTicket c g ts g ts r
-asked_serves c g ts r is t = slid_serves c g g ts r is (λ t. refl) refl t
+pub asked_serves : (c : Call) (g : Guard) (ts : List Ticket) (r : Reply) → IsQuiet c r → AreAllTickets g ts → Takes c g.space (handles_of g ts) g.space (handles_of g ts) r → TakesTicket c g ts g ts r
+asked_serves c g ts r quiet is t = slid_serves c g g ts r quiet is (λ t. refl) refl t
 
 -- one that the allocator answers, with no ticket
-pub question_serves : (q c : Call) (g : Guard) (ts : List Ticket) (k : ℕ) (v : View) (r : Reply) → AreAllTickets g ts → c ≡ q → renumber (λ j. k) q ≡ q → v ≡ g.space
+pub question_serves : (q c : Call) (g : Guard) (ts : List Ticket) (k : ℕ) (v : View) (r : Reply) → IsQuiet q r → AreAllTickets g ts → c ≡ q → renumber (λ j. k) q ≡ q → v ≡ g.space
     → ((hs : List (Option Handle)) → Takes q v hs v hs r) → TakesTicket (renumber (λ j. k) c) g ts g ts r
-question_serves q c g ts k v r is e same f t = subst (λ c. TakesTicket c g ts g ts r) (sym (ap (renumber (λ j. k)) e ∙ same))
-    (asked_serves q g ts r is (subst (λ v. Takes q v (handles_of g ts) v (handles_of g ts) r) f (t (handles_of g ts))))
+question_serves q c g ts k v r quiet is e same f t = subst (λ c. TakesTicket c g ts g ts r) (sym (ap (renumber (λ j. k)) e ∙ same))
+    (asked_serves q g ts r quiet is (subst (λ v. Takes q v (handles_of g ts) v (handles_of g ts) r) f (t (handles_of g ts))))
 
 -- a full report
 pub full_serves : (g : Guard) (ts : List Ticket) (c : Command) (k : ℕ) (v : View) (a : machine.Answer) → AreAllTickets g ts → c ≡ command.Full → v ≡ g.space

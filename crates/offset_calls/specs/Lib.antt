@@ -4,6 +4,8 @@ pub mod Calling
 pub mod Calls
 pub mod Ending
 pub mod Histories
+pub mod Limits
+pub mod Places
 pub mod Playing
 pub mod Room
 pub mod RoomBySteps

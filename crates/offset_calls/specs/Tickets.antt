@@ -1,11 +1,10 @@
 -- Calls on a guarded allocator: the tickets of its grants, and what a call that passes any ticket means.
-use Rattle.std.specs.Prelude.{◌≡◌, ℕ, zero, suc, ◌+◌, Bool, false, ◌&&◌, ◌⊎◌, List, [], ◌∷◌, ◌++◌, length, map, Option, Some, None, is_some, nat_eq, slice_get, option_map, option_and_then}
+use Rattle.std.specs.Prelude.{◌≡◌, ℕ, zero, suc, ◌+◌, Bool, true, false, ◌&&◌, ◌⊎◌, List, [], ◌∷◌, ◌++◌, length, map, Option, Some, None, is_some, nat_eq, slice_get, slice_set, option_map, option_and_then}
 use Rattle.std.specs.Prelude.{if◌then◌else◌}
 use Rattle.std.specs.List.{Contains}
 use Rattle.std.specs.Option.{option_map_or, option_or}
 use Rattle.offset_allocator.specs.View.{Handle, IsWellFormed}
-use Rattle.offset_guarded.specs.declared.ticket.Ticket.{Ticket}
-use Rattle.offset_guarded.specs.Guard.{Guard, handle_in, range_of}
+use Rattle.offset_guarded.specs.Guard.{Guard, Ticket, covering, handle_in, nodes, range_of}
 use Rattle.offset_script.specs.declared.scripts.Command.{Command}
 use Rattle.offset_script.specs.declared.scripts.Command.TheVariants as command
 use Rattle.offset_script.specs.Steps.{kept_name}
@@ -96,12 +95,30 @@ IsNumberOf k o g ts = kept_name (handles_of g ts) k ≡ live_name o g
 abbrev pub IsGrown : List Ticket → List Ticket → Reply → Type 0
 IsGrown ts us r = (us ≡ ts) ⊎ ((t : Ticket) × (us ≡ ts ++ t ∷ []) × (r ≡ Answer (machine.Grant t.serial t.offset)))
 
+-- whether a reply says that no grant of a number is live
+abbrev pub is_gone : Reply → Bool
+is_gone (Answer machine.Gone) = true
+is_gone other = false
+
+-- the cells of serials after a call that gives no ticket: those before it, and where it may make nodes one for each of n
+abbrev pub serials_kept : Call → Reply → ℕ → List ℕ → List ℕ
+serials_kept (call.Command (command.Extend more)) r n cells = covering n cells
+serials_kept (call.Shrink k size) r n cells = if is_gone r then cells else covering n cells
+serials_kept (call.Grow k size) r n cells = if is_gone r then cells else covering n cells
+serials_kept other r n cells = cells
+
+-- the serial of a new ticket is in the cell of its name, and no other cell changes
+abbrev pub AreSerials : Call → Guard → List Ticket → Guard → List Ticket → Reply → Type 0
+AreSerials c g ts h us r = ((us ≡ ts) × (h.serials ≡ serials_kept c r (nodes h.space) g.serials))
+    ⊎ ((t : Ticket) × (us ≡ ts ++ t ∷ []) × (h.serials ≡ slice_set (covering (nodes h.space) g.serials) t.name t.serial))
+
 -- the step of a call from one guarded allocator to the next, with this reply: before it the tickets of the grants so
 -- far are those in `ts`, and after it those in `us`; the realm stays
 pub record TakesTicket (c : Call) (g : Guard) (ts : List Ticket) (h : Guard) (us : List Ticket) (r : Reply) : Type 0 where
   pub takes : Takes c g.space (handles_of g ts) h.space (handles_of h us) r
   pub all_tickets : AreAllTickets h us
   pub grown : IsGrown ts us r
+  pub serials : AreSerials c g ts h us r
   pub realm : h.realm ≡ g.realm
 
 -- calls with these replies, one step after the other: they begin at g, where the tickets of the grants so far are those

@@ -10,13 +10,14 @@ use crate::calls::{LiveRange, Reply};
 use crate::numbers::Numbers;
 use crate::playing::resized;
 use offset_allocator::{Allocation, NodeIndex, Tables};
-use offset_script::{Answer, PlayerOf};
+use offset_script::Answer;
+use offset_script::keeper::KeeperOf;
 use std::alloc::AllocError;
 
 // The reply to `Relocate`. The handle of a grant is kept.
 #[inline(never)]
 pub(crate) fn relocate<T: Tables>(
-    player: &mut PlayerOf<T>,
+    player: &mut KeeperOf<T>,
     number: u32,
 ) -> Result<Reply, AllocError>
     requires { AreHeld player.old.space player.old.handles.items }
@@ -36,7 +37,7 @@ pub(crate) fn relocate<T: Tables>(
 // The reply to `RelocateAligned`. The handle of a grant is kept.
 #[inline(never)]
 pub(crate) fn relocate_aligned<T: Tables>(
-    player: &mut PlayerOf<T>,
+    player: &mut KeeperOf<T>,
     number: u32,
     align: u32,
 ) -> Result<Reply, AllocError>
@@ -57,7 +58,7 @@ pub(crate) fn relocate_aligned<T: Tables>(
 
 // The reply to `Retract`.
 #[inline(never)]
-pub(crate) fn retract<T: Tables>(player: &mut PlayerOf<T>, less: u32) -> Reply
+pub(crate) fn retract<T: Tables>(player: &mut KeeperOf<T>, less: u32) -> Reply
     ensures { Takes (Call.Retract less) player.old.space player.old.handles.items
         player.new.space player.new.handles.items (reply_view result) }
 {
@@ -92,7 +93,7 @@ fn find<NI: NodeIndex>(
 // The reply to `FirstLive`.
 #[inline(never)]
 pub(crate) fn first_live<T: Tables>(
-    player: &PlayerOf<T>,
+    player: &KeeperOf<T>,
     numbers: &mut Numbers,
 ) -> Result<Reply, AllocError>
     requires kept { AreKept player.now.space player.now.handles.items }
@@ -108,7 +109,7 @@ pub(crate) fn first_live<T: Tables>(
 // The reply to `LastLive`.
 #[inline(never)]
 pub(crate) fn last_live<T: Tables>(
-    player: &PlayerOf<T>,
+    player: &KeeperOf<T>,
     numbers: &mut Numbers,
 ) -> Result<Reply, AllocError>
     requires kept { AreKept player.now.space player.now.handles.items }
@@ -124,7 +125,7 @@ pub(crate) fn last_live<T: Tables>(
 // The reply to `LiveBefore`.
 #[inline(never)]
 pub(crate) fn live_before<T: Tables>(
-    player: &PlayerOf<T>,
+    player: &KeeperOf<T>,
     numbers: &mut Numbers,
     number: u32,
 ) -> Result<Reply, AllocError>
@@ -144,7 +145,7 @@ pub(crate) fn live_before<T: Tables>(
 // The reply to `LiveAfter`.
 #[inline(never)]
 pub(crate) fn live_after<T: Tables>(
-    player: &PlayerOf<T>,
+    player: &KeeperOf<T>,
     numbers: &mut Numbers,
     number: u32,
 ) -> Result<Reply, AllocError>

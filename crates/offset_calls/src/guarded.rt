@@ -1,8 +1,7 @@
 //! Plays calls on a guarded allocator. Each call may pass any ticket.
 
 ghost use Rattle.std.specs.Prelude.{◌≡◌, ◌+◌, ◌<◌, ◌≤◌, All, IfOk, IsTrue, Some, false, length, map, ℕ};
-ghost use Rattle.offset_guarded.specs.Guard.{HasSerialLeft};
-ghost use Rattle.offset_guarded.specs.declared.ticket.Ticket.{Ticket};
+ghost use Rattle.offset_guarded.specs.Guard.{HasSerialLeft, Ticket};
 ghost use Rattle.offset_script.specs.Machine.{start};
 ghost use Rattle.offset_calls.specs.Calls.{after, is_command, is_valid, replies, reply_view};
 ghost use Rattle.offset_calls.specs.Histories.{renumber};
@@ -145,7 +144,7 @@ fn append<T: Tables>(
 /// ```
 /// let call = TicketCall { call: Call::AllocateTight(300), ticket: None };
 /// let played = play_guarded::<offset_allocator::ByNode<u32>>(alloc, 1000, 16, 7, &[call])?;
-/// assert_eq!((played.tickets[0].realm, played.tickets[0].serial), (7, 1));
+/// assert_eq!((played.tickets[0].realm(), played.tickets[0].serial()), (7, 1));
 /// ```
 pub fn play_guarded<T: Tables>(
     alloc: Global,

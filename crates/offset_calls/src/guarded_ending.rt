@@ -1,8 +1,7 @@
 //! The replies of a guarded allocator to calls at the end of a space.
 
 ghost use Rattle.std.specs.Prelude.{◌≡◌, ◌≤◌, IfOk, List, ℕ, option_map};
-ghost use Rattle.offset_guarded.specs.declared.ticket.Ticket.{Ticket};
-ghost use Rattle.offset_guarded.specs.Guard.{HasSerialLeft};
+ghost use Rattle.offset_guarded.specs.Guard.{HasSerialLeft, Ticket};
 ghost use Rattle.offset_calls.specs.declared.calls.Call.{Call};
 ghost use Rattle.offset_calls.specs.Calls.{reply_view};
 ghost use Rattle.offset_calls.specs.Steps.{AreKept};
@@ -76,7 +75,7 @@ fn numbered(found: Option<Ticket>) -> Reply
     match found {
         None => Reply::Found(None),
         Some(ticket) => Reply::Found(Some(LiveRange {
-            number: ticket.serial,
+            number: ticket.serial(),
             offset: ticket.offset,
         })),
     }

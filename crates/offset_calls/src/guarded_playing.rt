@@ -1,8 +1,7 @@
 //! The reply of a guarded allocator to one call, with the ticket that the call passes.
 
 ghost use Rattle.std.specs.Prelude.{◌≡◌, IfOk, IsTrue, List, false, ℕ};
-ghost use Rattle.offset_guarded.specs.declared.ticket.Ticket.{Ticket};
-ghost use Rattle.offset_guarded.specs.Guard.{HasSerialLeft};
+ghost use Rattle.offset_guarded.specs.Guard.{HasSerialLeft, Ticket};
 ghost use Rattle.offset_script.specs.Grammar.{has_valid_alignment};
 ghost use Rattle.offset_script.specs.Machine.{answer_view};
 ghost use Rattle.offset_calls.specs.Calls.{is_command, is_valid, reply_view};

@@ -1,11 +1,10 @@
 //! Laws on the replies of `play_calls`. The functions do nothing.
 
 ghost use Rattle.std.specs.Prelude.{◌≡◌, ◌≤◌, ◌+◌, ◌++◌, ◌∷◌, IsTrue, ℕ, List, false, map, Option};
-ghost use Rattle.offset_allocator.specs.Relations.{SameState};
+ghost use Rattle.offset_allocator.specs.Relations.{SameState, SameUnder};
 ghost use Rattle.offset_allocator.specs.View.{Handle, IsWellFormed, View};
-ghost use Rattle.offset_guarded.specs.Guard.{Guard};
+ghost use Rattle.offset_guarded.specs.Guard.{Guard, IsRaised, Ticket};
 ghost use Rattle.offset_guarded.specs.State.{SameGuard};
-ghost use Rattle.offset_guarded.specs.declared.ticket.Ticket.{Ticket};
 ghost use Rattle.offset_script.specs.declared.scripts.Command.{Command};
 ghost use Rattle.offset_script.specs.Histories.{HasNoLive, IsCollapse, IsNest, collapse, outline, releases};
 ghost use Rattle.offset_script.specs.Machine as machine;
@@ -17,6 +16,11 @@ ghost use Rattle.offset_calls.specs.declared.calls.Call.TheVariants as call;
 ghost use Rattle.offset_calls.specs.Calls as plain;
 ghost use Rattle.offset_calls.specs.Calls.{after, replies, step};
 ghost use Rattle.offset_calls.specs.Ending.{with_end};
+ghost use Rattle.offset_calls.specs.Places.{ArePlaces, NoneIsLater, starts};
+ghost use Rattle.offset_calls.specs.Room.{Split};
+ghost use Rattle.offset_calls.specs.Stepped.{slid_by};
+ghost use Rattle.offset_script.specs.Totals.{live};
+ghost use Rattle.offset_calls.specs.Limits.{AreServedWithNodes, RunsWithNodes, SameGuardUnder};
 ghost use Rattle.offset_calls.specs.Tickets.{AreServed, AreAllTickets};
 ghost use Rattle.offset_calls.specs.declared.guarded.TicketCall.{TicketCall};
 ghost use Rattle.offset_calls.specs.Histories.{IsQuestion, Runs, goes_by_begin, replies_renumbered, without_offset};
@@ -96,6 +100,30 @@ pub fn retract_undoes_extend()
         → 1 ≤ units_at_end s.blocks → outline (retract_again n s).state.blocks ≡ outline s.blocks }
 {}
 
+/// What slides by whole steps goes as far to the front as whole steps can take it. Of all places that the live
+/// ranges could have, in their order, each whole steps from where it is, none is before the one that it gets. So these
+/// places are fixed, whatever the way to find them.
+pub fn whole_steps_go_furthest()
+    // Of any run of blocks, from its start on: `CompactBy`, `CompactWithin` and `MakeRoomBy` slide one as `slid_by` does.
+    ensures run { (size limit : ℕ) → 2 ≤ limit → (cs : List Call) (n : ℕ) (p : Split) → 1 ≤ n
+        → let s = after cs (start size limit) in
+        s.blocks ≡ p.front ++ (p.run ++ p.back)
+        → let o = total p.front in
+        let new = slid_by n (stamp_of_call s) p.run in
+        (live new ≡ live p.run)
+        × ArePlaces n o (live p.run) (starts o p.run) (starts o new)
+        × ((qs : List ℕ) → ArePlaces n o (live p.run) (starts o p.run) qs → NoneIsLater (starts o new) qs) }
+    // Of all ranges of the space, after a compaction that is not refused.
+    ensures compact_by { (size limit : ℕ) → 2 ≤ limit → (cs : List Call) (n : ℕ) → 1 ≤ n
+        → let s = after cs (start size limit) in
+        let done = step (call.CompactBy n) s in
+        (done.reply ≡ plain.Answer machine.Refused → ⊥)
+        → (live done.state.blocks ≡ live s.blocks)
+        × ArePlaces n 0 (live s.blocks) (starts 0 s.blocks) (starts 0 done.state.blocks)
+        × ((qs : List ℕ) → ArePlaces n 0 (live s.blocks) (starts 0 s.blocks) qs
+        → NoneIsLater (starts 0 done.state.blocks) qs) }
+{}
+
 /// In the same state, with the same handles kept, every list of calls has the same replies, and leaves the
 /// same state and the same handles, each with its name and its offset. Only the counts of accesses may
 /// differ.
@@ -111,8 +139,9 @@ pub fn a_copy_continues_alike()
 {}
 
 /// In the same guarded allocator every list of calls, which may pass any tickets, has the same replies, and
-/// the tickets of all grants are the same: each has its offset, name, serial and realm. Only the counts of
-/// accesses may differ.
+/// the tickets of all grants are the same: each has its offset, name, serial and realm. It leaves the same
+/// guarded allocator, serials included, so that all later calls are alike too. Only the counts of accesses may
+/// differ.
 ///
 /// So it is with a copy that `try_clone` made, since its `IsCopy` gives `SameGuard`, and with two of which
 /// `write_state` returns the same bytes, by the law `a_state_is_read_back` of `offset_guarded`.
@@ -120,5 +149,32 @@ pub fn a_guarded_copy_continues_alike()
     ensures { (g g' h h' : Guard) (ts us us' : List Ticket) (cs : List TicketCall)
         (rs rs' : List plain.Reply) → IsWellFormed g.space → SameGuard g g' → AreAllTickets g ts
         → AreServed g ts cs rs h us → AreServed g' ts cs rs' h' us'
-        → (rs ≡ rs') × SameState h.space h'.space × (us ≡ us') }
+        → (rs ≡ rs') × SameGuard h h' × (us ≡ us') }
+{}
+
+/// In a space and in the same one under a larger node limit, as `raised` returns it, every list of calls has the
+/// same replies, as long as none of the first one's is for want of nodes: a call that is refused there, that
+/// reports no free units, that names `Nodes` as the reason, or that makes room by steps, or asks what it costs, has
+/// room for the blocks that it wants, which are three at most (`blocks_wanted`). All else needs no room. Both leave
+/// the same space again, under the one limit and the other, and the same handles.
+///
+/// The library's law `a_raised_limit_changes_no_answer` says of a space that was `raised` that it is the same
+/// under that limit: `SameUnder`.
+pub fn a_raised_space_continues_alike()
+    ensures { (limit : ℕ) (v v' w w' : View) (handles kept kept' : List (Option Handle)) (cs : List Call)
+        (rs rs' : List plain.Reply) → IsWellFormed v → v.max_allocs ≤ limit → SameUnder limit v v'
+        → AreHeld v handles → RunsWithNodes v handles cs rs w kept → Runs v' handles cs rs' w' kept'
+        → (rs ≡ rs') × SameUnder limit w w' × (kept ≡ kept') }
+{}
+
+/// The same of guarded allocators, one of which is `raised`: every list of calls, which may pass any tickets, has
+/// the same replies and the same tickets, as long as none of the first one's replies is for want of nodes. Both
+/// leave the same guarded allocator again, serials included, under the one limit and the other.
+pub fn a_raised_guard_continues_alike()
+    // What `raised` returns is the same under that limit.
+    ensures raised { (limit : ℕ) (g h : Guard) → IsRaised limit g h → SameGuardUnder limit g h }
+    ensures alike { (limit : ℕ) (g g' h h' : Guard) (ts us us' : List Ticket) (cs : List TicketCall)
+        (rs rs' : List plain.Reply) → IsWellFormed g.space → g.space.max_allocs ≤ limit
+        → SameGuardUnder limit g g' → AreAllTickets g ts → AreServedWithNodes g ts cs rs h us
+        → AreServed g' ts cs rs' h' us' → (rs ≡ rs') × SameGuardUnder limit h h' × (us ≡ us') }
 {}

@@ -12,7 +12,7 @@ use crate::numbers::Numbers;
 use crate::playing::reply;
 use offset_allocator::laws::is_well_formed;
 use offset_allocator::{Allocation, AllocatorOf, ByNode, NodeIndex, Tables};
-use offset_script::PlayerOf;
+use offset_script::keeper::KeeperOf;
 use std::alloc::{AllocError, Global};
 use std::marker::Model;
 
@@ -22,7 +22,7 @@ pub type CallPlayer<NI = u32> = CallPlayerOf<ByNode<NI>>;
 /// An allocator that takes calls one by one, and replies as `play_calls_of` does to the whole list.
 #[derive(Drop)]
 pub struct CallPlayerOf<T: Tables> {
-    player: PlayerOf<T>,
+    player: KeeperOf<T>,
     numbers: Numbers,
 }
 
@@ -57,7 +57,7 @@ impl<T: Tables> CallPlayerOf<T> {
         requires high { max_allocs + 1 < T.Index.MAX }
         ensures fresh { IfOk result (λ p. IsFresh size max_allocs p.space × (p.handles ≡ [])) }
     {
-        let player = PlayerOf::start(alloc, size, max_allocs)?;
+        let player = KeeperOf::start(alloc, size, max_allocs)?;
         // A step of the proof, which does nothing.
         is_well_formed(&player.space);
         Ok(CallPlayerOf {

@@ -16,7 +16,8 @@ use crate::numbers::Numbers;
 use crate::sliding::{compact, compact_by, compact_within, make_room, make_room_by};
 use offset_allocator::laws::is_well_formed;
 use offset_allocator::{AllocatorOf, ByNode, NodeIndex, Tables};
-use offset_script::{Answer, PlayerOf};
+use offset_script::Answer;
+use offset_script::keeper::KeeperOf;
 use std::alloc::{AllocError, Global};
 
 // The reply to a call that was to resize a range.
@@ -31,7 +32,7 @@ pub(crate) fn resized(done: bool) -> Reply
 }
 
 // The reply to `Shrink`.
-fn shrink<T: Tables>(player: &mut PlayerOf<T>, number: u32, size: u32) -> Reply
+fn shrink<T: Tables>(player: &mut KeeperOf<T>, number: u32, size: u32) -> Reply
     requires { AreLive player.old.space player.old.handles.items }
     ensures { Takes (Call.Shrink number size) player.old.space player.old.handles.items
         player.new.space player.new.handles.items (reply_view result) }
@@ -43,7 +44,7 @@ fn shrink<T: Tables>(player: &mut PlayerOf<T>, number: u32, size: u32) -> Reply
 }
 
 // The reply to `Grow`.
-fn grow<T: Tables>(player: &mut PlayerOf<T>, number: u32, size: u32) -> Reply
+fn grow<T: Tables>(player: &mut KeeperOf<T>, number: u32, size: u32) -> Reply
     requires { AreLive player.old.space player.old.handles.items }
     ensures { Takes (Call.Grow number size) player.old.space player.old.handles.items
         player.new.space player.new.handles.items (reply_view result) }
@@ -55,7 +56,7 @@ fn grow<T: Tables>(player: &mut PlayerOf<T>, number: u32, size: u32) -> Reply
 }
 
 // The reply to `Offset`.
-fn offset<T: Tables>(player: &PlayerOf<T>, number: u32) -> Reply
+fn offset<T: Tables>(player: &KeeperOf<T>, number: u32) -> Reply
     requires { AreLive player.now.space player.now.handles.items }
     ensures { Takes (Call.Offset number) player.now.space player.now.handles.items
         player.now.space player.now.handles.items (reply_view result) }
@@ -69,7 +70,7 @@ fn offset<T: Tables>(player: &PlayerOf<T>, number: u32) -> Reply
 
 // The reply to `AllocateTight`.
 #[inline(never)]
-fn tight<T: Tables>(player: &mut PlayerOf<T>, size: u32) -> Result<Reply, AllocError>
+fn tight<T: Tables>(player: &mut KeeperOf<T>, size: u32) -> Result<Reply, AllocError>
     requires held { AreHeld player.old.space player.old.handles.items }
     ensures takes { IfOk result (λ r. Takes (Call.AllocateTight size) player.old.space player.old.handles.items
         player.new.space player.new.handles.items (reply_view r)) }
@@ -84,7 +85,7 @@ fn tight<T: Tables>(player: &mut PlayerOf<T>, size: u32) -> Result<Reply, AllocE
 // The reply to `AllocateTightAligned`.
 #[inline(never)]
 fn tight_aligned<T: Tables>(
-    player: &mut PlayerOf<T>,
+    player: &mut KeeperOf<T>,
     size: u32,
     align: u32,
 ) -> Result<Reply, AllocError>
@@ -103,7 +104,7 @@ fn tight_aligned<T: Tables>(
 // The reply to `AllocateAt`.
 #[inline(never)]
 fn allocate_at<T: Tables>(
-    player: &mut PlayerOf<T>,
+    player: &mut KeeperOf<T>,
     offset: u32,
     size: u32,
 ) -> Result<Reply, AllocError>
@@ -147,7 +148,7 @@ pub(crate) fn room_cost_by<T: Tables>(
 #[inline(never)]
 fn other<T: Tables>(
     alloc: Global,
-    player: &mut PlayerOf<T>,
+    player: &mut KeeperOf<T>,
     numbers: &mut Numbers,
     call: Call,
 ) -> Result<Reply, AllocError>
@@ -209,7 +210,7 @@ fn other<T: Tables>(
 // The reply to one call.
 pub(crate) fn reply<T: Tables>(
     alloc: Global,
-    player: &mut PlayerOf<T>,
+    player: &mut KeeperOf<T>,
     numbers: &mut Numbers,
     call: Call,
 ) -> Result<Reply, AllocError>
@@ -233,7 +234,7 @@ pub(crate) fn reply<T: Tables>(
 #[inline(never)]
 fn append_other<T: Tables>(
     alloc: Global,
-    player: &mut PlayerOf<T>,
+    player: &mut KeeperOf<T>,
     numbers: &mut Numbers,
     call: &Call,
     replies: &mut Vec<Reply>,
@@ -257,7 +258,7 @@ fn append_other<T: Tables>(
 #[inline(always)]
 fn append<T: Tables>(
     alloc: Global,
-    player: &mut PlayerOf<T>,
+    player: &mut KeeperOf<T>,
     numbers: &mut Numbers,
     call: &Call,
     replies: &mut Vec<Reply>,
@@ -313,7 +314,7 @@ pub fn play_calls_of<T: Tables>(
     // a run of the allocator's named steps.
     ensures { IfOk result (λ found. AreReplies size max_allocs calls.now (map reply_view found.items)) }
 {
-    let mut player: PlayerOf<T> = PlayerOf::start(alloc, size, max_allocs)?;
+    let mut player: KeeperOf<T> = KeeperOf::start(alloc, size, max_allocs)?;
     // A step of the proof, which does nothing, here and below.
     is_well_formed(&player.space);
     let mut numbers = Numbers::new(alloc);

@@ -25,7 +25,8 @@ use crate::guarded_playing::TicketPlayer;
 use crate::numbers::Numbers;
 use offset_allocator::{Allocation, AllocatorOf, Move, NodeIndex, Progress, RoomCost, Tables};
 use offset_guarded::GuardedOf;
-use offset_script::{Answer, PlayerOf};
+use offset_script::Answer;
+use offset_script::keeper::KeeperOf;
 use std::alloc::{AllocError, Global};
 
 // The moves so far, without numbers, each with the handle of its range after it, unless memory for one was
@@ -186,7 +187,7 @@ fn numbered<NI: NodeIndex>(
 #[inline(never)]
 pub(crate) fn compact<T: Tables>(
     alloc: Global,
-    player: &mut PlayerOf<T>,
+    player: &mut KeeperOf<T>,
     numbers: &mut Numbers,
 ) -> Result<Reply, AllocError>
     requires kept { AreKept player.old.space player.old.handles.items }
@@ -222,7 +223,7 @@ fn by_steps(done: bool, moves: Vec<Moved>) -> Reply
 #[inline(never)]
 pub(crate) fn compact_by<T: Tables>(
     alloc: Global,
-    player: &mut PlayerOf<T>,
+    player: &mut KeeperOf<T>,
     numbers: &mut Numbers,
     step: u32,
 ) -> Result<Reply, AllocError>
@@ -248,7 +249,7 @@ pub(crate) fn compact_by<T: Tables>(
 #[inline(never)]
 pub(crate) fn make_room<T: Tables>(
     alloc: Global,
-    player: &mut PlayerOf<T>,
+    player: &mut KeeperOf<T>,
     numbers: &mut Numbers,
     size: u32,
 ) -> Result<Reply, AllocError>
@@ -273,7 +274,7 @@ pub(crate) fn make_room<T: Tables>(
 #[inline(never)]
 pub(crate) fn make_room_by<T: Tables>(
     alloc: Global,
-    player: &mut PlayerOf<T>,
+    player: &mut KeeperOf<T>,
     numbers: &mut Numbers,
     size: u32,
     align: u32,
@@ -312,7 +313,7 @@ fn so_far(progress: Option<Progress>, moves: Vec<Moved>) -> Reply
 #[inline(never)]
 pub(crate) fn compact_within<T: Tables>(
     alloc: Global,
-    player: &mut PlayerOf<T>,
+    player: &mut KeeperOf<T>,
     numbers: &mut Numbers,
     step: u32,
     from: u32,
@@ -455,7 +456,7 @@ fn with_serials<T: Tables>(
         // it is live, so it has a ticket
         let number = match space.ticket(handle) {
             None => 0,
-            Some(ticket) => ticket.serial,
+            Some(ticket) => ticket.serial(),
         };
         found.push(Moved { number, ..range })?;
     }

@@ -69,15 +69,10 @@ fn with_tickets(alloc: Global, calls: &[Call]) -> Result<Vec<TicketCall>, AllocE
     let mut found = Vec::new(alloc);
     for call in calls {
         let serial = found.len() as u64 / 2;
-        let ticket = Ticket {
-            offset: 0,
-            name: (serial % 1024) as u32,
-            serial,
-            realm: 7,
-        };
+        let ticket = Ticket::from_parts(0, (serial % 1024) as u32, serial, 7);
         found.push(TicketCall {
             call: *call,
-            ticket: if serial % 3 == 1 { Some(ticket) } else { None },
+            ticket: if serial % 3 == 1 { ticket } else { None },
         })?;
     }
     Ok(found)

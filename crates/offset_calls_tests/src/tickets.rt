@@ -49,46 +49,37 @@ impl Plain {
     }
 }
 
+/// The ticket of four numbers.
+pub(crate) fn ticket_of(offset: u32, name: u32, serial: u64, realm: u32) -> Ticket {
+    match Ticket::from_parts(offset, name, serial, realm) {
+        None => unreachable!(),
+        Some(ticket) => ticket,
+    }
+}
+
 // A ticket: one of those given, stale or live, as it is or altered, or random numbers.
 fn any_ticket(random: &mut Random, given: &[Ticket]) -> Ticket {
-    let mut ticket = Ticket {
-        offset: random.advance(),
-        name: random.advance() % 80,
-        serial: u64::from(random.advance() % 2_000),
-        realm: random.advance() % 3,
-    };
+    let mut offset = random.advance();
+    let mut name = random.advance() % 80;
+    let mut serial = u64::from(random.advance() % 2_000);
+    let mut realm = random.advance() % 3;
     let kind = random.advance() % 8;
     let place = random.place(given.len());
     if let Some(known) = given.get(place).filter(|_| kind > 0) {
-        match kind {
-            1 => ticket = Ticket {
-                name: ticket.name,
-                offset: known.offset,
-                serial: known.serial,
-                realm: known.realm,
-            },
-            2 => ticket = Ticket {
-                name: known.name,
-                offset: known.offset,
-                serial: ticket.serial,
-                realm: known.realm,
-            },
-            3 => ticket = Ticket {
-                name: known.name,
-                offset: known.offset,
-                serial: known.serial,
-                realm: ticket.realm,
-            },
-            4 => ticket = Ticket {
-                name: known.name,
-                offset: ticket.offset,
-                serial: known.serial,
-                realm: known.realm,
-            },
-            _ => ticket = *known,
+        if kind != 1 {
+            name = known.name();
+        }
+        if kind != 2 {
+            serial = known.serial();
+        }
+        if kind != 3 {
+            realm = known.realm();
+        }
+        if kind != 4 {
+            offset = known.offset;
         }
     }
-    ticket
+    ticket_of(offset, name, serial, realm)
 }
 
 // The last tickets are more often live.
@@ -110,7 +101,10 @@ fn keep(rt: &impl Abort, plain: &mut Plain, granted: Option<Ticket>, size: u32) 
         // no serial is given twice
         assert_that(
             rt,
-            plain.given.iter().all(|other| other.serial < ticket.serial),
+            plain
+                .given
+                .iter()
+                .all(|other| other.serial() < ticket.serial()),
         );
         let live = Live {
             ticket,

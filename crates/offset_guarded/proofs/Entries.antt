@@ -1,9 +1,9 @@
 -- Entries after one of them is replaced.
-use Rattle.std.proofs.Common.{◌≡◌, ℕ, zero, suc, List, [], ◌∷◌, ◌++◌, Option, Some, None, Result, Ok, Err, true, length, slice_set, slice_index_or, refl, sym, ap, ◌∙◌, inl, inr, arith}
+use Rattle.std.proofs.Common.{◌≡◌, ◌<◌, ℕ, zero, suc, List, [], ◌∷◌, ◌++◌, Option, Some, None, Result, Ok, Err, true, length, slice_set, slice_index_or, refl, sym, ap, ◌∙◌, inl, inr, arith}
 use Rattle.std.specs.Prelude.{OnOk, is_ok}
 use Rattle.std.proofs.lemmas.Bool.{cases_eq, cases_lt}
 use Rattle.std.proofs.lemmas.List.{get_or-set_same, get_or-set_other, set_past}
-use Rattle.offset_guarded.specs.declared.ticket.Ticket.{Ticket}
+use Rattle.offset_guarded.specs.Guard.{Ticket}
 use Rattle.offset_guarded.specs.Values.{AreNamed, entry}
 
 pub named_set : {V : Type 0} (cells : List (Option (Ticket × V))) (x : ℕ) (v : Option (Ticket × V)) → AreNamed cells → ((e : Ticket × V) → v ≡ Some e → e.0.name ≡ x)
@@ -33,3 +33,7 @@ pub cleared : {X : Type 0} (d : X) (cells : List X) (x : ℕ) → slice_index_or
 cleared d [] x = refl
 cleared d (c ∷ cells) zero = refl
 cleared d (c ∷ cells) (suc x) = cleared d cells x
+
+-- a cell has what it is given, by a number that is its place
+pub put_there : {X : Type 0} (d : X) (cells : List X) (x y : ℕ) (v : X) → y ≡ x → y < length cells → slice_index_or (slice_set cells y v) x d ≡ v
+put_there d cells x y v e l = ap (λ z. slice_index_or (slice_set cells y v) z d) (sym e) ∙ get_or-set_same cells y v d l

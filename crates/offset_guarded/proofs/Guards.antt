@@ -2,18 +2,18 @@
 use Rattle.std.proofs.Common.{◌≡◌, ◌≢◌, ℕ, ◌+◌, ◌<◌, ◌≤◌, length, Bool, true, false, ◌&&◌, List, [], ◌∷◌, Option, Some, None, IsSome, nat_eq, option_map, slice_set, if◌then◌else◌, refl, sym, ap, ap₂}
 use Rattle.std.proofs.Common.{subst, ◌∙◌, inl, inr, arith, eq-eqb, ne_eqb}
 use Rattle.std.proofs.lemmas.Bool.{cases_eq, cases_lt, eqb-true, and_parts}
-use Rattle.std.proofs.lemmas.List.{get_or-set_same, get_or-set_other}
+use Rattle.std.proofs.lemmas.List.{get_or-set_same, get_or-set_other, length-replicate, replicate_more}
+use Rattle.std.proofs.Common.{zero, suc, ◌++◌, append_assoc, length-append, max, replicate}
 use Rattle.offset_allocator.specs.View.{Block, View, Handle, Place, AreNames, IsWellFormed, count_named, place_of}
 use Rattle.offset_allocator.specs.{Ranges.Range, Relations.Aligns, Relations.Allocates, Requests.CanGrant, Tight.AlignsTight, Tight.CanHold, AtOffset.AllocatesAt, AtOffset.CanGrantAt}
 use Rattle.offset_allocator.specs.Ranges as named
 use Rattle.offset_allocator.proofs.{Reading.range_at, Tallies.hit_cases}
-use Rattle.offset_guarded.specs.declared.ticket.Ticket.{Ticket}
 use Rattle.offset_guarded.specs.State as state
 use Rattle.std.specs.Prelude.{MatchOption}
 use Rattle.offset_allocator.specs.declared.reports.Refusal.{Refusal as OfSpace}
 use Rattle.offset_allocator.specs.declared.reports.Refusal.TheVariants as why
 use Rattle.offset_guarded.specs.declared.refusal.Refusal.{Refusal}
-use Rattle.offset_guarded.specs.Guard.{Guard, Table, Grants, AreAlike, IsGuarded, IsLive, KeepsOthers, last_serial, cell, fits, for_space, of_space, serial_of}
+use Rattle.offset_guarded.specs.Guard.{Guard, Table, Grants, AreAlike, IsGuarded, IsLive, KeepsOthers, Ticket, last_serial, cell, covering, fits, for_space, nodes, of_space, serial_of}
 
 -- what the fields show
 abbrev pub guard : View → Table → ℕ → Guard
@@ -79,6 +79,33 @@ pub cell_given : (made next t : Table) (y name x : ℕ) → next ≡ record made
     → cell x next.cells ≡ (if nat_eq x name then t.given + 1 else cell x t.cells)
 cell_given made next t y name x e same l given cells = search (arith, cell_set, nat_eq)
 
+-- n more cells of 0, and one more after them
+more_zeros : (cells : List ℕ) (n : ℕ) → (cells ++ replicate n 0) ++ 0 ∷ [] ≡ cells ++ replicate (n + 1) 0
+more_zeros cells n = append_assoc cells (replicate n 0) (0 ∷ []) ∙ ap (λ (l : List ℕ). cells ++ l) (replicate_more n 0)
+
+pub zero_more : (cells : List ℕ) (x : ℕ) → cell x (cells ++ 0 ∷ []) ≡ cell x cells
+zero_more [] zero = refl
+zero_more [] (suc x) = refl
+zero_more (c ∷ cs) zero = refl
+zero_more (c ∷ cs) (suc x) = zero_more cs x
+
+-- cells that cover so many names, as far as they are made
+abbrev pub IsCovered : ℕ → List ℕ → List ℕ → Type 0
+IsCovered names cells now = (n : ℕ) × (now ≡ cells ++ replicate n 0) × (length cells + n ≤ max (length cells) names)
+
+pub one_covered : (names : ℕ) (cells now : List ℕ) → IsCovered names cells now → length now < names → IsCovered names cells (now ++ 0 ∷ [])
+one_covered names cells now c l =
+    let long = ap length c.1 ∙ length-append cells (replicate c.0 0) in
+    let zeros = length-replicate {A = ℕ} c.0 0 in
+    (c.0 + 1, ap (λ (k : List ℕ). k ++ 0 ∷ []) c.1 ∙ more_zeros cells c.0, omega (arith, long, zeros, l))
+
+pub all_covered : (names : ℕ) (cells now : List ℕ) → IsCovered names cells now → names ≤ length now → now ≡ covering names cells
+all_covered names cells now c l =
+    let long = ap length c.1 ∙ length-append cells (replicate c.0 0) in
+    let zeros = length-replicate {A = ℕ} c.0 0 in
+    let most = c.2 in
+    c.1 ∙ ap (λ (n : ℕ). cells ++ replicate n 0) (omega (arith, long, zeros, l, most))
+
 -- a request leaves the node limit
 pub same_limit : (n align : ℕ) (v w : View) (h : Handle) → Aligns n align v w (Some h) → w.max_allocs ≡ v.max_allocs
 same_limit n align v w h t = ap (λ (z : View). z.max_allocs) t.1.view
@@ -111,11 +138,11 @@ module _ (max n realm : ℕ) (v w : View) (t u : Table) (h : Handle) (is : IsGua
   fit : fits ticket (guard w u realm) ≡ true
   fit = ap₂ (λ a b. a && b) (eq-eqb realm realm refl) (eq-eqb (t.given + 1) (cell h.name u.cells) (sym (here h.name refl)))
 
-  pub granted : Grants n (guard v t realm) (guard w u realm) ticket
-  granted = search (arith, none_if, fit, others)
+  pub granted : u.cells ≡ slice_set (covering (nodes w) t.cells) h.name (t.given + 1) → Grants n (guard v t realm) (guard w u realm) ticket
+  granted table = search (arith, none_if, fit, others)
 
-  pub granted_as : (g : Guard) (z : Ticket) → guard v t realm ≡ g → z ≡ ticket → Grants n g (guard w u realm) z
-  granted_as g z shows same = subst (λ g. Grants n g (guard w u realm) z) shows (subst (λ z. Grants n (guard v t realm) (guard w u realm) z) (sym same) granted)
+  pub granted_as : u.cells ≡ slice_set (covering (nodes w) t.cells) h.name (t.given + 1) → (g : Guard) (z : Ticket) → guard v t realm ≡ g → z ≡ ticket → Grants n g (guard w u realm) z
+  granted_as table g z shows same = subst (λ g. Grants n g (guard w u realm) z) shows (subst (λ z. Grants n (guard v t realm) (guard w u realm) z) (sym same) (granted table))
 
 -- what holds of a name in the space of the fields holds of it in what they show
 pub shown : (P : ℕ → View → Type 0) (x y : ℕ) (g h : Guard) → g ≡ h → x ≡ y → P x g.space → P y h.space

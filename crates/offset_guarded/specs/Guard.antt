@@ -1,12 +1,11 @@
 -- What contracts see of a guarded allocator: which tickets are live, and what a call leaves of them.
-use Rattle.std.specs.Prelude.{codes, ◌≡◌, ℕ, ◌+◌, ◌<◌, ◌≤◌, Bool, ◌&&◌, List, Option, Some, None, IsSome, is_some, nat_eq, slice_index_or, if◌then◌else◌, option_map, MatchOption}
+use Rattle.std.specs.Prelude.{codes, ◌≡◌, ℕ, ◌+◌, ◌-◌, ◌<◌, ◌≤◌, Bool, ◌&&◌, List, ◌++◌, length, replicate, Option, Some, None, IsSome, is_some, nat_eq, slice_index_or, slice_set, if◌then◌else◌, option_map, MatchOption}
 use Rattle.offset_allocator.specs.View.{View, Handle}
 use Rattle.offset_allocator.specs.Ranges.{Range}
 use Rattle.offset_allocator.specs.Ranges as named
 use Rattle.offset_allocator.specs.Relations.{SameState}
 use Rattle.offset_allocator.specs.Requests as allocator
 use Rattle.offset_allocator.specs.Tight as tight
-use Rattle.offset_guarded.specs.declared.ticket.Ticket.{Ticket}
 use Rattle.offset_guarded.specs.declared.refusal.Refusal.{Refusal}
 use Rattle.offset_guarded.specs.declared.refusal.Refusal.TheVariants.{Serials, Nodes, TooLarge, Space, Fragmented}
 use Rattle.offset_allocator.specs.declared.reports.Refusal.{Refusal as OfSpace}
@@ -15,6 +14,14 @@ use Rattle.offset_allocator.specs.declared.reports.Refusal.TheVariants as why
 -- the last serial: the largest number of 64 bits
 abbrev pub last_serial : ℕ
 last_serial = 18446744073709551615
+
+-- what contracts see of a ticket
+pub record Ticket : Type 0 where
+  -- where the range began when the ticket was made
+  pub offset : ℕ
+  pub name : ℕ
+  pub serial : ℕ
+  pub realm : ℕ
 
 -- the serials by name; how many are given; and for how many names there is memory
 pub record Table : Type 0 where
@@ -39,6 +46,18 @@ cell x cells = slice_index_or cells x 0
 -- the serial that a name was last granted with
 abbrev pub serial_of : ℕ → Guard → ℕ
 serial_of x g = cell x g.serials
+
+-- the cells with one for each of n names at least: 0 in those that are added
+abbrev pub covering : ℕ → List ℕ → List ℕ
+covering n cells = cells ++ replicate (n - length cells) 0
+
+-- how many nodes of a space were made
+abbrev pub nodes : View → ℕ
+nodes v = length v.blocks + length v.unused
+
+-- no serial is given, and each node that was made has a cell
+abbrev pub CoversNodes : Guard → Guard → Type 0
+CoversNodes g h = h ≡ record g { space = h.space; serials = covering (nodes h.space) g.serials }
 
 -- whether a ticket has the realm, and the serial that its name was last granted with
 abbrev pub fits : Ticket → Guard → Bool
@@ -113,6 +132,8 @@ pub record Grants (n : ℕ) (g h : Guard) (t : Ticket) : Type 0 where
   pub serial : t.serial ≡ g.given + 1
   pub given : h.given ≡ t.serial
   pub realm : (t.realm ≡ g.realm) × (h.realm ≡ g.realm)
+  -- it is in the cell of the name, and no other cell changes
+  pub serials : h.serials ≡ slice_set (covering (nodes h.space) g.serials) t.name t.serial
   -- its ticket was not live, and now has exactly n units, from the offset on
   pub not_live : range_of t g ≡ None
   pub range : range_of t h ≡ Some (record { offset = t.offset; size = n })

@@ -1,6 +1,6 @@
 -- Values beside tickets: which ticket has which.
 use Rattle.std.specs.Prelude.{ℕ, ◌≡◌, ◌&&◌, List, Option, Some, None, nat_eq, slice_index_or, if◌then◌else◌}
-use Rattle.offset_guarded.specs.declared.ticket.Ticket.{Ticket}
+use Rattle.offset_guarded.specs.Guard.{Ticket}
 
 module _ {V : Type 0} where
   -- the ticket and the value under a name

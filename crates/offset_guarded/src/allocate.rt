@@ -1,6 +1,6 @@
 //! Grants, each with the next serial, and why one is refused. Nothing else gives a serial.
 ghost use Rattle.std.specs.Prelude.{ℕ, ◌≡◌, ◌↔◌, ◌+◌, ◌*◌, ◌%◌, ◌<◌, ◌≤◌, None, Some, IsSome, IfSome};
-ghost use Rattle.std.specs.Prelude.{if◌then◌else◌, length, nat_eq, option_map};
+ghost use Rattle.std.specs.Prelude.{if◌then◌else◌, length, nat_eq, option_map, slice_set};
 ghost use Rattle.offset_allocator.specs.Ranges as named;
 ghost use Rattle.offset_allocator.specs.Ranges.{size_of};
 ghost use Rattle.offset_allocator.specs.Moving.Relocating.{Relocates, RelocatesAligned, WouldBegin, offset_of};
@@ -12,7 +12,7 @@ ghost use Rattle.offset_allocator.specs.Classes.{down};
 ghost use Rattle.offset_allocator.specs.AtOffset.{AllocatesAt, CanGrantAt};
 ghost use Rattle.offset_allocator.specs.Tight.{AlignsTight, CanHold, listed_from};
 ghost use Rattle.offset_guarded.specs.Guard.{Grants, IsLive, IsSame, IsWhy, IsWhyTight, cell, handle_in};
-ghost use Rattle.offset_guarded.specs.Guard.{HasSerialLeft, last_serial};
+ghost use Rattle.offset_guarded.specs.Guard.{HasSerialLeft, covering, last_serial, nodes};
 
 use crate::GuardedOf;
 use crate::refusal::Refusal;
@@ -33,6 +33,8 @@ fn ticket_for<T: Tables>(
     requires left { serials.old.given < last_serial }
     ensures cells { (x : ℕ) → cell x serials.new.cells
         ≡ (if nat_eq x handle.name then serials.old.given + 1 else cell x serials.old.cells) }
+    ensures table { serials.new.cells
+        ≡ slice_set (covering (nodes space.now) serials.old.cells) handle.name (serials.old.given + 1) }
     ensures given { serials.new.given ≡ serials.old.given + 1 }
     ensures room { serials.new.room ≡ serials.old.room }
     ensures ticket { result ≡ record {
@@ -44,12 +46,7 @@ fn ticket_for<T: Tables>(
 {
     serials.cover(space.node_count());
     let (offset, name) = handle.to_parts();
-    Ticket {
-        offset,
-        name,
-        serial: serials.give(name),
-        realm,
-    }
+    Ticket::of(offset, name, serials.give(name), realm)
 }
 
 /// As `would_begin` of `Guarded`. The count grows by at most 4.
@@ -99,6 +96,7 @@ impl<T: Tables> GuardedOf<T> {
         ensures grants { IfSome result (Grants size self.old self.new) }
         // A refusal leaves all as it was.
         ensures same { result ≡ None → IsSame self.old self.new }
+        ensures serials { result ≡ None → self.new ≡ record self.old { space = self.new.space } }
         // The step of the allocator, where a serial is left.
         ensures step { HasSerialLeft self.old
             → Allocates size self.old.space self.new.space (option_map handle_in result) }
@@ -131,6 +129,7 @@ impl<T: Tables> GuardedOf<T> {
         ensures grants { IfSome result (Grants size self.old self.new) }
         ensures aligned { IfSome result (λ t. t.offset % align ≡ 0) }
         ensures same { result ≡ None → IsSame self.old self.new }
+        ensures serials { result ≡ None → self.new ≡ record self.old { space = self.new.space } }
         ensures step { HasSerialLeft self.old
             → Aligns size align self.old.space self.new.space (option_map handle_in result) }
         ensures accesses_max { self.new.space.accesses ≤ self.old.space.accesses + 128 }
@@ -161,6 +160,7 @@ impl<T: Tables> GuardedOf<T> {
         ensures can_hold { IsSome result ↔ (HasSerialLeft self.old × CanHold size 1 self.old.space) }
         ensures grants { IfSome result (Grants size self.old self.new) }
         ensures same { result ≡ None → IsSame self.old self.new }
+        ensures serials { result ≡ None → self.new ≡ record self.old { space = self.new.space } }
         ensures step { HasSerialLeft self.old
             → AlignsTight size 1 self.old.space self.new.space (option_map handle_in result) }
         ensures accesses_max { self.new.space.accesses
@@ -192,6 +192,7 @@ impl<T: Tables> GuardedOf<T> {
         ensures grants { IfSome result (Grants size self.old self.new) }
         ensures aligned { IfSome result (λ t. t.offset % align ≡ 0) }
         ensures same { result ≡ None → IsSame self.old self.new }
+        ensures serials { result ≡ None → self.new ≡ record self.old { space = self.new.space } }
         ensures step { HasSerialLeft self.old
             → AlignsTight size align self.old.space self.new.space (option_map handle_in result) }
         ensures accesses_max { self.new.space.accesses
@@ -223,6 +224,7 @@ impl<T: Tables> GuardedOf<T> {
         ensures grants { IfSome result (Grants size self.old self.new) }
         ensures begins { IfSome result (λ t. t.offset ≡ offset) }
         ensures same { result ≡ None → IsSame self.old self.new }
+        ensures serials { result ≡ None → self.new ≡ record self.old { space = self.new.space } }
         ensures step { HasSerialLeft self.old
             → AllocatesAt offset size self.old.space self.new.space (option_map handle_in result) }
         ensures accesses_max { self.new.space.accesses
@@ -261,6 +263,7 @@ impl<T: Tables> GuardedOf<T> {
         ensures before { IfSome result (λ t. t.offset + size_of ticket.name self.old.space
             ≤ offset_of ticket.name self.old.space) }
         ensures same { result ≡ None → IsSame self.old self.new }
+        ensures serials { result ≡ None → self.new ≡ record self.old { space = self.new.space } }
         // The step of the allocator, where the ticket is live and a serial is left.
         ensures step { IsLive ticket self.old → HasSerialLeft self.old
             → Relocates ticket.name self.old.space self.new.space (option_map handle_in result) }
@@ -305,6 +308,7 @@ impl<T: Tables> GuardedOf<T> {
         ensures before { IfSome result (λ t. t.offset + size_of ticket.name self.old.space
             ≤ offset_of ticket.name self.old.space) }
         ensures same { result ≡ None → IsSame self.old self.new }
+        ensures serials { result ≡ None → self.new ≡ record self.old { space = self.new.space } }
         // The step of the allocator, where the ticket is live and a serial is left.
         ensures step { IsLive ticket self.old → HasSerialLeft self.old
             → RelocatesAligned ticket.name align self.old.space self.new.space (option_map handle_in result) }

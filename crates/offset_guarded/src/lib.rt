@@ -95,7 +95,7 @@ impl<T: Tables> GuardedOf<T> {
     ///
     /// ```
     /// let mut guarded = Guarded::<u16>::with_realm(alloc, 1000, 3, 7)?;
-    /// assert_eq!(guarded.allocate(10).unwrap().realm, 7);
+    /// assert_eq!(guarded.allocate(10).unwrap().realm(), 7);
     /// assert!(guarded.allocate(10).is_none());
     /// ```
     pub fn with_realm(
@@ -223,10 +223,10 @@ impl<T: Tables> GuardedOf<T> {
         ensures range { IfSome result (λ h. (h.name ≡ ticket.name)
             × (range_of ticket self.now ≡ named.range_of ticket.name self.now.space)) }
     {
-        if ticket.realm != self.realm || ticket.serial != self.serials.at(ticket.name) {
+        if ticket.realm() != self.realm || ticket.serial() != self.serials.at(ticket.name()) {
             return None;
         }
-        let Some(handle) = Allocation::from_parts(ticket.offset, ticket.name) else {
+        let Some(handle) = Allocation::from_parts(ticket.offset, ticket.name()) else {
             // A step of the proof, which does nothing: no block has such a name.
             is_well_formed(&self.space);
             return None;
@@ -312,12 +312,7 @@ impl<T: Tables> GuardedOf<T> {
         let (_, name) = handle.to_parts();
         match self.space.allocation_offset(handle) {
             None => None,
-            Some(offset) => Some(Ticket {
-                offset,
-                name,
-                serial: self.serials.at(name),
-                realm: self.realm,
-            }),
+            Some(offset) => Some(Ticket::of(offset, name, self.serials.at(name), self.realm)),
         }
     }
 

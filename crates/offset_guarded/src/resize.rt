@@ -4,7 +4,7 @@ ghost use Rattle.offset_allocator.specs.Relations.{CanExtend, Extends};
 ghost use Rattle.offset_allocator.specs.Resizing.{CanGrow, CanShrink, Grows, Shrinks};
 ghost use Rattle.offset_allocator.specs.Moving.Retracting.{CanRetract, Retracts};
 ghost use Rattle.offset_guarded.specs.Guard.{HasUnits, IsLive, IsSame, KeepsAll, KeepsLive, KeepsOthers};
-ghost use Rattle.offset_guarded.specs.Guard.{KeepsSerials};
+ghost use Rattle.offset_guarded.specs.Guard.{CoversNodes, KeepsSerials};
 
 use crate::GuardedOf;
 use crate::ticket::Ticket;
@@ -36,6 +36,7 @@ impl<T: Tables> GuardedOf<T> {
         // The step of the allocator. All serials stay.
         ensures step { IfSome result (Shrinks ticket.name size self.old.space self.new.space) }
         ensures serials { KeepsSerials self.old self.new }
+        ensures table { IfSome result (λ _. CoversNodes self.old self.new) }
         // It counts the accesses of the step, without those of the test whether the ticket is live, at most 8.
         ensures accesses_max { self.new.space.accesses ≤ self.old.space.accesses + 128 }
     {
@@ -73,6 +74,7 @@ impl<T: Tables> GuardedOf<T> {
         // The step of the allocator. All serials stay.
         ensures step { IfSome result (Grows ticket.name size self.old.space self.new.space) }
         ensures serials { KeepsSerials self.old self.new }
+        ensures table { IfSome result (λ _. CoversNodes self.old self.new) }
         // It counts the accesses of the step, without those of the test whether the ticket is live, at most 8.
         ensures accesses_max { self.new.space.accesses ≤ self.old.space.accesses + 128 }
     {
@@ -100,6 +102,7 @@ impl<T: Tables> GuardedOf<T> {
         ensures same { result ≡ false → IsSame self.old self.new }
         ensures step { Extends more self.old.space self.new.space result }
         ensures serials { KeepsSerials self.old self.new }
+        ensures table { CoversNodes self.old self.new }
         ensures accesses_max { self.new.space.accesses ≤ self.old.space.accesses + 128 }
     {
         let done = self.space.extend(more);

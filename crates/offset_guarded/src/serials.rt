@@ -1,7 +1,7 @@
 //! The serials of grants, by name. It touches its own numbers alone.
 ghost use Rattle.std.specs.Prelude.{ℕ, ◌≡◌, ◌↔◌, ◌+◌, ◌/◌, ◌<◌, ◌≤◌, [], ◌∷◌, ◌++◌, IfOk, IfSome, IsTrue};
 ghost use Rattle.std.specs.Prelude.{None, false, length, slice_set, vec_capacity, vec_len};
-ghost use Rattle.offset_guarded.specs.Guard.{cell, last_serial};
+ghost use Rattle.offset_guarded.specs.Guard.{cell, covering, last_serial};
 ghost use Rattle.offset_guarded.specs.Numbers.{numbers};
 ghost use Rattle.offset_guarded.specs.StateFaults.{IsFirstAbove};
 
@@ -113,6 +113,7 @@ impl Serials {
         requires { names ≤ self.old.room }
         ensures covers { names ≤ length self.new.cells }
         ensures cells { (x : ℕ) → cell x self.new.cells ≡ cell x self.old.cells }
+        ensures table { self.new.cells ≡ covering names self.old.cells }
         ensures given { self.new.given ≡ self.old.given }
         ensures room { self.new.room ≡ self.old.room }
     {

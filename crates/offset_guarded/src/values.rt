@@ -36,7 +36,7 @@ pub struct Beside<V> {
 impl<V> Model for Beside<V> {
     ghost use Rattle.std.specs.Prelude.{List, Option};
     ghost use Rattle.std.specs.Coded.{coded_list, coded_option, coded×};
-    ghost use Rattle.offset_guarded.specs.declared.ticket.Ticket.{Ticket};
+    ghost use Rattle.offset_guarded.specs.Guard.{Ticket};
     ghost use Rattle.offset_guarded.specs.Values.{AreNamed};
 
     ghost Value = { List (Option (Ticket × V)) };
@@ -50,7 +50,7 @@ impl<V> Model for Beside<V> {
 fn are_alike(one: Ticket, other: Ticket) -> bool
     ensures { result ≡ (nat_eq one.serial other.serial && nat_eq one.realm other.realm) }
 {
-    one.serial == other.serial && one.realm == other.realm
+    one.serial() == other.serial() && one.realm() == other.realm()
 }
 
 impl<V> Beside<V> {
@@ -90,7 +90,7 @@ impl<V> Beside<V> {
         ensures none { OnErr result (length self.new ≡ length self.old) }
         ensures room { IsErr result → length self.old ≤ ticket.name }
     {
-        let name = ticket.name as usize;
+        let name = ticket.name() as usize;
         if self.cover(name + 1).is_err() {
             return Err(value);
         }
@@ -152,7 +152,7 @@ impl<V> Beside<V> {
     pub fn get(&self, ticket: Ticket) -> Option<&V>
         ensures { option_copied result ≡ value_of ticket self.now }
     {
-        match self.cells.get(ticket.name as usize) {
+        match self.cells.get(ticket.name() as usize) {
             Some(Some((kept, value))) => {
                 if are_alike(*kept, ticket) {
                     Some(value)
@@ -181,7 +181,7 @@ impl<V> Beside<V> {
         if self.get(ticket).is_none() {
             return None;
         }
-        match replace(&mut self.cells[ticket.name as usize], None) {
+        match replace(&mut self.cells[ticket.name() as usize], None) {
             Some((_ticket, value)) => Some(value),
             None => unreachable!(),
         }

@@ -281,9 +281,26 @@ fn extend<T: Tables>(heaps: &mut HeapsOf<T>, extends: bool) -> Result<(), Failur
     }
 }
 
+// Makes the first heap, all units of which are one live range: then a further unit becomes a block of its own.
+fn fill<T: Tables>(heaps: &mut HeapsOf<T>) -> Result<(), Failure> {
+    let place = match heaps.allocate(1) {
+        Ok(granted) => granted.place,
+        Err(Refusal::Memory) => return Err(Failure::OutOfMemory),
+        Err(_) => return Err(Failure::Unfit),
+    };
+    let units = heaps.units_of_heap(place.heap).unwrap_or(0);
+    match heaps.grow_in_place(place, units) {
+        Some(true) => Ok(()),
+        _ => Err(Failure::Unfit),
+    }
+}
+
 // Grants one unit, so often that a heap has as many nodes as it may have, and before each further one adds a unit
-// to it, where `extends` is set. Where memory is refused, all is as it was.
+// to it, which is full, where `extends` is set. Where memory is refused, all is as it was.
 fn grow<T: Tables>(heaps: &mut HeapsOf<T>, extends: bool) -> Result<(), Failure> {
+    if extends {
+        fill(heaps)?;
+    }
     for _ in 0..heaps.limits().max_allocs.saturating_sub(4) {
         extend(heaps, extends)?;
         let before = (heaps.totals(), node_limit(heaps));

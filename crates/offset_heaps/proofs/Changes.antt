@@ -1,10 +1,10 @@
 -- After a change of one heap, in place.
 use Rattle.std.proofs.Common.{◌≡◌, ℕ, ◌<◌, Bool, true, false, length, List, [], ◌∷◌, ◌++◌, Option, Some, None, slice_set, refl, sym, ap, subst, ◌∙◌, inl, inr, arith}
-use Rattle.std.proofs.Common.{zero, suc, ◌+◌, ◌≤◌, IfSome, if◌then◌else◌, length-append, min, sum}
-use Rattle.std.proofs.lemmas.Bool.{cases_Bool, cases_eq, cases_lt}
+use Rattle.std.proofs.Common.{zero, suc, ◌+◌, ◌≤◌, IfSome, if◌then◌else◌, length-append}
+use Rattle.std.proofs.lemmas.Bool.{cases_eq, cases_lt}
 use Rattle.std.proofs.lemmas.List.{append_assoc, append-nil}
 use Rattle.std.specs.List.{FoldsTo}
-use Rattle.offset_allocator.specs.{Classes.up, Classes.value, Moving.Compacting.Compacts, Moving.Compacting.Move, Moving.Compacting.first_free, Moving.Compacting.gathered, Moving.Compacting.live, Moving.Compacting.moves, Moving.Room.MakesRoom, Moving.Room.SlidesRun, View.Block, View.free_block, View.free_sizes, View.units}
+use Rattle.offset_allocator.specs.{Classes.up, Classes.value, Moving.Compacting.Move, Moving.Compacting.moves, Moving.Room.MakesRoom, View.Block, View.units}
 use Rattle.offset_allocator.specs.Ranges.{Range}
 use Rattle.offset_allocator.specs.declared.moves.room.RoomCost.{RoomCost}
 use Rattle.offset_allocator.specs.View.{View}
@@ -13,14 +13,12 @@ use Rattle.offset_allocator.specs.Resizing as space
 use Rattle.offset_allocator.specs.Resizing.{Resizes as Resized}
 use Rattle.offset_allocator.specs.{Ranges.size_of, View.IsWellFormed, View.free_part, View.used_block}
 use Rattle.offset_allocator.proofs.{Holding.place_there, Reading.size_at, Reading.size_is}
-use Rattle.offset_guarded.specs.Guard.{Guard}
+use Rattle.offset_guarded.specs.Guard.{Guard, Ticket}
 use Rattle.offset_guarded.specs.Guard as guarded
-use Rattle.offset_guarded.specs.declared.ticket.Ticket.{Ticket}
-use Rattle.offset_heaps.specs.declared.limits.Limits.{Limits}
 use Rattle.offset_heaps.specs.declared.place.Place.{Place}
-use Rattle.offset_heaps.specs.Changing.{HasNodesFor, blocks_more, NewSize, Shrunk, Grown, Alters, AltersIn, MakesRoomAt, MakesRoomIn, Resizes, ResizesSpace}
+use Rattle.offset_heaps.specs.Changing.{NewSize, Shrunk, Grown, Alters, AltersIn, MakesRoomAt, MakesRoomIn, Resizes, ResizesSpace}
 use Rattle.offset_heaps.specs.Calls.{Notes}
-use Rattle.offset_heaps.specs.Heaps.{HasNodesLeft, Heaps, KeepsOthers, Puts, heap_at, range_in, range_of, slot}
+use Rattle.offset_heaps.specs.Heaps.{Heaps, KeepsOthers, Puts, heap_at, range_in, range_of, slot}
 use Rattle.offset_heaps.specs.{Slots.Changes, Twins.AreTwins, Twins.IsTwin, Twins.IsTwinIn}
 use Rattle.offset_heaps.proofs.Numbers.{slot_other, slot_same}
 use Rattle.offset_heaps.proofs.Places.{other_realm, put_keeps, put_others, same_realm}
@@ -147,62 +145,6 @@ noted_room R k size hs f c ks g a =
         heaps = a.heaps;
       },
     )
-
--- ---- how many blocks are left
-live_free : (bs : List Block) → length (live bs) + length (free_sizes bs) ≡ length bs
-live_free [] = refl
-live_free (b ∷ bs) =
-    let rest = live_free bs in
-    elim (cases_Bool b.used) [
-      | inl u ↦ rw u (omega (arith, rest))
-      | inr f ↦ rw f (omega (arith, rest))
-    ]
-
-gathered_few : (x : ℕ) (ns : List ℕ) → length (gathered x ns) ≤ length ns
-gathered_few x [] = omega arith
-gathered_few x (n ∷ ns) = omega arith
-
-pub compacted_blocks : (v w : View) → Compacts v w → length w.blocks ≤ length v.blocks
-compacted_blocks v w c =
-    let now = ap (λ (z : View). length z.blocks) c.view ∙ length-append (live v.blocks) (gathered c.name (free_sizes v.blocks)) in
-    omega (arith, now, live_free v.blocks, gathered_few c.name (free_sizes v.blocks))
-
-some_free : (bs : List Block) (x : ℕ) → first_free bs ≡ Some x → 1 ≤ length (free_sizes bs)
-some_free [] x e = absurd (cc)
-some_free (b ∷ bs) x e = elim (cases_Bool b.used) [
-  | inl u ↦ rw u (some_free bs x (rw u at e))
-  | inr f ↦ rw f (omega arith)
-]
-
-slid_blocks : (want : ℕ) (v w : View) → SlidesRun want v w → length w.blocks ≤ length v.blocks
-slid_blocks want v w s =
-    let new : List Block = live s.run ++ free_block s.name (sum (free_sizes s.run)) ∷ [] in
-    let was = ap length s.is ∙ length-append s.front (s.run ++ s.back) in
-    let now = ap (λ (z : View). length z.blocks) s.view ∙ length-append s.front (new ++ s.back) in
-    omega (arith, was, now, length-append s.run s.back, length-append new s.back, length-append (live s.run) (free_block s.name (sum (free_sizes s.run)) ∷ []), live_free s.run, some_free s.run s.name s.first)
-
-pub room_blocks : {F : Type 0} (R : F → Move → F → Type 0) (size : ℕ) (f : F) (c : Option RoomCost) (f' : F) (g h : Guard) → MakesRoomIn R size f c f' g h
-    → length h.space.blocks ≤ length g.space.blocks
-room_blocks R size f c f' g h m = made R (value (up size)) g.space f c h.space f' m.step
-  where
-    made : {F : Type 0} (R : F → Move → F → Type 0) (want : ℕ) (v : View) (f : F) (c : Option RoomCost) (w : View) (f' : F) → MakesRoom R want v f c w f' → length w.blocks ≤ length v.blocks
-    made R want v f None w f' s = omega (arith, ap (λ (z : View). length z.blocks) s.0)
-    made R want v f (Some c) w f' s = elim (cases_lt 0 c.ranges) [
-      | inl l ↦ slid_blocks want v w (s.1 l).0
-      | inr l ↦ omega (arith, ap (λ (z : View). length z.blocks) (s.0 (omega (arith, l))).0)
-    ]
-
--- a heap keeps enough nodes unused, where it has them for this
-pub resized_left : (limits : Limits) (k : ℕ) (how : NewSize) (g h : Guard) → HasNodesFor limits k how g → length h.space.blocks ≤ length g.space.blocks + blocks_more how
-    → h.space.max_allocs ≡ g.space.max_allocs → k < limits.most → HasNodesLeft limits g → min limits.max_allocs (length h.space.blocks + 3) ≤ h.space.max_allocs
-resized_left limits k (Grown n) g h can few same usual has = omega (arith, few, same, has.2)
-resized_left limits k (Shrunk n) g h can few same usual has = elim (cases_lt g.space.max_allocs limits.max_allocs) [
-  | inr full ↦ omega (arith, full, same)
-  | inl below ↦ elim (cases_lt g.space.max_allocs (length g.space.blocks + 4)) [
-    | inl near ↦ absurd (can (usual, below, near))
-    | inr far ↦ omega (arith, far, few, same)
-  ]
-]
 
 -- ---- a range that becomes smaller or larger
 part_few : (x n : ℕ) → length (free_part x n) ≤ 1

@@ -3,12 +3,11 @@ use Rattle.std.proofs.Common.{◌≡◌, ℕ, suc, ◌+◌, ◌<◌, ◌≤◌, 
 use Rattle.std.proofs.Math.Seq.{drop-cons}
 use Rattle.std.specs.List.{FoldsTo}
 use Rattle.offset_allocator.specs.{Moving.Compacting.Move, Ranges.Range, View.View}
-use Rattle.offset_guarded.specs.Guard.{Guard}
-use Rattle.offset_guarded.specs.declared.ticket.Ticket.{Ticket}
+use Rattle.offset_guarded.specs.Guard.{Guard, Ticket}
 use Rattle.offset_heaps.specs.declared.limits.Limits.{Limits}
 use Rattle.offset_heaps.specs.Changing.{CompactsAll, CompactsSlot, KeepsSizes, moves_from, moves_in, numbered}
 use Rattle.offset_heaps.specs.Heaps.{Heaps, IsOfKind, heap_at, range_in, slot}
-use Rattle.offset_heaps.proofs.{Changes.compacted_blocks, Raising.still_left, Sound.kind_kept}
+use Rattle.offset_heaps.proofs.Sound.{kind_kept}
 
 -- what is compacted has its realm
 pub realm_compacted : (made : ℕ) (old new : Option Guard) → CompactsSlot old new → IfSome old (λ g. g.realm ≤ made) → IfSome new (λ g. g.realm ≤ made)
@@ -19,9 +18,7 @@ realm_compacted made (Some before) new r h = rw r.1 (let same : r.0.realm ≡ be
 pub kind_compacted : (limits : Limits) (k : ℕ) (old new : Option Guard) → CompactsSlot old new → IfSome old (IsOfKind limits k) → IfSome new (IsOfKind limits k)
 kind_compacted limits k None new e h = rw e tt
 kind_compacted limits k (Some before) new r h =
-    let limit = ap (λ (v : View). v.max_allocs) r.2.step.view in
-    kind_kept limits k (Some before) new before r.0 refl r.1 (ap (λ (v : View). v.size) r.2.step.view) limit
-    (still_left limits k before r.0 (compacted_blocks before.space r.0.space r.2.step) limit) h
+    kind_kept limits k (Some before) new before r.0 refl r.1 (ap (λ (v : View). v.size) r.2.step.view) (ap (λ (v : View). v.max_allocs) r.2.step.view) h
 
 -- every place has as many units as it had
 abbrev units_in : Option Range → Option ℕ

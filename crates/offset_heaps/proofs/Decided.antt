@@ -4,14 +4,13 @@ use Rattle.std.proofs.Common.{◌≡◌, ℕ, ◌+◌, ◌<◌, ◌≤◌, ◌�
 use Rattle.std.proofs.lemmas.Bool.{cases_lt}
 use Rattle.offset_allocator.specs.{Relations.Aligns, Relations.SameState, Requests.blocks_needed, Requests.units_needed, View.View, View.IsWellFormed, View.free_block, View.push_all}
 use Rattle.offset_allocator.proofs.{Decided.aligns_decided, Decided.tight_decided, Views.ViewTaken.well_alone}
-use Rattle.offset_guarded.specs.Guard.{Guard, handle_in}
-use Rattle.offset_guarded.specs.declared.ticket.Ticket.{Ticket}
+use Rattle.offset_guarded.specs.Guard.{Guard, Ticket, handle_in}
 use Rattle.offset_heaps.specs.declared.limits.Limits.{Limits}
 use Rattle.offset_heaps.specs.declared.place.Granted.{Granted}
 use Rattle.offset_heaps.specs.declared.place.Place.{Place}
 use Rattle.offset_heaps.specs.declared.refusal.Refusal.{Refusal}
 use Rattle.offset_heaps.specs.declared.refusal.Refusal.TheVariants.{Empty, TooLarge, Full, Memory}
-use Rattle.offset_heaps.specs.Heaps.{Heaps, Grants, IsBefore, IsFirstFit, IsRaisedAsNeeded, IsNew, IsNext, IsSame, IsSpareLarger, IsSpareUsual, IsUsual, IsWhy, MayEverFit, MustRaise, MustRaiseIn, NoneFits, Puts, raised_limit, heap_at, larger_limit, room_of, slot, usual_room, usual_size}
+use Rattle.offset_heaps.specs.Heaps.{Heaps, Grants, IsBefore, IsFirstFit, IsRaisedAsNeeded, IsRaisedWhere, IsNew, IsNext, IsSame, IsSpareLarger, IsSpareUsual, IsUsual, IsWhy, MayEverFit, MustRaise, MustRaiseIn, NoneFits, Puts, raised_limit, heap_at, larger_limit, room_of, slot, usual_room, usual_size}
 use Rattle.offset_heaps.specs.State as state
 use Rattle.offset_heaps.specs.Twins.{AreTwins, IsTwin, IsTwinIn}
 use Rattle.offset_heaps.proofs.Doubling.{size_low}
@@ -50,15 +49,16 @@ module _ (hs ks : Heaps) (t : AreTwins hs ks) where
   )
 
 -- ---- a heap whose node limit has to be raised
-must_twin : (limits : Limits) (k : ℕ) (g h : Guard) → IsTwin g h → MustRaise limits k g → MustRaise limits k h
-must_twin limits k g h t must = subst (MustRaise limits k) (sym (as_twin g h t)) must
+pub must_twin : (limits : Limits) (k blocks : ℕ) (g h : Guard) → IsTwin g h → MustRaise limits k blocks g → MustRaise limits k blocks h
+must_twin limits k blocks g h t must = subst (MustRaise limits k blocks) (sym (as_twin g h t)) must
 
-must_twin_in : (limits : Limits) (k : ℕ) (o p : Option Guard) → IsTwinIn o p → MustRaiseIn limits k o → MustRaiseIn limits k p
-must_twin_in limits k None p t must = absurd must
-must_twin_in limits k (Some g) p t must = subst (MustRaiseIn limits k) (sym t.1) (must_twin limits k g t.0 t.2 must)
+must_twin_in : (limits : Limits) (k blocks : ℕ) (o p : Option Guard) → IsTwinIn o p → MustRaiseIn limits k blocks o → MustRaiseIn limits k blocks p
+must_twin_in limits k blocks None p t must = absurd must
+must_twin_in limits k blocks (Some g) p t must = subst (MustRaiseIn limits k blocks) (sym t.1) (must_twin limits k blocks g t.0 t.2 must)
 
-pub must_in_twins : (hs ks : Heaps) → AreTwins hs ks → (k : ℕ) → MustRaiseIn hs.limits k (heap_at k hs) → MustRaiseIn ks.limits k (heap_at k ks)
-must_in_twins hs ks t k must = subst (λ (l : Limits). MustRaiseIn l k (heap_at k ks)) (sym t.limits) (must_twin_in hs.limits k (heap_at k hs) (heap_at k ks) (t.heaps k) must)
+pub must_in_twins : (hs ks : Heaps) → AreTwins hs ks → (k blocks : ℕ) → MustRaiseIn hs.limits k blocks (heap_at k hs) → MustRaiseIn ks.limits k blocks (heap_at k ks)
+must_in_twins hs ks t k blocks must =
+    subst (λ (l : Limits). MustRaiseIn l k blocks (heap_at k ks)) (sym t.limits) (must_twin_in hs.limits k blocks (heap_at k hs) (heap_at k ks) (t.heaps k) must)
 
 -- under the doubled limit it is a twin of the other one under it
 raised_twin : (limit limit' : ℕ) (g h : Guard) → limit' ≡ limit → IsTwin g h
@@ -70,12 +70,16 @@ raised_twin limit limit' g h same t = record {
   realm = t.realm;
 }
 
-pub raised_twins : (limits : Limits) (k : ℕ) (g g' h h' : Guard) → IsTwin g g' → (IsTwin g' g) → IsRaisedAsNeeded limits k g h → IsRaisedAsNeeded limits k g' h' → IsTwin h h'
-raised_twins limits k g g' h h' t s (inl a) (inl b) =
+pub where_twins : (Must : Guard → Type 0) (limits : Limits) → ((g h : Guard) → IsTwin g h → Must g → Must h) → (g g' h h' : Guard) → IsTwin g g' → IsTwin g' g
+    → IsRaisedWhere Must limits g h → IsRaisedWhere Must limits g' h' → IsTwin h h'
+where_twins Must limits keeps g g' h h' t s (inl a) (inl b) =
     subst₂ IsTwin (sym a.1) (sym b.1) (raised_twin (raised_limit limits g) (raised_limit limits g') g g' (ap (raised_limit limits) (as_twin g g' t)) t)
-raised_twins limits k g g' h h' t s (inl a) (inr b) = absurd (b.0 (must_twin limits k g g' t a.0))
-raised_twins limits k g g' h h' t s (inr a) (inl b) = absurd (a.0 (must_twin limits k g' g s b.0))
-raised_twins limits k g g' h h' t s (inr a) (inr b) = subst₂ IsTwin (sym a.1) (sym b.1) t
+where_twins Must limits keeps g g' h h' t s (inl a) (inr b) = absurd (b.0 (keeps g g' t a.0))
+where_twins Must limits keeps g g' h h' t s (inr a) (inl b) = absurd (a.0 (keeps g' g s b.0))
+where_twins Must limits keeps g g' h h' t s (inr a) (inr b) = subst₂ IsTwin (sym a.1) (sym b.1) t
+
+pub raised_twins : (limits : Limits) (k blocks : ℕ) (g g' h h' : Guard) → IsTwin g g' → IsTwin g' g → IsRaisedAsNeeded limits k blocks g h → IsRaisedAsNeeded limits k blocks g' h' → IsTwin h h'
+raised_twins limits k blocks = where_twins (MustRaise limits k blocks) limits (must_twin limits k blocks)
 
 pub next_twins : (hs ks : Heaps) → AreTwins hs ks → (units k : ℕ) → IsNext units k hs → IsNext units k ks
 next_twins hs ks t units k n =
@@ -101,7 +105,7 @@ why_twins hs ks t size align Memory (inl w) = inl (
   (w.1.0, next_twins hs ks t size w.1.0 w.1.1),
 )
 why_twins hs ks t size align Memory (inr w) =
-    inr (w.0, (w.1.0, first_twins hs ks t (blocks_needed align) (units_needed size align) w.1.0 w.1.1, must_in_twins hs ks t w.1.0 w.1.2))
+    inr (w.0, (w.1.0, first_twins hs ks t (blocks_needed align) (units_needed size align) w.1.0 w.1.1, must_in_twins hs ks t w.1.0 (blocks_needed align) w.1.2))
 
 -- of the first numbers there is one
 pub one_first : (P : ℕ → Type 0) (k j : ℕ) → P k → ((i : ℕ) → i < k → P i → ⊥) → P j → ((i : ℕ) → i < j → P i → ⊥) → k ≡ j
@@ -114,7 +118,7 @@ one_first P k j a first b least = elim (cases_lt k j) [
 ]
 
 pub one_fit : (blocks units k j : ℕ) (hs : Heaps) → IsFirstFit blocks units k hs → IsFirstFit blocks units j hs → k ≡ j
-one_fit blocks units k j hs a b = one_first (λ i. units ≤ room_of blocks (heap_at i hs)) k j a.0 (λ i l u. let less = a.1 i l in omega (arith, less, u)) b.0
+one_fit blocks units k j hs a b = one_first (λ i. units ≤ room_of hs.limits i blocks (heap_at i hs)) k j a.0 (λ i l u. let less = a.1 i l in omega (arith, less, u)) b.0
     (λ i l u. let less = b.1 i l in omega (arith, less, u))
 
 pub one_next : (units k j : ℕ) (hs : Heaps) → IsNext units k hs → IsNext units j hs → k ≡ j
@@ -188,13 +192,13 @@ module _ (size align : ℕ) (hs hs' ks ks' : Heaps) (grant grant' : Granted) (sm
   one_kind g h fits (inr a) (inl b) = absurd (a.0 b.0)
   one_kind g h fits (inr a) (inr b) = (one_new size larger_limit (hs.made + 1) g h a.1 b.1, new_formed size larger_limit (hs.made + 1) g a.1 (omega arith) fits)
 
-  befores : (g h : Guard) → IsBefore size hs grant g → IsBefore size hs' grant' h → IsTwin g h × IsWellFormed g.space
+  befores : (g h : Guard) → IsBefore size align hs grant g → IsBefore size align hs' grant' h → IsTwin g h × IsWellFormed g.space
   befores g h (inl a) (inl b) =
       let k : ℕ = grant.place.heap in
       let there : heap_at k hs' ≡ Some b.1.0 = ap (λ k. heap_at k hs') number ∙ b.1.1 in
       let was = some_twin a.1.0 b.1.0 (heap_at k hs) (heap_at k hs') a.1.1 there (t.heaps k) in
-      let raised = subst₂ (λ (l : Limits) (j : ℕ). IsRaisedAsNeeded l j b.1.0 h) t.limits (sym number) b.1.2 in
-      (raised_twins hs.limits k a.1.0 b.1.0 g h was (twin_sym a.1.0 b.1.0 was) a.1.2 raised, raised_formed hs.limits k a.1.0 g a.1.2 (known_at hs is k a.1.0 a.1.1))
+      let raised = subst₂ (λ (l : Limits) (j : ℕ). IsRaisedAsNeeded l j (blocks_needed align) b.1.0 h) t.limits (sym number) b.1.2 in
+      (raised_twins hs.limits k (blocks_needed align) a.1.0 b.1.0 g h was (twin_sym a.1.0 b.1.0 was) a.1.2 raised, raised_formed hs.limits k (blocks_needed align) a.1.0 g a.1.2 (known_at hs is k a.1.0 a.1.1))
   befores g h (inl a) (inr b) = absurd (let e = sym a.0 ∙ new ∙ b.0 in cc)
   befores g h (inr a) (inl b) = absurd (let e = sym b.0 ∙ sym new ∙ a.0 in cc)
   befores g h (inr a) (inr b) =

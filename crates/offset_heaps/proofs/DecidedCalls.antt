@@ -13,17 +13,17 @@ use Rattle.offset_heaps.specs.declared.place.Place.{Place}
 use Rattle.offset_heaps.specs.declared.refusal.Refusal.{Refusal}
 use Rattle.offset_heaps.specs.declared.refusal.Refusal.TheVariants.{Memory}
 use Rattle.offset_heaps.specs.Changing.{CanResizeAt, CanResizeIn, ResizesAt, NewSize, Shrunk, Grown, Alters, CompactsAll, CompactsIn, CompactsSlot, MakesRoomIn, Resizes, ResizesSpace}
-use Rattle.offset_heaps.specs.Extending.{CanExtendIn, ExtendsIf}
-use Rattle.offset_heaps.specs.Heaps.{Heaps, Grants, IsFirstFit, IsRaisedAsNeeded, IsNext, IsWhy, NoneFits, Puts, heap_at, is_empty, empties, live_units_of, numbers, part, slot, AreTotals, free_of, largest_room}
+use Rattle.offset_heaps.specs.Extending.{CanExtendIn, ExtendsIf, MustExtend}
+use Rattle.offset_heaps.specs.Heaps.{Heaps, Grants, IsFirstFit, IsRaisedWhere, IsNext, IsWhy, NoneFits, Puts, heap_at, is_empty, empties, live_units_of, numbers, part, slot, AreTotals, free_of, largest_room}
 use Rattle.offset_heaps.specs.{Heaps.room_of, Heaps.total, Heaps.units_of_heap, Histories.ResetsAll, State.quiet, Twins.AreTwins, Twins.IsTwin, Twins.IsTwinIn}
 use Rattle.offset_heaps.specs.declared.totals.Totals.{Totals}
 use Rattle.offset_heaps.specs.Relocating.{HasLive, IsEmptiest, NoneLive, TakesRange, granted, live_units_at, units_in, size_of}
 use Rattle.offset_heaps.specs.State as state
 use Rattle.offset_heaps.proofs.{States.slot_quiet, Empties.empty_there, Grants.memory_alone, Grants.none_found, Grants.one_reason, Numbers.slot_there}
 use Rattle.offset_heaps.specs.Calls.{Allocates, TakesAll, Call, Allocate, Allocate_tight, Free, Relocate, Drop_empty, Drop_heap, Give_up, Reset, Resize, Extend_heap, Compact_heap, Compact_all, Make_room, Drops, DropsEmpty, Frees, GivesUp, IsStarved, ExtendsOne, Relocates, Reply, Requested, Second, Dropped, Was_done, Resized, Extended, Room_made, Takes, MakesRoomOne, TakesSize, CompactsOne, Notes}
-use Rattle.offset_heaps.proofs.Decided.{first_twins, grants_decided, known, known_at, must_in_twins, next_twins, none_fit_twins, one_first, one_fit, one_next, puts_twins, raised_twins, same_twins, why_twins}
+use Rattle.offset_heaps.proofs.Decided.{first_twins, grants_decided, known, known_at, must_in_twins, next_twins, none_fit_twins, one_first, one_fit, one_next, puts_twins, same_twins, where_twins, why_twins}
 use Rattle.offset_heaps.proofs.DecidedTight.{tights_decided}
-use Rattle.offset_heaps.proofs.Raising.{raised_formed}
+use Rattle.offset_heaps.proofs.Raising.{where_formed}
 use Rattle.offset_heaps.proofs.Twins.{as_twin, free_twins, kept_twins, none_twins, option_twin, range_twins, reset_twins, room_twins, slid_twins, some_twin, total_twins, twin_some, twin_sym, twins_sym, twins_trans}
 
 -- ---- requests
@@ -105,16 +105,15 @@ space_decided (Grown n) x v v' w w' known same true s s' = (grows_decided x n v 
 space_decided how x v v' w w' known same false s s' =
     s' ∙ ap (λ (z : View). record z { accesses = w'.accesses }) same ∙ ap (λ (z : View). record z { accesses = w'.accesses }) (sym s)
 
-can_twin : (limits : Limits) (k : ℕ) (how : NewSize) (x : ℕ) (g h : Guard) → IsTwin g h → CanResizeIn limits k how x (Some g) → CanResizeIn limits k how x (Some h)
-can_twin limits k (Shrunk n) x g h t can = subst (λ (z : Guard). CanResizeIn limits k (Shrunk n) x (Some z)) (sym (as_twin g h t)) can
-can_twin limits k (Grown n) x g h t can = subst (λ (z : Guard). CanResizeIn limits k (Grown n) x (Some z)) (sym (as_twin g h t)) can
-
 can_at : (how : NewSize) (p : Place) (hs ks : Heaps) → AreTwins hs ks → CanResizeAt how p hs → CanResizeAt how p ks
-can_at how p hs ks t can = subst (λ (l : Limits). CanResizeIn l p.heap how p.ticket.name (heap_at p.heap ks)) (sym t.limits) (go (heap_at p.heap hs) (heap_at p.heap ks) (t.heaps p.heap) can)
+can_at how p hs ks t can = go how (heap_at p.heap hs) (heap_at p.heap ks) (t.heaps p.heap) can
   where
-    go : (o q : Option Guard) → IsTwinIn o q → CanResizeIn hs.limits p.heap how p.ticket.name o → CanResizeIn hs.limits p.heap how p.ticket.name q
-    go None q u can = absurd can
-    go (Some g) q u can = subst (CanResizeIn hs.limits p.heap how p.ticket.name) (sym u.1) (can_twin hs.limits p.heap how p.ticket.name g u.0 u.2 can)
+    go : (how : NewSize) (o q : Option Guard) → IsTwinIn o q → CanResizeIn how p.ticket.name o → CanResizeIn how p.ticket.name q
+    go how None q u can = absurd can
+    go (Shrunk n) (Some g) q u can =
+        subst (CanResizeIn (Shrunk n) p.ticket.name) (sym u.1) (subst (λ (z : Guard). CanResizeIn (Shrunk n) p.ticket.name (Some z)) (sym (as_twin g u.0 u.2)) can)
+    go (Grown n) (Some g) q u can =
+        subst (CanResizeIn (Grown n) p.ticket.name) (sym u.1) (subst (λ (z : Guard). CanResizeIn (Grown n) p.ticket.name (Some z)) (sym (as_twin g u.0 u.2)) can)
 
 size_same : (how : NewSize) (p : Place) (d : Bool) (hs hs' ks ks' : Heaps) → state.IsWellFormed hs → AreTwins hs hs' → ResizesAt how p hs ks d → ResizesAt how p hs' ks' d → AreTwins ks ks'
 size_same how p d hs hs' ks ks' is t a b =
@@ -132,34 +131,40 @@ size_decided how p hs hs' ks ks' is t (Some false) (Some true) x y = absurd (let
 size_decided how p hs hs' ks ks' is t (Some true) (Some true) x y = (refl, size_same how p true hs hs' ks ks' is t x.step y.step)
 size_decided how p hs hs' ks ks' is t (Some false) (Some false) x y = (refl, size_same how p false hs hs' ks ks' is t x.step y.step)
 
-can_extend_twin : (more : ℕ) (o p : Option Guard) → IsTwinIn o p → CanExtendIn more o → CanExtendIn more p
-can_extend_twin more None p u can = absurd can
-can_extend_twin more (Some g) p u can = subst (CanExtendIn more) (sym u.1) (subst (λ (z : Guard). CanExtendIn more (Some z)) (sym (as_twin g u.0 u.2)) can)
+can_extend_twins : (k more : ℕ) (hs ks : Heaps) → AreTwins hs ks → CanExtendIn hs.limits k more (heap_at k hs) → CanExtendIn ks.limits k more (heap_at k ks)
+can_extend_twins k more hs ks t can = subst (λ (l : Limits). CanExtendIn l k more (heap_at k ks)) (sym t.limits) (go (heap_at k hs) (heap_at k ks) (t.heaps k) can)
+  where
+    go : (o p : Option Guard) → IsTwinIn o p → CanExtendIn hs.limits k more o → CanExtendIn hs.limits k more p
+    go None p u can = absurd can
+    go (Some g) p u can = subst (CanExtendIn hs.limits k more) (sym u.1) (subst (λ (z : Guard). CanExtendIn hs.limits k more (Some z)) (sym (as_twin g u.0 u.2)) can)
 
-can_there : (more : ℕ) (o : Option Guard) → CanExtendIn more o → IsSome o
-can_there more None can = absurd can
-can_there more (Some g) can = refl
+can_there : (limits : Limits) (k more : ℕ) (o : Option Guard) → CanExtendIn limits k more o → IsSome o
+can_there limits k more None can = absurd can
+can_there limits k more (Some g) can = refl
+
+must_extend_twin : (limits : Limits) (k more : ℕ) (g h : Guard) → IsTwin g h → MustExtend limits k more g → MustExtend limits k more h
+must_extend_twin limits k more g h t must = subst (MustExtend limits k more) (sym (as_twin g h t)) must
 
 pub lengthens_decided : (k more : ℕ) (hs hs' ks ks' : Heaps) → state.IsWellFormed hs → AreTwins hs hs' → (r r' : Result Bool AllocError) → ExtendsOne k more hs ks r → ExtendsOne k more hs' ks' r'
     → ((e : AllocError) → r ≡ Err e → ⊥) → ((e : AllocError) → r' ≡ Err e → ⊥) → (r ≡ r') × AreTwins ks ks'
 lengthens_decided k more hs hs' ks ks' is t (Err e) r' x y m n = absurd (m e refl)
 lengthens_decided k more hs hs' ks ks' is t (Ok d) (Err e) x y m n = absurd (n e refl)
 lengthens_decided k more hs hs' ks ks' is t (Ok true) (Ok false) x y m n =
-    absurd (let e : false ≡ true = y.done.1 (can_extend_twin more (heap_at k hs) (heap_at k hs') (t.heaps k) (x.done.0 refl)) in cc)
+    absurd (let e : false ≡ true = y.done.1 (can_extend_twins k more hs hs' t (x.done.0 refl)) in cc)
 lengthens_decided k more hs hs' ks ks' is t (Ok false) (Ok true) x y m n =
-    absurd (let e : false ≡ true = x.done.1 (can_extend_twin more (heap_at k hs') (heap_at k hs) ((twins_sym hs hs' t).heaps k) (y.done.0 refl)) in cc)
+    absurd (let e : false ≡ true = x.done.1 (can_extend_twins k more hs' hs (twins_sym hs hs' t) (y.done.0 refl)) in cc)
 lengthens_decided k more hs hs' ks ks' is t (Ok false) (Ok false) x y m n =
     (refl, twins_trans ks hs ks' (twins_sym hs ks (x.refused refl)) (twins_trans hs hs' ks' t (y.refused refl)))
 lengthens_decided k more hs hs' ks ks' is t (Ok true) (Ok true) x y m n =
     let P = ExtendsIf hs.limits k more true in
     let Q = ExtendsIf hs'.limits k more true in
-    let a = x.step (can_there more (heap_at k hs) (x.done.0 refl)) in
-    let b = y.step (can_there more (heap_at k hs') (y.done.0 refl)) in
+    let a = x.step (can_there hs.limits k more (heap_at k hs) (x.done.0 refl)) in
+    let b = y.step (can_there hs'.limits k more (heap_at k hs') (y.done.0 refl)) in
     let before = before_twins k P Q hs hs' ks ks' t a b in
     let well = known_at hs (known hs is) k a.before a.heap in
-    let between = raised_twins hs.limits k a.before b.before a.by.between b.by.between before (twin_sym a.before b.before before) a.by.raised
-    (subst (λ (l : Limits). IsRaisedAsNeeded l k b.before b.by.between) t.limits b.by.raised) in
-    let one = extends_decided more a.by.between.space b.by.between.space a.after.space b.after.space (raised_formed hs.limits k a.before a.by.between a.by.raised well) between.space true true a.by.step b.by.step in
+    let between = where_twins (MustExtend hs.limits k more) hs.limits (must_extend_twin hs.limits k more) a.before b.before a.by.between b.by.between before (twin_sym a.before b.before before) a.by.raised
+    (subst (λ (l : Limits). IsRaisedWhere (MustExtend l k more) l b.before b.by.between) t.limits b.by.raised) in
+    let one = extends_decided more a.by.between.space b.by.between.space a.after.space b.after.space (where_formed (MustExtend hs.limits k more) hs.limits k (λ g must. (must.2.0, must.2.1)) a.before a.by.between a.by.raised well) between.space true true a.by.step b.by.step in
     (refl, alters_twins k P Q hs hs' ks ks' t a b (kept_twins a.before b.before a.after b.after before a.by.serials b.by.serials (λ u. ap is_some (a.by.kept u)) one.1))
 
 pub compacts_one_decided : (k : ℕ) (hs hs' ks ks' : Heaps) → AreTwins hs hs' → (r r' : Bool) → CompactsOne k hs ks r → CompactsOne k hs' ks' r' → (r ≡ r') × AreTwins ks ks'
@@ -219,12 +224,13 @@ module _ (p : Place) (hs ks : Heaps) (t : AreTwins hs ks) where
 
   takes_twins : (align k : ℕ) → TakesRange p align hs k → TakesRange p align ks k
   takes_twins align k takes = (
-    subst (λ n. 1 ≤ n) (sym size_twins) takes.0,
+    subst (λ o. is_some o ≡ true) (sym (range_twins hs ks t p)) takes.0,
     record {
       other = takes.1.other;
       room = let room = takes.1.room in omega (arith, room, size_twins, room_twins hs ks t (blocks_needed align) k);
-      stays = λ must. takes.1.stays (must_in_twins ks hs (twins_sym hs ks t) k must);
+      stays = λ must. takes.1.stays (must_in_twins ks hs (twins_sym hs ks t) k (blocks_needed align) must);
       full = let full = takes.1.full in omega (arith, full, live_twins p.heap, live_twins k);
+      before = λ none. elim (takes.1.before (sym size_twins ∙ none)) [ inl more ↦ inl (omega (arith, more, live_twins p.heap, live_twins k)) | inr lower ↦ inr lower ];
     },
   )
 
@@ -329,13 +335,23 @@ emptiest_decided hs hs' t r r' x y' = go r r' x y
     ]
 
 -- ---- the numbers of all heaps
-largest_twins : (xs ys : List (Option Guard)) → ((k : ℕ) → room_of 1 (slot k xs) ≡ room_of 1 (slot k ys)) → largest_room xs ≡ largest_room ys
-largest_twins [] [] e = refl
-largest_twins [] (y ∷ ys) e = let here = e 0 in let rest = largest_twins [] ys (λ k. e (suc k)) in omega arith
-largest_twins (x ∷ xs) [] e = let here = e 0 in let rest = largest_twins xs [] (λ k. e (suc k)) in omega arith
-largest_twins (x ∷ xs) (y ∷ ys) e = let here = e 0 in let rest = largest_twins xs ys (λ k. e (suc k)) in omega arith
+largest_twins : (l m : Limits) (n : ℕ) (xs ys : List (Option Guard)) → ((k : ℕ) → room_of l (n + k) 1 (slot k xs) ≡ room_of m (n + k) 1 (slot k ys)) → largest_room l n xs ≡ largest_room m n ys
+largest_twins l m n xs ys e = go n xs ys e
+  where
+    here : (n : ℕ) (xs ys : List (Option Guard)) → ((k : ℕ) → room_of l (n + k) 1 (slot k xs) ≡ room_of m (n + k) 1 (slot k ys)) → room_of l n 1 (slot 0 xs) ≡ room_of m n 1 (slot 0 ys)
+    here n xs ys e = let zero : n + 0 ≡ n = omega arith in subst (λ j. room_of l j 1 (slot 0 xs) ≡ room_of m j 1 (slot 0 ys)) zero (e 0)
 
-pub totals_decided : (hs hs' : Heaps) → AreTwins hs hs' → (r r' : Totals) → AreTotals r hs.slots → AreTotals r' hs'.slots → r ≡ r'
+    next : (n : ℕ) (xs ys : List (Option Guard)) → ((k : ℕ) → room_of l (n + suc k) 1 (slot (suc k) xs) ≡ room_of m (n + suc k) 1 (slot (suc k) ys))
+        → (k : ℕ) → room_of l (n + 1 + k) 1 (slot (suc k) xs) ≡ room_of m (n + 1 + k) 1 (slot (suc k) ys)
+    next n xs ys e k = let one : n + suc k ≡ n + 1 + k = omega arith in subst (λ j. room_of l j 1 (slot (suc k) xs) ≡ room_of m j 1 (slot (suc k) ys)) one (e k)
+
+    go : (n : ℕ) (xs ys : List (Option Guard)) → ((k : ℕ) → room_of l (n + k) 1 (slot k xs) ≡ room_of m (n + k) 1 (slot k ys)) → largest_room l n xs ≡ largest_room m n ys
+    go n [] [] e = refl
+    go n [] (y ∷ ys) e = let first = here n [] (y ∷ ys) e in let rest = go (n + 1) [] ys (next n [] (y ∷ ys) (λ k. e (suc k))) in omega (arith, first, rest)
+    go n (x ∷ xs) [] e = let first = here n (x ∷ xs) [] e in let rest = go (n + 1) xs [] (next n (x ∷ xs) [] (λ k. e (suc k))) in omega (arith, first, rest)
+    go n (x ∷ xs) (y ∷ ys) e = let first = here n (x ∷ xs) (y ∷ ys) e in let rest = go (n + 1) xs ys (next n (x ∷ xs) (y ∷ ys) (λ k. e (suc k))) in omega (arith, first, rest)
+
+pub totals_decided : (hs hs' : Heaps) → AreTwins hs hs' → (r r' : Totals) → AreTotals r hs.limits hs.slots → AreTotals r' hs'.limits hs'.slots → r ≡ r'
 totals_decided hs hs' t r r' x y =
     let same : (f : Guard → ℕ) → ((g h : Guard) → IsTwin g h → f h ≡ f g) → total f hs.slots ≡ total f hs'.slots = λ f each.
     sym (total_twins f hs'.slots hs.slots (λ k. option_twin (part f) (heap_at k hs) (heap_at k hs') each (t.heaps k))) in
@@ -343,7 +359,7 @@ totals_decided hs hs' t r r' x y =
     let units : r.units ≡ r'.units = x.units ∙ same units_of_heap (λ g h u. ap units_of_heap (as_twin g h u)) ∙ sym y.units in
     let live : r.live_units ≡ r'.live_units = x.live_units ∙ same live_units_of (λ g h u. ap live_units_of (as_twin g h u)) ∙ sym y.live_units in
     let free : r.free_units ≡ r'.free_units = x.free_units ∙ same free_of (λ g h u. ap free_of (as_twin g h u)) ∙ sym y.free_units in
-    let largest : r.largest_free_region ≡ r'.largest_free_region = x.largest ∙ sym (largest_twins hs'.slots hs.slots (room_twins hs hs' t 1)) ∙ sym y.largest in
+    let largest : r.largest_free_region ≡ r'.largest_free_region = x.largest ∙ sym (largest_twins hs'.limits hs.limits 0 hs'.slots hs.slots (λ k. let e : k ≡ 0 + k = omega arith in subst (λ j. room_of hs'.limits j 1 (slot k hs'.slots) ≡ room_of hs.limits j 1 (slot k hs.slots)) e (room_twins hs hs' t 1 k))) ∙ sym y.largest in
     ap₂ (λ (a b : ℕ). let z : Totals = record r { heaps = a; units = b } in z) heaps units
     ∙ ap₂ (λ (a b : ℕ). let z : Totals = record r { heaps = r'.heaps; units = r'.units; live_units = a; free_units = b } in z) live free
     ∙ ap (λ (a : ℕ). let z : Totals = record r' { largest_free_region = a } in z) largest

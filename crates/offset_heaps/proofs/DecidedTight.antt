@@ -1,10 +1,9 @@
 -- The same tight request, made of heaps for which every later call returns the same, has the same result and leaves such heaps.
 use Rattle.std.proofs.Common.{◌≡◌, ℕ, ◌≤◌, Bool, true, false, Option, Some, None, Result, Ok, Err, is_some, refl, sym, ap, ap₂, subst, subst₂, ◌∙◌, inl, inr}
 use Rattle.std.proofs.lemmas.Bool.{cases_Bool}
-use Rattle.offset_allocator.specs.Relations.{SameState}
+use Rattle.offset_allocator.specs.{Relations.SameState, Requests.blocks_needed}
 use Rattle.offset_allocator.proofs.Decided.{tight_decided}
-use Rattle.offset_guarded.specs.Guard.{Guard, handle_in}
-use Rattle.offset_guarded.specs.declared.ticket.Ticket.{Ticket}
+use Rattle.offset_guarded.specs.Guard.{Guard, Ticket, handle_in}
 use Rattle.offset_heaps.specs.declared.limits.Limits.{Limits}
 use Rattle.offset_heaps.specs.declared.place.Granted.{Granted}
 use Rattle.offset_heaps.specs.declared.place.Place.{Place}
@@ -17,19 +16,24 @@ use Rattle.offset_heaps.proofs.Decided.{grants_decided, known, known_at, may_twi
 use Rattle.offset_heaps.proofs.{Holders.one_reason_tight, Holders.tight_refused, Numbers.slot_there, Raising.raised_formed, Twins.as_twin, Twins.grant_twins, Twins.same_ticket, Twins.some_twin, Twins.twin_sym, Twins.twins_sym}
 
 -- ---- what a request finds
-holds_twin : (size align : ℕ) (o p : Option Guard) → IsTwinIn o p → CanHoldIn size align o → CanHoldIn size align p
-holds_twin size align None p t c = absurd c
-holds_twin size align (Some g) p t c = subst (CanHoldIn size align) (sym t.1) (subst (λ (z : Guard). CanHoldIn size align (Some z)) (sym (as_twin g t.0 t.2)) c)
+holds_twin : (limits : Limits) (k size align : ℕ) (o p : Option Guard) → IsTwinIn o p → CanHoldIn limits k size align o → CanHoldIn limits k size align p
+holds_twin limits k size align None p t c = absurd c
+holds_twin limits k size align (Some g) p t c =
+    subst (CanHoldIn limits k size align) (sym t.1) (subst (λ (z : Guard). CanHoldIn limits k size align (Some z)) (sym (as_twin g t.0 t.2)) c)
+
+held_twins : (size align : ℕ) (hs ks : Heaps) → AreTwins hs ks → (k : ℕ) → CanHoldIn hs.limits k size align (heap_at k hs) → CanHoldIn ks.limits k size align (heap_at k ks)
+held_twins size align hs ks t k c =
+    subst (λ (l : Limits). CanHoldIn l k size align (heap_at k ks)) (sym t.limits) (holds_twin hs.limits k size align (heap_at k hs) (heap_at k ks) (t.heaps k) c)
 
 module _ (size align : ℕ) (hs ks : Heaps) (t : AreTwins hs ks) where
-  back : (k : ℕ) → CanHoldIn size align (heap_at k ks) → CanHoldIn size align (heap_at k hs)
-  back k = holds_twin size align (heap_at k ks) (heap_at k hs) ((twins_sym hs ks t).heaps k)
+  back : (k : ℕ) → CanHoldIn ks.limits k size align (heap_at k ks) → CanHoldIn hs.limits k size align (heap_at k hs)
+  back = held_twins size align ks hs (twins_sym hs ks t)
 
   none_twins : NoneHolds size align hs → NoneHolds size align ks
   none_twins none k c = none k (back k c)
 
   first_twins : (k : ℕ) → IsFirstHolding size align k hs → IsFirstHolding size align k ks
-  first_twins k f = (holds_twin size align (heap_at k hs) (heap_at k ks) (t.heaps k) f.0, λ j l c. f.1 j l (back j c))
+  first_twins k f = (held_twins size align hs ks t k f.0, λ j l c. f.1 j l (back j c))
 
   next_back : (k : ℕ) → IsNext size k ks → IsNext size k hs
   next_back k = next_twins ks hs (twins_sym hs ks t) size k
@@ -39,11 +43,11 @@ module _ (size align : ℕ) (hs ks : Heaps) (t : AreTwins hs ks) where
   why_twins TooLarge w = ((w.0.0, none_twins w.0.1), λ m. w.1 (may_twins ks hs (twins_sym hs ks t) size m))
   why_twins Full w = ((w.0.0, none_twins w.0.1), may_twins hs ks t size w.1, λ k n. w.2 k (next_back k n))
   why_twins Memory (inl w) = inl ((w.0.0, none_twins w.0.1), (w.1.0, next_twins hs ks t size w.1.0 w.1.1))
-  why_twins Memory (inr w) = inr (w.0, (w.1.0, first_twins w.1.0 w.1.1, must_in_twins hs ks t w.1.0 w.1.2))
+  why_twins Memory (inr w) = inr (w.0, (w.1.0, first_twins w.1.0 w.1.1, must_in_twins hs ks t w.1.0 (blocks_needed align) w.1.2))
 
 -- of two first heaps that hold it each is the other
 one_held : (size align k j : ℕ) (hs : Heaps) → IsFirstHolding size align k hs → IsFirstHolding size align j hs → k ≡ j
-one_held size align k j hs a b = one_first (λ i. CanHoldIn size align (heap_at i hs)) k j a.0 a.1 b.0 b.1
+one_held size align k j hs a b = one_first (λ i. CanHoldIn hs.limits i size align (heap_at i hs)) k j a.0 a.1 b.0 b.1
 
 -- ---- grants
 module _ (size align : ℕ) (hs hs' ks ks' : Heaps) (p p' : Place) (is : IsWellFormed hs) (t : AreTwins hs hs') (number : p.heap ≡ p'.heap) (s : GrantsTight size align hs ks p)
@@ -55,12 +59,12 @@ module _ (size align : ℕ) (hs hs' ks ks' : Heaps) (p p' : Place) (is : IsWellF
   was = some_twin s.was s'.was (heap_at p.heap hs) (heap_at p.heap hs') s.heap there (t.heaps p.heap)
 
   before : IsTwin s.before s'.before
-  before = raised_twins hs.limits p.heap s.was s'.was s.before s'.before was (twin_sym s.was s'.was was) s.raised
-      (subst₂ (λ (l : Limits) (j : ℕ). IsRaisedAsNeeded l j s'.was s'.before) t.limits (sym number) s'.raised)
+  before = raised_twins hs.limits p.heap (blocks_needed align) s.was s'.was s.before s'.before was (twin_sym s.was s'.was was) s.raised
+      (subst₂ (λ (l : Limits) (j : ℕ). IsRaisedAsNeeded l j (blocks_needed align) s'.was s'.before) t.limits (sym number) s'.raised)
 
   step : (Some (handle_in p.ticket) ≡ Some (handle_in p'.ticket)) × SameState s.after.space s'.after.space
   step = tight_decided size align s.before.space s'.before.space s.after.space s'.after.space
-      (raised_formed hs.limits p.heap s.was s.before s.raised (known_at hs (known hs is) p.heap s.was s.heap)) before.space
+      (raised_formed hs.limits p.heap (blocks_needed align) s.was s.before s.raised (known_at hs (known hs is) p.heap s.was s.heap)) before.space
       (Some (handle_in p.ticket)) (Some (handle_in p'.ticket)) s.step s'.step
 
   ticket : p.ticket ≡ p'.ticket

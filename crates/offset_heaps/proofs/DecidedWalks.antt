@@ -8,8 +8,7 @@ use Rattle.offset_allocator.specs.{Ranges.Range, View.Handle, View.IsWellFormed,
 use Rattle.offset_allocator.specs.Ranges as named
 use Rattle.offset_allocator.proofs.{Reporting.AlongLive.all_met, Reporting.AlongLive.backward, Tallies.hit_cases, Tallies.tally_append}
 use Rattle.offset_guarded.proofs.Guards.{live_name}
-use Rattle.offset_guarded.specs.Guard.{Guard}
-use Rattle.offset_guarded.specs.declared.ticket.Ticket.{Ticket}
+use Rattle.offset_guarded.specs.Guard.{Guard, Ticket}
 use Rattle.offset_heaps.specs.declared.place.Place.{Place}
 use Rattle.offset_heaps.specs.{Heaps.Heaps, Heaps.IsLive, Heaps.heap_at, Heaps.range_in, Relocating.last_live_in, Relocating.live_before_in, Relocating.place_in, Twins.AreTwins, Twins.IsTwin}
 use Rattle.offset_heaps.specs.Twins.{IsTwinIn}

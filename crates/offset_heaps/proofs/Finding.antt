@@ -12,7 +12,7 @@ module _ (max : ℕ) (slots : List (Option Guard)) (limits : Limits) (made : ℕ
   abbrev heaps : Heaps
   heaps = shown slots limits made realm accesses
 
-  fits_by : (blocks units : ℕ) (keys : List ℕ) → ((k : ℕ) → cell k keys ≡ room_of blocks (slot k slots)) → (r : Option ℕ) → IsFirst units keys r
+  fits_by : (blocks units : ℕ) (keys : List ℕ) → ((k : ℕ) → cell k keys ≡ room_of limits k blocks (slot k slots)) → (r : Option ℕ) → IsFirst units keys r
       → MatchOption r (NoneFits blocks units heaps) (λ k. IsFirstFit blocks units k heaps)
   fits_by blocks units keys keyed None h = λ k. subst (λ n. n < units) (keyed k) (h k)
   fits_by blocks units keys keyed (Some i) h = (subst (λ n. units ≤ n) (keyed i) h.1, λ j l. subst (λ n. n < units) (keyed j) (h.2 j l))
@@ -27,7 +27,7 @@ module _ (max : ℕ) (slots : List (Option Guard)) (limits : Limits) (made : ℕ
   pub fit_there : (blocks units : ℕ) (r : Option ℕ) → 1 ≤ units → MatchOption r (NoneFits blocks units heaps) (λ k. IsFirstFit blocks units k heaps)
       → IfSome r (λ k. k < length slots)
   fit_there blocks units None some h = tt
-  fit_there blocks units (Some k) some h = room_there slots blocks k units some h.0
+  fit_there blocks units (Some k) some h = room_there limits slots blocks k units some h.0
 
   -- the keys of the spare numbers
   usual_key : (size k : ℕ) → IsSpareUsual size k heaps → cell k index.spare.keys ≡ usual_room limits k

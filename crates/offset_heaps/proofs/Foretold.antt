@@ -45,7 +45,7 @@ module _ (size align : ℕ) (hs ks : Heaps) (grant : Granted) (g : Grants size a
   pub usual_units : IsUsual size hs → option_map units_of_heap (heap_at grant.place.heap ks) ≡ Some (usual_size hs.limits grant.place.heap)
   usual_units usual = ap (option_map units_of_heap) now ∙ ap Some (same ∙ go g.heap)
     where
-      go : IsBefore size hs grant g.before → g.before.space.size ≡ usual_size hs.limits grant.place.heap
+      go : IsBefore size align hs grant g.before → g.before.space.size ≡ usual_size hs.limits grant.place.heap
       go (inl old) = absurd (let e = old.0 in cc)
       go (inr made) = elim made.2 [
         | inl u ↦ ap (λ (v : View). v.size) u.1.space.view
@@ -55,7 +55,7 @@ module _ (size align : ℕ) (hs ks : Heaps) (grant : Granted) (g : Grants size a
   pub larger_units : (IsUsual size hs → ⊥) → option_map units_of_heap (heap_at grant.place.heap ks) ≡ Some size
   larger_units unusual = ap (option_map units_of_heap) now ∙ ap Some (same ∙ go g.heap)
     where
-      go : IsBefore size hs grant g.before → g.before.space.size ≡ size
+      go : IsBefore size align hs grant g.before → g.before.space.size ≡ size
       go (inl old) = absurd (let e = old.0 in cc)
       go (inr made) = elim made.2 [
         | inl u ↦ absurd (unusual u.0)

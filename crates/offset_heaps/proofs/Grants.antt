@@ -3,9 +3,8 @@ use Rattle.std.proofs.Common.{◌≡◌, ◌↔◌, ℕ, ◌+◌, ◌<◌, ◌�
 use Rattle.std.proofs.Common.{inr, arith, if◌then◌else◌}
 use Rattle.std.proofs.lemmas.Bool.{cases_Bool, cases_lt}
 use Rattle.offset_allocator.specs.Requests.{blocks_needed, units_needed}
-use Rattle.offset_guarded.specs.Guard.{Guard}
+use Rattle.offset_guarded.specs.Guard.{Guard, Ticket}
 use Rattle.offset_guarded.specs.Guard as guarded
-use Rattle.offset_guarded.specs.declared.ticket.Ticket.{Ticket}
 use Rattle.offset_heaps.specs.declared.limits.Limits.{Limits}
 use Rattle.offset_heaps.specs.declared.place.Granted.{Granted}
 use Rattle.offset_heaps.specs.declared.refusal.Refusal.{Refusal}
@@ -20,14 +19,14 @@ abbrev pub grant_at : ℕ → ℕ → Ticket → Granted
 grant_at number realm ticket = record { place = record { heap = number; realm = realm; ticket = ticket }; is_new = false }
 
 pub granted_at : (slots now : List (Option Guard)) (limits : Limits) (made realm before after number size align : ℕ) (ticket : Ticket) → number < length slots
-    → (MustRaiseIn limits number (slot number slots) → ⊥) → Changes number (λ o p. GrantsIn size align o p ticket) slots now
+    → (MustRaiseIn limits number (blocks_needed align) (slot number slots) → ⊥) → Changes number (λ o p. GrantsIn size align o p ticket) slots now
     → Grants size align (shown slots limits made realm before) (shown now limits made realm after) (grant_at number realm ticket)
 granted_at slots now limits made realm before after number size align ticket there stays change =
     let by = change.by in
     record {
       before = by.before;
       after = by.after;
-      heap = inl (refl, (by.before, by.was, inr (λ must. stays (must_in limits number (slot number slots) by.before by.was must), refl)));
+      heap = inl (refl, (by.before, by.was, inr (λ must. stays (must_in limits number (blocks_needed align) (slot number slots) by.before by.was must), refl)));
       step = inl (λ new. absurd (cc), by.step, by.accesses);
       grants = by.grants;
       realm = refl;
@@ -69,17 +68,17 @@ module _ (hs ks : Heaps) (number size align : ℕ) (o : Option Guard) (ticket : 
       }
 
 -- a heap that was raised as needed, and need not be raised again, is one that was there
-pub raised_once : (limits : Limits) (number : ℕ) (o now : Option Guard) → RaisesIn limits number o now → (g h : Guard) → now ≡ Some g → IsRaisedAsNeeded limits number g h → (MustRaiseIn limits number now → ⊥)
-    → (b : Guard) × (o ≡ Some b) × IsRaisedAsNeeded limits number b h
-raised_once limits number None now raises g h e raised stays = absurd (let none = sym raises ∙ e in cc)
-raised_once limits number (Some b) now raises g h e (inl up) stays = absurd (stays (must_in limits number now g e up.0))
-raised_once limits number (Some b) now raises g h e (inr kept) stays =
+pub raised_once : (limits : Limits) (number blocks : ℕ) (o now : Option Guard) → RaisesIn limits number blocks o now → (g h : Guard) → now ≡ Some g → IsRaisedAsNeeded limits number blocks g h → (MustRaiseIn limits number blocks now → ⊥)
+    → (b : Guard) × (o ≡ Some b) × IsRaisedAsNeeded limits number blocks b h
+raised_once limits number blocks None now raises g h e raised stays = absurd (let none = sym raises ∙ e in cc)
+raised_once limits number blocks (Some b) now raises g h e (inl up) stays = absurd (stays (must_in limits number blocks now g e up.0))
+raised_once limits number blocks (Some b) now raises g h e (inr kept) stays =
     let same : raises.0 ≡ g = some_same raises.0 g (sym raises.1 ∙ e) in
-    (b, refl, subst (IsRaisedAsNeeded limits number b) (same ∙ sym kept.1) raises.2)
+    (b, refl, subst (IsRaisedAsNeeded limits number blocks b) (same ∙ sym kept.1) raises.2)
 
 -- a grant in a heap that was raised before is one of the heap that was there
-module _ (hs between ks : Heaps) (size align number : ℕ) (grant : Granted) (there : number < length hs.slots) (change : Changes number (RaisesIn hs.limits number) hs.slots between.slots)
-    (rest : between ≡ record hs { slots = between.slots; accesses = between.accesses }) (none : MustRaiseIn hs.limits number (slot number between.slots) → ⊥) (old : grant.is_new ≡ false)
+module _ (hs between ks : Heaps) (size align number : ℕ) (grant : Granted) (there : number < length hs.slots) (change : Changes number (RaisesIn hs.limits number (blocks_needed align)) hs.slots between.slots)
+    (rest : between ≡ record hs { slots = between.slots; accesses = between.accesses }) (none : MustRaiseIn hs.limits number (blocks_needed align) (slot number between.slots) → ⊥) (old : grant.is_new ≡ false)
     (at : grant.place.heap ≡ number) where
   found : slot number between.slots ≡ change.now
   found = ap (slot number) change.slots ∙ slot_same hs.slots number change.now there
@@ -103,14 +102,14 @@ module _ (hs between ks : Heaps) (size align number : ℕ) (grant : Granted) (th
           ap (λ (s : List (Option Guard)). slice_set s grant.place.heap (Some after)) (change.slots ∙ ap (λ k. slice_set hs.slots k change.now) (sym at))
           ∙ set_twice hs.slots grant.place.heap change.now (Some after)
 
-      heap : (g : Grants size align (record hs { slots = between.slots; accesses = between.accesses }) ks grant) → IsBefore size hs grant g.before
+      heap : (g : Grants size align (record hs { slots = between.slots; accesses = between.accesses }) ks grant) → IsBefore size align hs grant g.before
       heap g = elim g.heap [
         | inr new ↦ absurd (let e = sym old ∙ new.0 in cc)
         | inl is ↦
             let e : change.now ≡ Some is.1.0 = sym found ∙ ap (λ k. slot k between.slots) (sym at) ∙ is.1.1 in
-            let w = raised_once hs.limits number (slot number hs.slots) change.now change.by is.1.0 g.before e (subst (λ k. IsRaisedAsNeeded hs.limits k is.1.0 g.before) at is.1.2)
-            (λ must. none (subst (MustRaiseIn hs.limits number) (sym found) must)) in
-            inl (is.0, (w.0, ap (λ k. slot k hs.slots) at ∙ w.1, subst (λ k. IsRaisedAsNeeded hs.limits k w.0 g.before) (sym at) w.2))
+            let w = raised_once hs.limits number (blocks_needed align) (slot number hs.slots) change.now change.by is.1.0 g.before e (subst (λ k. IsRaisedAsNeeded hs.limits k (blocks_needed align) is.1.0 g.before) at is.1.2)
+            (λ must. none (subst (MustRaiseIn hs.limits number (blocks_needed align)) (sym found) must)) in
+            inl (is.0, (w.0, ap (λ k. slot k hs.slots) at ∙ w.1, subst (λ k. IsRaisedAsNeeded hs.limits k (blocks_needed align) w.0 g.before) (sym at) w.2))
       ]
 
 -- a count of accesses changes nothing of a grant
@@ -156,8 +155,8 @@ module _ (size align : ℕ) (hs ks : Heaps) (grant : Granted) (g : Grants size a
   pub not_live_before : range_of grant.place hs ≡ None
   not_live_before = none_if (nat_eq grant.place.realm hs.realm) (range_in grant.place.ticket (heap_at grant.place.heap hs)) (none g.heap)
     where
-      none : IsBefore size hs grant g.before → range_in grant.place.ticket (heap_at grant.place.heap hs) ≡ None
-      none (inl old) = ap (range_in grant.place.ticket) old.1.1 ∙ sym (raised_range hs.limits grant.place.heap grant.place.ticket old.1.0 g.before old.1.2) ∙ g.grants.not_live
+      none : IsBefore size align hs grant g.before → range_in grant.place.ticket (heap_at grant.place.heap hs) ≡ None
+      none (inl old) = ap (range_in grant.place.ticket) old.1.1 ∙ sym (raised_range hs.limits grant.place.heap (blocks_needed align) grant.place.ticket old.1.0 g.before old.1.2) ∙ g.grants.not_live
       none (inr new) = ap (range_in grant.place.ticket) new.1
 
   pub others_kept : KeepsOthers grant.place hs ks
@@ -168,8 +167,8 @@ module _ (size align : ℕ) (hs ks : Heaps) (grant : Granted) (g : Grants size a
       fresh t (inl usual) = fresh_none (usual_size hs.limits grant.place.heap) hs.limits.first_allocs (hs.made + 1) g.before t usual.1
       fresh t (inr larger) = fresh_none size larger_limit (hs.made + 1) g.before t larger.1
 
-      kept : IsBefore size hs grant g.before → KeepsOthersIn grant.place.ticket (slot grant.place.heap hs.slots) (Some g.after)
-      kept (inl old) u apart = g.grants.others u apart ∙ raised_range hs.limits grant.place.heap u old.1.0 g.before old.1.2 ∙ sym (ap (range_in u) old.1.1)
+      kept : IsBefore size align hs grant g.before → KeepsOthersIn grant.place.ticket (slot grant.place.heap hs.slots) (Some g.after)
+      kept (inl old) u apart = g.grants.others u apart ∙ raised_range hs.limits grant.place.heap (blocks_needed align) u old.1.0 g.before old.1.2 ∙ sym (ap (range_in u) old.1.1)
       kept (inr new) u apart = g.grants.others u apart ∙ fresh u new.2 ∙ sym (ap (range_in u) new.1)
 
 -- what is made for a request may be large enough for it
@@ -247,13 +246,13 @@ one_found blocks units k j hs a b = elim (cases_lt k j) [
 
 -- where a heap has room, none but memory, for more nodes of the first
 pub none_found : (size align k : ℕ) (hs : Heaps) (r : Refusal) → 1 ≤ size → IsFirstFit (blocks_needed align) (units_needed size align) k hs → IsWhy size align hs r
-    → (r ≡ Memory) × MustRaiseIn hs.limits k (heap_at k hs)
+    → (r ≡ Memory) × MustRaiseIn hs.limits k (blocks_needed align) (heap_at k hs)
 none_found size align k hs Empty some first why = absurd (omega (arith, some, why))
 none_found size align k hs TooLarge some first why = absurd (let less = why.0.1 k in let fits = first.0 in omega (arith, less, fits))
 none_found size align k hs Full some first why = absurd (let less = why.0.1 k in let fits = first.0 in omega (arith, less, fits))
 none_found size align k hs Memory some first (inl why) = absurd (let less = why.0.1 k in let fits = first.0 in omega (arith, less, fits))
 none_found size align k hs Memory some first (inr why) =
-    (refl, subst (λ j. MustRaiseIn hs.limits j (heap_at j hs)) (one_found (blocks_needed align) (units_needed size align) why.1.0 k hs why.1.1 first) why.1.2)
+    (refl, subst (λ j. MustRaiseIn hs.limits j (blocks_needed align) (heap_at j hs)) (one_found (blocks_needed align) (units_needed size align) why.1.0 k hs why.1.1 first) why.1.2)
 
 -- and where another heap may be made, no reason but its memory
 pub memory_alone : (size align k : ℕ) (hs : Heaps) (r : Refusal) → 1 ≤ size → IsNext size k hs → IsWhy size align hs r → r ≡ Memory

@@ -3,6 +3,7 @@ use Rattle.std.proofs.Common.{◌≡◌, ◌≢◌, ℕ, ◌+◌, ◌<◌, ◌�
 use Rattle.std.proofs.lemmas.Bool.{cases_eq, cases_lt}
 use Rattle.std.specs.List.{AllByRecursion}
 use Rattle.offset_allocator.specs.Ranges as named
+use Rattle.offset_allocator.specs.Requests.{blocks_needed}
 use Rattle.offset_guarded.specs.Guard.{Guard}
 use Rattle.offset_heaps.specs.declared.place.Granted.{Granted}
 use Rattle.offset_heaps.specs.declared.place.Place.{Place}
@@ -46,9 +47,9 @@ grant_keeps p size align hs ks grant g gone = record {
     more true l = omega (arith, l)
     more false l = l
 
-    lacks : p.heap ≡ grant.place.heap → IsBefore size hs grant g.before → Lacks p.ticket.realm (Some g.after)
+    lacks : p.heap ≡ grant.place.heap → IsBefore size align hs grant g.before → Lacks p.ticket.realm (Some g.after)
     lacks e (inl old) = same_realm p.ticket.realm (heap_at p.heap hs) old.1.0 g.after (ap (λ k. heap_at k hs) e ∙ old.1.1)
-        (g.grants.realm.1 ∙ raised_realm hs.limits grant.place.heap old.1.0 g.before old.1.2) gone.other
+        (g.grants.realm.1 ∙ raised_realm hs.limits grant.place.heap (blocks_needed align) old.1.0 g.before old.1.2) gone.other
     lacks e (inr new) = λ r. elim new.2 [
       | inl usual ↦ absurd (omega (arith, usual.1.realm, g.grants.realm.1, r, gone.made))
       | inr larger ↦ absurd (omega (arith, larger.1.realm, g.grants.realm.1, r, gone.made))

@@ -1,47 +1,45 @@
 -- Tight requests: which heap holds one, what a grant leaves, and why one is refused.
-use Rattle.std.proofs.Common.{◌≡◌, ◌↔◌, ℕ, ◌<◌, ◌≤◌, true, false, Option, Some, None, List, Result, Ok, Err, IfOk, IfErr, MatchOption, is_some, length, slice_set, nat_eq, refl, sym, ap, subst, ◌∙◌, inl, inr, arith}
+use Rattle.std.proofs.Common.{◌≡◌, ◌↔◌, ℕ, ◌+◌, ◌<◌, ◌≤◌, true, false, Option, Some, None, List, Result, Ok, Err, IfOk, IfErr, MatchOption, is_some, length, slice_set, nat_eq, refl, sym, ap, subst, ◌∙◌, inl, inr, arith}
 use Rattle.std.proofs.lemmas.Bool.{cases_Bool, cases_eq, cases_lt}
-use Rattle.offset_allocator.specs.{Requests.blocks_needed, Requests.units_needed, View.IsWellFormed}
-use Rattle.offset_allocator.proofs.Holding.{grant_holds}
-use Rattle.offset_guarded.specs.Guard.{Guard}
-use Rattle.offset_guarded.specs.declared.ticket.Ticket.{Ticket}
+use Rattle.offset_allocator.specs.{Requests.blocks_needed, Requests.units_needed, Tight.CanHold, View.IsWellFormed}
+use Rattle.offset_allocator.proofs.{Holding.grant_holds, Raised.under, Raised.well_under, Taken.HasFit, Views.ViewFits.fits_exactly, Views.ViewFits.largest_small}
+use Rattle.offset_guarded.specs.Guard.{Guard, Ticket}
 use Rattle.offset_heaps.specs.declared.limits.Limits.{Limits}
 use Rattle.offset_heaps.specs.declared.place.Granted.{Granted}
 use Rattle.offset_heaps.specs.declared.place.Place.{Place}
 use Rattle.offset_heaps.specs.declared.refusal.Refusal.{Refusal}
 use Rattle.offset_heaps.specs.declared.refusal.Refusal.TheVariants.{Empty, TooLarge, Full, Memory}
 use Rattle.offset_heaps.specs.Asking.{IsWhyNone}
-use Rattle.offset_heaps.specs.Heaps.{Heaps, Grants, IsForRoom, IsRaisedAsNeeded, IsNext, IsSame, IsWhy, KeepsOthers, MustRaiseIn, NoneFits, heap_at, range_in, range_of, room, slot}
+use Rattle.offset_heaps.specs.Heaps.{Heaps, Grants, IsForRoom, IsRaisedAsNeeded, IsNext, IsSame, IsWhy, KeepsOthers, MustRaiseIn, NoneFits, heap_at, range_in, range_of, room, slot, top_limit}
 use Rattle.offset_heaps.specs.{Slots.CanHoldIn, Slots.Changes, Slots.GrantsTightAlignedIn, Slots.RaisesIn}
 use Rattle.offset_heaps.specs.Tight.{GrantsTight, IsFirstHolding, IsRefusedForTight, IsServedTight, IsWhyTight, NoneHolds}
 use Rattle.offset_heaps.proofs.{Grants.granted_since, Grants.next_fits, Grants.not_live_before, Grants.others_kept, Grants.raised_once, Grants.range_granted, Raising.must_in, Raising.raised_range, Raising.set_twice}
-use Rattle.offset_heaps.proofs.{Numbers.slot_same, Numbers.slot_there, Places.none_if, Places.put_keeps, Places.same_realm, Places.shown, Rooms.can}
+use Rattle.offset_heaps.proofs.{Numbers.slot_same, Numbers.slot_there, Places.none_if, Places.put_keeps, Places.same_realm, Places.shown, Rooms.room_left}
 
 -- ---- what a heap holds
+-- under some limit a request is granted where there is room for it, and so a free block holds it
+pub room_holds : (limits : Limits) (k size align : ℕ) (g : Guard) → IsWellFormed g.space → 1 ≤ size → 1 ≤ align → units_needed size align ≤ room limits k (blocks_needed align) g → CanHoldIn limits k size align (Some g)
+room_holds limits k size align g known some power fits =
+    let n : ℕ = units_needed size align in
+    let one : 1 ≤ n = omega (arith, some, power) in
+    let has = room_left limits k (blocks_needed align) n g one fits in
+    let limit : ℕ = g.space.max_allocs + top_limit limits k g in
+    let small = largest_small g.space known known.fits n one has.2 in
+    let fit : HasFit n g.space = (fits_exactly g.space known n small known.fits one).1 has.2 in
+    let held : CanHold size align (under limit g.space) = grant_holds (under limit g.space) (well_under g.space limit (omega arith) known) size align power (omega (arith, has.1), fit) in
+    (has.0, has.1, held.1)
+
 -- where no free block holds a request, there is no room for it
-pub holds_less : (size align : ℕ) (g : Guard) → IsWellFormed g.space → 1 ≤ size → 1 ≤ align → (CanHoldIn size align (Some g) → ⊥) → room (blocks_needed align) g < units_needed size align
-holds_less size align g known some power none = elim (cases_lt (room (blocks_needed align) g) (units_needed size align)) [
+pub holds_less : (limits : Limits) (k size align : ℕ) (g : Guard) → IsWellFormed g.space → 1 ≤ size → 1 ≤ align → (CanHoldIn limits k size align (Some g) → ⊥)
+    → room limits k (blocks_needed align) g < units_needed size align
+holds_less limits k size align g known some power none = elim (cases_lt (room limits k (blocks_needed align) g) (units_needed size align)) [
   | inl less ↦ less
-  | inr fits ↦ absurd (let c = can (blocks_needed align) (units_needed size align) g known (omega (arith, some, power)) fits in none (c.0, grant_holds g.space known size align power c.1))
+  | inr fits ↦ absurd (none (room_holds limits k size align g known some power fits))
 ]
-
--- a heap whose limit was raised holds what it held
-holds_raised : (limits : Limits) (k size align : ℕ) (g h : Guard) → IsRaisedAsNeeded limits k g h → CanHoldIn size align (Some g) → CanHoldIn size align (Some h)
-holds_raised limits k size align g h (inr kept) c = subst (λ (z : Guard). CanHoldIn size align (Some z)) (sym kept.1) c
-holds_raised limits k size align g h (inl up) c = subst (λ (z : Guard). CanHoldIn size align (Some z)) (sym up.1) (c.0, (omega (arith, c.1.0, up.0.1), c.1.1))
-
-holds_raises : (limits : Limits) (k size align : ℕ) (o new : Option Guard) → RaisesIn limits k o new → CanHoldIn size align o → CanHoldIn size align new
-holds_raises limits k size align None new raises c = absurd c
-holds_raises limits k size align (Some g) new raises c = subst (CanHoldIn size align) (sym raises.1) (holds_raised limits k size align g raises.0 raises.2 c)
-
-pub holds_after : (limits : Limits) (number size align : ℕ) (slots now : List (Option Guard)) → number < length slots → Changes number (RaisesIn limits number) slots now
-    → CanHoldIn size align (slot number slots) → CanHoldIn size align (slot number now)
-holds_after limits number size align slots now there change c = subst (CanHoldIn size align) (sym (ap (slot number) change.slots ∙ slot_same slots number change.now there))
-    (holds_raises limits number size align (slot number slots) change.now change.by c)
 
 -- ---- what a grant leaves
 pub filled_at : (slots now : List (Option Guard)) (limits : Limits) (made realm before after number size align : ℕ) (ticket : Ticket) → number < length slots
-    → (MustRaiseIn limits number (slot number slots) → ⊥) → Changes number (λ o p. GrantsTightAlignedIn size align o p ticket) slots now
+    → (MustRaiseIn limits number (blocks_needed align) (slot number slots) → ⊥) → Changes number (λ o p. GrantsTightAlignedIn size align o p ticket) slots now
     → GrantsTight size align (shown slots limits made realm before) (shown now limits made realm after) (record { heap = number; realm = realm; ticket = ticket })
 filled_at slots now limits made realm before after number size align ticket there stays change =
     let by = change.by in
@@ -50,7 +48,7 @@ filled_at slots now limits made realm before after number size align ticket ther
       before = by.before;
       after = by.after;
       heap = by.was;
-      raised = inr (λ must. stays (must_in limits number (slot number slots) by.before by.was must), refl);
+      raised = inr (λ must. stays (must_in limits number (blocks_needed align) (slot number slots) by.before by.was must), refl);
       step = by.step;
       grants = by.grants;
       accesses = by.accesses;
@@ -59,21 +57,21 @@ filled_at slots now limits made realm before after number size align ticket ther
     }
 
 -- in a heap that was raised before, it is one of the heap that was there
-pub filled_raised : (hs between ks : Heaps) (size align number : ℕ) (p : Place) → number < length hs.slots → Changes number (RaisesIn hs.limits number) hs.slots between.slots
-    → between ≡ record hs { slots = between.slots; accesses = between.accesses } → (MustRaiseIn hs.limits number (slot number between.slots) → ⊥) → p.heap ≡ number
+pub filled_raised : (hs between ks : Heaps) (size align number : ℕ) (p : Place) → number < length hs.slots → Changes number (RaisesIn hs.limits number (blocks_needed align)) hs.slots between.slots
+    → between ≡ record hs { slots = between.slots; accesses = between.accesses } → (MustRaiseIn hs.limits number (blocks_needed align) (slot number between.slots) → ⊥) → p.heap ≡ number
     → GrantsTight size align between ks p → GrantsTight size align hs ks p
 filled_raised hs between ks size align number p there change rest none at given =
     let g : GrantsTight size align (record hs { slots = between.slots; accesses = between.accesses }) ks p = subst (λ (h : Heaps). GrantsTight size align h ks p) rest given in
     let found : slot number between.slots ≡ change.now = ap (slot number) change.slots ∙ slot_same hs.slots number change.now there in
     let e : change.now ≡ Some g.was = sym found ∙ ap (λ k. slot k between.slots) (sym at) ∙ g.heap in
-    let w = raised_once hs.limits number (slot number hs.slots) change.now change.by g.was g.before e (subst (λ k. IsRaisedAsNeeded hs.limits k g.was g.before) at g.raised)
-    (λ must. none (subst (MustRaiseIn hs.limits number) (sym found) must)) in
+    let w = raised_once hs.limits number (blocks_needed align) (slot number hs.slots) change.now change.by g.was g.before e (subst (λ k. IsRaisedAsNeeded hs.limits k (blocks_needed align) g.was g.before) at g.raised)
+    (λ must. none (subst (MustRaiseIn hs.limits number (blocks_needed align)) (sym found) must)) in
     record {
       was = w.0;
       before = g.before;
       after = g.after;
       heap = ap (λ k. slot k hs.slots) at ∙ w.1;
-      raised = subst (λ k. IsRaisedAsNeeded hs.limits k w.0 g.before) (sym at) w.2;
+      raised = subst (λ k. IsRaisedAsNeeded hs.limits k (blocks_needed align) w.0 g.before) (sym at) w.2;
       step = g.step;
       grants = g.grants;
       accesses = g.accesses;
@@ -109,11 +107,11 @@ module _ (size align : ℕ) (hs ks : Heaps) (p : Place) (g : GrantsTight size al
 
   not_live_filled : range_of p hs ≡ None
   not_live_filled = none_if (nat_eq p.realm hs.realm) (range_in p.ticket (heap_at p.heap hs))
-      (ap (range_in p.ticket) g.heap ∙ sym (raised_range hs.limits p.heap p.ticket g.was g.before g.raised) ∙ g.grants.not_live)
+      (ap (range_in p.ticket) g.heap ∙ sym (raised_range hs.limits p.heap (blocks_needed align) p.ticket g.was g.before g.raised) ∙ g.grants.not_live)
 
   others_filled : KeepsOthers p hs ks
   others_filled = put_keeps hs ks p.heap (Some g.after) slots realms there p refl g.realm
-      (λ u apart. g.grants.others u apart ∙ raised_range hs.limits p.heap u g.was g.before g.raised ∙ sym (ap (range_in u) g.heap))
+      (λ u apart. g.grants.others u apart ∙ raised_range hs.limits p.heap (blocks_needed align) u g.was g.before g.raised ∙ sym (ap (range_in u) g.heap))
 
 -- a request is granted in a heap that was there, or in a new one
 pub not_filled : (size align : ℕ) (hs ks : Heaps) (r : Result Granted Refusal) (P : Granted → Type 0) → IfOk r (λ g. (g.is_new ≡ true) × P g)

@@ -1,8 +1,7 @@
 -- The live ranges of a heap, by their places.
 use Rattle.std.proofs.Common.{◌≡◌, ℕ, Option, Some, None, option_map, refl, sym, ap, ◌∙◌}
 use Rattle.offset_allocator.specs.{Reporting.Walking.first_live, Reporting.Walking.last_live, Reporting.Walking.live_after, Reporting.Walking.live_before, View.Handle}
-use Rattle.offset_guarded.specs.Guard.{Guard, ticket_at}
-use Rattle.offset_guarded.specs.declared.ticket.Ticket.{Ticket}
+use Rattle.offset_guarded.specs.Guard.{Guard, Ticket, ticket_at}
 use Rattle.offset_heaps.specs.declared.place.Place.{Place}
 use Rattle.offset_heaps.specs.Numbering.{first_live_in, live_after_in}
 use Rattle.offset_heaps.specs.Relocating.{last_live_in, live_before_in, place_in}

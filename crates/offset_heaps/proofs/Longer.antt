@@ -1,85 +1,162 @@
 -- Heaps whose space becomes larger in place.
-use Rattle.std.proofs.Common.{◌≡◌, ◌↔◌, ℕ, ◌+◌, ◌<◌, ◌≤◌, Bool, true, false, List, [], ◌∷◌, ◌++◌, Option, Some, IfSome, length, length-append, sym, ap, subst, ◌∙◌, inl, inr, arith}
-use Rattle.offset_allocator.specs.{Relations.Adds, Relations.CanExtend, Relations.Extends, View.Block, View.View, View.free_block, View.units}
+use Rattle.std.proofs.Common.{◌≡◌, ◌↔◌, ℕ, suc, ◌+◌, ◌<◌, ◌≤◌, ◌⊎◌, Bool, true, false, List, [], ◌∷◌, ◌++◌, Option, Some, None, IfSome, IsTrue, length, length-append, reverse, if◌then◌else◌, refl, sym, ap, subst, ◌∙◌, inl, inr, arith}
+use Rattle.std.proofs.lemmas.Bool.{cases_Bool}
+use Rattle.offset_allocator.specs.{Relations.CanExtend, Relations.Extends, Reporting.Listing.Placed, Reporting.Listing.listing, Reporting.Listing.placed, Reporting.Listing.placed_at, Requests.AdmitsBlocks, View.Block, View.Handle, View.IsWellFormed, View.View, View.units}
+use Rattle.offset_allocator.proofs.Reporting.Nearby.{back}
 use Rattle.offset_guarded.specs.Guard.{Guard}
 use Rattle.offset_guarded.specs.Guard as guarded
 use Rattle.offset_heaps.specs.declared.limits.Limits.{Limits}
-use Rattle.offset_heaps.specs.Extending.{ExtendsIf, ExtendsIn}
-use Rattle.offset_heaps.specs.Heaps.{HasNodesLeft, IsFirstLimit, IsOfKind, IsRaisedAsNeeded, MustRaise, raised_limit}
+use Rattle.offset_heaps.specs.Extending.{CanExtendIn, EndsFree, ExtendsIf, ExtendsIn, MustExtend}
+use Rattle.offset_heaps.specs.Heaps.{IsOfKind, IsRaisedWhere, raised_limit, top_limit}
 use Rattle.offset_heaps.specs.Twins.{IsTwin}
 use Rattle.offset_heaps.proofs.Twins.{range_twin}
-use Rattle.offset_heaps.proofs.Raising.{enough_left, raised_kind, raised_stays, usual_left}
+use Rattle.offset_heaps.proofs.{Raising.where_kind, Raising.where_same, Rooms.admitted, Rooms.top_above, Rooms.top_usual}
 
 -- ---- what becomes of a space
-extended_blocks : (more : ℕ) (v w : View) → Extends more v w true → length w.blocks ≤ length v.blocks + 2
-extended_blocks more v w (inl s) = omega (arith, ap (λ (z : View). length z.blocks) s.1)
-extended_blocks more v w (inr s) =
-    let a : Adds more v w = s.2 in
-    let new : List Block = free_block a.name (units a.last + more) ∷ [] in
-    let was = ap length a.blocks ∙ length-append a.before a.last in
-    let now = ap (λ (z : View). length z.blocks) a.view ∙ length-append a.before (new ++ []) in
-    omega (arith, was, now)
-
 extended_limit : (more : ℕ) (v w : View) → Extends more v w true → w.max_allocs ≡ v.max_allocs
 extended_limit more v w (inl s) = ap (λ (z : View). z.max_allocs) s.1
 extended_limit more v w (inr s) = ap (λ (z : View). z.max_allocs) s.2.view
 
+-- ---- whether the last block is free
+abbrev LastFree : List Block → Type 0
+LastFree bs = (before : List Block) × (last : Block) × (bs ≡ before ++ last ∷ []) × (last.used ≡ false)
+
+last_or : (bs : List Block) → LastFree bs ⊎ (LastFree bs → ⊥)
+last_or [] = inr (λ f. let e = ap length f.2 ∙ length-append f.0 (f.1 ∷ []) in omega (arith, e))
+last_or (b ∷ []) = elim (cases_Bool b.used) [
+  | inr free ↦ inl ([], b, refl, free)
+  | inl used ↦ inr (λ f. go used f.0 f.1 f.2 f.3)
+]
+  where
+    go : b.used ≡ true → (before : List Block) (last : Block) → b ∷ [] ≡ before ++ last ∷ [] → last.used ≡ false → ⊥
+    go used [] last e free = let same : b ≡ last = cc in let no : true ≡ false = sym used ∙ ap (λ (z : Block). z.used) same ∙ free in cc
+    go used (x ∷ xs) last e free = let n = ap length e ∙ ap suc (length-append xs (last ∷ [])) in omega (arith, n)
+last_or (b ∷ c ∷ cs) = elim (last_or (c ∷ cs)) [
+  | inl f ↦ inl (b ∷ f.0, f.1, ap (λ (bs : List Block). b ∷ bs) f.2, f.3)
+  | inr n ↦ inr (λ f. go n f.0 f.1 f.2 f.3)
+]
+  where
+    go : (LastFree (c ∷ cs) → ⊥) → (before : List Block) (last : Block) → b ∷ c ∷ cs ≡ before ++ last ∷ [] → last.used ≡ false → ⊥
+    go n [] last e free = let l = ap length e in omega (arith, l)
+    go n (x ∷ xs) last e free = n (xs, last, (let t : c ∷ cs ≡ xs ++ last ∷ [] = cc in t), free)
+
+-- the block that an iterator over the blocks yields first says it
+pub ends_free : (v : View) (p : Placed) (rest : List Placed) → listing v ≡ p ∷ rest → (p.handle ≡ None) ↔ EndsFree v
+ends_free v p rest first = (
+  λ none. elim (last_or v.blocks) [
+    | inl f ↦ f
+    | inr n ↦ absurd (snoc v.blocks n none first)
+  ],
+  λ f.
+      let e : p ∷ rest ≡ placed_at (units f.0) f.1 ∷ reverse (placed 0 f.0) = sym first ∙ ap (λ bs. reverse (placed 0 bs)) f.2 ∙ back f.0 f.1 in
+      let here : p ≡ placed_at (units f.0) f.1 = cc in
+      ap (λ (z : Placed). z.handle) here ∙ ap (λ (b : Bool). if b then Some (record { name = f.1.name; offset = units f.0 }) else None) f.3,
+)
+  where
+    some_used : (b : Bool) (h : Handle) → (if b then Some h else None) ≡ None → b ≡ false
+    some_used true h e = cc
+    some_used false h e = refl
+
+    split : (b : Block) (bs : List Block) → (before : List Block) × (last : Block) × (b ∷ bs ≡ before ++ last ∷ [])
+    split b [] = ([], b, refl)
+    split b (c ∷ cs) = let s = split c cs in (b ∷ s.0, s.1, ap (λ (bs : List Block). b ∷ bs) s.2)
+
+    snoc : (bs : List Block) → (LastFree bs → ⊥) → p.handle ≡ None → reverse (placed 0 bs) ≡ p ∷ rest → ⊥
+    snoc [] n none e = absurd (cc)
+    snoc (b ∷ bs) n none e =
+        let s = split b bs in
+        let q : p ∷ rest ≡ placed_at (units s.0) s.1 ∷ reverse (placed 0 s.0) = sym e ∙ ap (λ bs. reverse (placed 0 bs)) s.2 ∙ back s.0 s.1 in
+        let here : p ≡ placed_at (units s.0) s.1 = cc in
+        n (s.0, s.1, s.2, some_used s.1.used (record { name = s.1.name; offset = units s.0 }) (sym (ap (λ (z : Placed). z.handle) here) ∙ none))
+
+pub ends_none : (v : View) → listing v ≡ [] → EndsFree v → ⊥
+ends_none v none f = let e : [] ≡ placed_at (units f.0) f.1 ∷ reverse (placed 0 f.0) = sym none ∙ ap (λ bs. reverse (placed 0 bs)) f.2 ∙ back f.0 f.1 in absurd (cc)
+
 -- ---- whether it can be done
-module _ (limits : Limits) (k more : ℕ) (g h : Guard) (has : k < limits.most → HasNodesLeft limits g) where
-  -- a heap whose node limit has to be raised has nodes
-  can_before : MustRaise limits k g → g.space.size + more ≤ 4294967295 → CanExtend more g.space
-  can_before must fits = let left = has must.0 in (fits, inl (omega (arith, left.2, must.1)))
+may : (limits : Limits) (k more : ℕ) (g : Guard) → MustExtend limits k more g → (k < limits.most) × (g.space.max_allocs < limits.max_allocs)
+may limits k more g must = (must.2.0, must.2.1)
 
-  can_after : MustRaise limits k g → guarded.IsRaised (raised_limit limits g) g h → g.space.size + more ≤ 4294967295 → CanExtend more h.space
-  can_after must raised fits =
-      let left = has must.0 in
-      let size : h.space.size ≡ g.space.size = ap (λ (z : Guard). z.space.size) raised in
-      let limit : h.space.max_allocs ≡ raised_limit limits g = ap (λ (z : Guard). z.space.max_allocs) raised in
-      let blocks : length h.space.blocks ≡ length g.space.blocks = ap (λ (z : Guard). length z.space.blocks) raised in
-      (omega (arith, fits, size), inl (omega (arith, left.2, must.1, limit, blocks)))
+-- a heap whose node limit has to be raised has nodes for a further block under the largest one
+pub can_raised : (limits : Limits) (k more : ℕ) (g : Guard) → IsWellFormed g.space → MustExtend limits k more g → g.space.size + more ≤ 4294967295 → CanExtendIn limits k more (Some g)
+can_raised limits k more g known must fits = λ _. (fits, inl (omega (arith, top_usual limits k g must.2.0, known.room, must.2.1)))
 
-  pub can_raised : IsRaisedAsNeeded limits k g h → g.space.size + more ≤ 4294967295 → (1 ≤ more → CanExtend more h.space) ↔ (1 ≤ more → CanExtend more g.space)
-  can_raised (inl up) fits = (λ _ _. can_before up.0 fits, λ _ _. can_after up.0 up.1 fits)
-  can_raised (inr kept) fits = (λ c some. subst (λ (z : Guard). CanExtend more z.space) kept.1 (c some), λ c some. subst (λ (z : Guard). CanExtend more z.space) (sym kept.1) (c some))
+pub can_extend : (limits : Limits) (k more : ℕ) (g h : Guard) → IsWellFormed g.space → IsOfKind limits k g → g.space.size + more ≤ 4294967295 → IsRaisedWhere (MustExtend limits k more) limits g h
+    → (1 ≤ more → CanExtend more h.space) ↔ CanExtendIn limits k more (Some g)
+can_extend limits k more g h known kind fits (inl up) =
+    let size : h.space.size ≡ g.space.size = ap (λ (z : Guard). z.space.size) up.1 in
+    let limit : h.space.max_allocs ≡ raised_limit limits g = ap (λ (z : Guard). z.space.max_allocs) up.1 in
+    let blocks : length h.space.blocks ≡ length g.space.blocks = ap (λ (z : Guard). length z.space.blocks) up.1 in (
+      λ _. can_raised limits k more g known up.0 fits,
+      λ _ _. (omega (arith, fits, size), inl (omega (arith, limit, blocks, known.room, known.few_used, up.0.2.1))),
+    )
+can_extend limits k more g h known kind fits (inr kept) = (
+  λ c some. elim (subst (λ (z : Guard). CanExtend more z.space) kept.1 (c some)).1 [
+    | inl l ↦ (fits, inl (omega (arith, l, top_above limits k g kind)))
+    | inr free ↦ (fits, inr free)
+  ],
+  λ c some. subst (λ (z : Guard). CanExtend more z.space) (sym kept.1) (fits, room (c some).1 some),
+)
+  where
+    room : (length g.space.blocks + 1 < top_limit limits k g) ⊎ EndsFree g.space → 1 ≤ more → AdmitsBlocks 1 g.space ⊎ EndsFree g.space
+    room (inr free) some = inr free
+    room (inl l) some = elim (last_or g.space.blocks) [
+      | inl free ↦ inr free
+      | inr used ↦ inl (admitted limits k 1 g kind (λ must. kept.0 (some, used, must)) l)
+    ]
+
+-- what the step of its space leaves
+longer_same : {A : Type 0} (limits : Limits) (k more : ℕ) (f : Guard → A) → ((limit : ℕ) (g : Guard) → f (record g { space = record g.space { max_allocs = limit; accesses = 0 } }) ≡ f g) → (g h : Guard)
+    → IsRaisedWhere (MustExtend limits k more) limits g h → f h ≡ f g
+longer_same limits k more f same g h raised = where_same (MustExtend limits k more) limits k (may limits k more) f same g h raised
+
+pub extends_if : (limits : Limits) (k more : ℕ) (done : Bool) (g b h : Guard) → IsWellFormed g.space → IsOfKind limits k g → g.space.size + more ≤ 4294967295
+    → IsRaisedWhere (MustExtend limits k more) limits g b → IsTrue done ↔ (1 ≤ more → CanExtend more b.space) → (IsTrue done → h.space.size ≡ b.space.size + more) → guarded.KeepsAll b h
+    → (done ≡ false → guarded.IsSame b h) → Extends more b.space h.space done → guarded.KeepsSerials b h → h.space.accesses ≤ b.space.accesses + 128 → ExtendsIf limits k more done g h
+extends_if limits k more true g b h known kind fits raised can size kept same step serials few =
+    record {
+      between = b;
+      raised = raised;
+      step = step;
+      size = size refl ∙ ap (λ n. n + more) (longer_same limits k more (λ (z : Guard). z.space.size) (λ limit g. refl) g b raised);
+      serials = record {
+        cells = λ x. serials.cells x ∙ longer_same limits k more (guarded.serial_of x) (λ limit g. refl) g b raised;
+        given = serials.given ∙ longer_same limits k more (λ (z : Guard). z.given) (λ limit g. refl) g b raised;
+        realm = serials.realm ∙ longer_same limits k more (λ (z : Guard). z.realm) (λ limit g. refl) g b raised;
+      };
+      kept = λ t. kept t ∙ longer_same limits k more (guarded.range_of t) (λ limit g. refl) g b raised;
+      accesses = few;
+    }
+extends_if limits k more false g b h known kind fits (inl up) can size kept same step serials few =
+    absurd (let e : false ≡ true = can.1 ((can_extend limits k more g b known kind fits (inl up)).1 (can_raised limits k more g known up.0 fits)) in cc)
+extends_if limits k more false g b h known kind fits (inr stays) can size kept same step serials few = subst (λ (z : Guard). guarded.IsSame z h) stays.1 (same refl)
 
 -- ---- the heap is of its kind, and keeps its realm
-extended_kind : (limits : Limits) (k more : ℕ) (g h : Guard) → IsFirstLimit limits → ExtendsIn limits k more g h → IsOfKind limits k g → IsOfKind limits k h
-extended_kind limits k more g h first e kind =
-    let between = raised_kind limits k g e.between first e.raised kind in
+extended_kind : (limits : Limits) (k more : ℕ) (g h : Guard) → ExtendsIn limits k more g h → IsOfKind limits k g → IsOfKind limits k h
+extended_kind limits k more g h e kind =
     let limit = extended_limit more e.between.space h.space e.step in
-    let blocks = extended_blocks more e.between.space h.space e.step in
+    let between = where_kind (MustExtend limits k more) limits k (may limits k more) g e.between e.raised kind in
     let size = e.size in
-    elim kind [
-      | inl u ↦
-          let left = usual_left limits k e.between between u.0 in
-          inl (
-            u.0,
-            omega (arith, size, u.1),
-            (
-              omega (arith, limit, left.0),
-              omega (arith, limit, left.1),
-              enough_left limits k e.between h (raised_stays limits k g e.between first (usual_left limits k g (inl u)) e.raised) blocks limit u.0 left,
-            ),
-          )
-      | inr l ↦ inr (l.0, omega (arith, size, l.1), limit ∙ raised_four e.raised l ∙ l.2)
+    elim between [
+      | inl u ↦ elim kind [
+        | inl v ↦ inl (u.0, omega (arith, size, v.1), (omega (arith, limit, u.2.0), omega (arith, limit, u.2.1)))
+        | inr l ↦ absurd (omega (arith, u.0, l.0))
+      ]
+      | inr l ↦ elim kind [
+        | inl v ↦ absurd (omega (arith, v.0, l.0))
+        | inr m ↦ inr (l.0, omega (arith, size, m.1), limit ∙ l.2)
+      ]
     ]
-  where
-    raised_four : IsRaisedAsNeeded limits k g e.between → (limits.most ≤ k) × (1 ≤ g.space.size) × (g.space.max_allocs ≡ 4) → e.between.space.max_allocs ≡ g.space.max_allocs
-    raised_four (inl up) l = absurd (omega (arith, up.0.0, l.0))
-    raised_four (inr kept) l = ap (λ (z : Guard). z.space.max_allocs) kept.1
 
-pub kind_longer : (limits : Limits) (k more : ℕ) (done : Bool) (old new : Option Guard) (before after : Guard) → old ≡ Some before → new ≡ Some after → IsFirstLimit limits
+pub kind_longer : (limits : Limits) (k more : ℕ) (done : Bool) (old new : Option Guard) (before after : Guard) → old ≡ Some before → new ≡ Some after
     → ExtendsIf limits k more done before after → IfSome old (IsOfKind limits k) → IfSome new (IsOfKind limits k)
-kind_longer limits k more done old new before after was is first e kind = rw is (go done e (subst (λ o. IfSome o (IsOfKind limits k)) was kind))
+kind_longer limits k more done old new before after was is e kind = rw is (go done e (subst (λ o. IfSome o (IsOfKind limits k)) was kind))
   where
     go : (done : Bool) → ExtendsIf limits k more done before after → IsOfKind limits k before → IsOfKind limits k after
-    go true e kind = extended_kind limits k more before after first e kind
+    go true e kind = extended_kind limits k more before after e kind
     go false e (inl u) =
         let size = ap (λ (z : View). z.size) e.0 in
         let limit = ap (λ (z : View). z.max_allocs) e.0 in
-        let blocks = ap (λ (z : View). length z.blocks) e.0 in
-        let left = u.2 in
-        inl (u.0, omega (arith, size, u.1), (omega (arith, limit, left.0), omega (arith, limit, left.1), omega (arith, limit, blocks, left.2)))
+        inl (u.0, omega (arith, size, u.1), (omega (arith, limit, u.2.0), omega (arith, limit, u.2.1)))
     go false e (inr l) = inr (l.0, omega (arith, ap (λ (z : View). z.size) e.0, l.1), ap (λ (z : View). z.max_allocs) e.0 ∙ l.2)
 
 pub realm_longer : (limits : Limits) (k more : ℕ) (done : Bool) (g h : Guard) → ExtendsIf limits k more done g h → h.realm ≡ g.realm

@@ -3,6 +3,7 @@ use Rattle.std.proofs.Common.{◌≡◌, ◌≢◌, ℕ, ◌<◌, ◌≤◌, tru
 use Rattle.std.proofs.lemmas.Bool.{cases_lt, false≢true}
 use Rattle.std.proofs.lemmas.List.{get_or-set_same, get_or-set_other, get_or_past, set-get_or}
 use Rattle.offset_guarded.specs.Guard.{Guard}
+use Rattle.offset_heaps.specs.declared.limits.Limits.{Limits}
 use Rattle.offset_heaps.specs.Heaps.{slot, room_of}
 
 pub slot_same : (slots : List (Option Guard)) (k : ℕ) (o : Option Guard) → k < length slots → slot k (slice_set slots k o) ≡ o
@@ -21,10 +22,10 @@ slot_there slots k has = elim (cases_lt k (length slots)) [
 ]
 
 -- a heap that has room is there
-pub room_there : (slots : List (Option Guard)) (blocks k n : ℕ) → 1 ≤ n → n ≤ room_of blocks (slot k slots) → k < length slots
-room_there slots blocks k n some fits = elim (cases_lt k (length slots)) [
+pub room_there : (limits : Limits) (slots : List (Option Guard)) (blocks k n : ℕ) → 1 ≤ n → n ≤ room_of limits k blocks (slot k slots) → k < length slots
+room_there limits slots blocks k n some fits = elim (cases_lt k (length slots)) [
   | inl l ↦ l
-  | inr past ↦ absurd (let none : room_of blocks (slot k slots) ≡ 0 = ap (room_of blocks) (slot_past slots k past) in omega arith)
+  | inr past ↦ absurd (let none : room_of limits k blocks (slot k slots) ≡ 0 = ap (room_of limits k blocks) (slot_past slots k past) in omega arith)
 ]
 
 pub slot_set : (slots : List (Option Guard)) (k : ℕ) → slice_set slots k (slot k slots) ≡ slots

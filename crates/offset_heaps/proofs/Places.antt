@@ -8,8 +8,7 @@ use Rattle.offset_allocator.specs.View.{Block, is_used_at, place_of, count_used,
 use Rattle.offset_allocator.proofs.Reading.{range_at}
 use Rattle.offset_guarded.specs.Guard as guarded
 use Rattle.offset_guarded.proofs.Guards.{live_fits}
-use Rattle.offset_guarded.specs.Guard.{Guard}
-use Rattle.offset_guarded.specs.declared.ticket.Ticket.{Ticket}
+use Rattle.offset_guarded.specs.Guard.{Guard, Ticket}
 use Rattle.offset_heaps.specs.declared.limits.Limits.{Limits}
 use Rattle.offset_heaps.specs.declared.place.Place.{Place}
 use Rattle.offset_heaps.specs.Heaps.{Heaps, AreAlike, KeepsOtherHeaps, KeepsOthers, FreesIn, IsLive, Puts, heap_at, is_empty, range_in, range_of, slot}

@@ -1,12 +1,12 @@
 -- The index stays right when the heap of one number changes.
-use Rattle.std.proofs.Common.{◌≡◌, ◌≢◌, ℕ, ◌+◌, ◌^◌, ◌<◌, ◌≤◌, ◌⊎◌, min, length, List, Option, Some, None, IfSome, replicate, slice_set, refl, sym, ap, ◌∙◌, subst, inl, inr, arith}
+use Rattle.std.proofs.Common.{◌≡◌, ◌≢◌, ℕ, ◌+◌, ◌^◌, ◌<◌, ◌≤◌, ◌⊎◌, length, List, Option, Some, None, IfSome, replicate, slice_set, refl, sym, ap, ◌∙◌, subst, inl, inr, arith}
 use Rattle.std.proofs.lemmas.Bool.{cases_eq, cases_lt, le-ltb}
 use Rattle.std.proofs.lemmas.List.{get_or-replicate, get_or_past, length-replicate, length-set}
 use Rattle.offset_allocator.specs.View.{View}
 use Rattle.offset_guarded.specs.Guard.{Guard}
 use Rattle.offset_heaps.specs.declared.limits.Limits.{Limits}
 use Rattle.offset_heaps.specs.declared.index.Index.{Index}
-use Rattle.offset_heaps.specs.{Heaps.HasNodesLeft, Heaps.IsFirstLimit, Heaps.IsOfKind, Heaps.slot, Heaps.room_of, Heaps.usual_size, Slots.Changes, Slots.ResetsIn, Soundness.IsNoted, Soundness.IsSound, Soundness.IsWide, Soundness.empty_key, Soundness.spare_of, Maxima.cell}
+use Rattle.offset_heaps.specs.{Heaps.IsOfKind, Heaps.slot, Heaps.room_of, Heaps.usual_size, Slots.Changes, Slots.ResetsIn, Soundness.IsNoted, Soundness.IsSound, Soundness.IsWide, Soundness.empty_key, Soundness.spare_of, Maxima.cell}
 use Rattle.offset_heaps.proofs.Numbers.{slot_other, slot_same}
 
 pub wide_put : (slots : List (Option Guard)) (index : Index) (k : ℕ) (o : Option Guard) → IsWide slots index → IsWide (slice_set slots k o) index
@@ -31,8 +31,8 @@ pub noted_other : (limits : Limits) (slots : List (Option Guard)) (index : Index
 noted_other limits slots index k j o n is =
     let e = sym (slot_other slots k j o n) in
     record {
-      one = is.one ∙ ap (room_of 1) e;
-      two = is.two ∙ ap (room_of 2) e;
+      one = is.one ∙ ap (room_of limits j 1) e;
+      two = is.two ∙ ap (room_of limits j 2) e;
       spare = is.spare ∙ ap (spare_of limits j) e;
       empty = is.empty ∙ ap empty_key e;
     }
@@ -81,15 +81,14 @@ pub realm_kept : (made : ℕ) (old new : Option Guard) (before after : Guard) �
     → IfSome old (λ g. g.realm ≤ made) → IfSome new (λ g. g.realm ≤ made)
 realm_kept made old new before after was is same below = rw is (let l = rw was at below in omega (arith, l, same))
 
--- and the same size and node limit, and as many nodes unused as it has to have
+-- and the same size and node limit
 pub kind_kept : (limits : Limits) (k : ℕ) (old new : Option Guard) (before after : Guard) → old ≡ Some before → new ≡ Some after → after.space.size ≡ before.space.size
     → after.space.max_allocs ≡ before.space.max_allocs
-    → (k < limits.most → HasNodesLeft limits before → min limits.max_allocs (length after.space.blocks + 3) ≤ after.space.max_allocs)
     → IfSome old (IsOfKind limits k) → IfSome new (IsOfKind limits k)
-kind_kept limits k old new before after was is size limit left kind = rw is (same (subst (λ o. IfSome o (IsOfKind limits k)) was kind))
+kind_kept limits k old new before after was is size limit kind = rw is (same (subst (λ o. IfSome o (IsOfKind limits k)) was kind))
   where
     same : IsOfKind limits k before → IsOfKind limits k after
-    same (inl u) = inl (u.0, subst (λ n. usual_size limits k ≤ n) (sym size) u.1, (omega (arith, limit, u.2.0), omega (arith, limit, u.2.1), left u.0 u.2))
+    same (inl u) = inl (u.0, subst (λ n. usual_size limits k ≤ n) (sym size) u.1, (omega (arith, limit, u.2.0), omega (arith, limit, u.2.1)))
     same (inr l) = let some = l.1 in inr (l.0, omega (arith, size, some), limit ∙ l.2)
 
 -- with no heap and keys of 0, what is behind the last number is noted
@@ -180,11 +179,7 @@ pub realm_reset : (made : ℕ) (old new : Option Guard) → ResetsIn old new →
 realm_reset made None new e h = rw e tt
 realm_reset made (Some before) new r h = rw r.1 (let same : r.0.realm ≡ before.realm = ap (λ (g : Guard). g.realm) r.3 in omega (arith, same, h))
 
-pub kind_reset : (limits : Limits) (k : ℕ) (old new : Option Guard) → IsFirstLimit limits → 4 ≤ limits.max_allocs → ResetsIn old new → IfSome old (IsOfKind limits k)
-    → IfSome new (IsOfKind limits k)
-kind_reset limits k None new first least e h = rw e tt
-kind_reset limits k (Some before) new first least r h =
-    let limit = ap (λ (v : View). v.max_allocs) r.2.view in
-    let blocks : length r.0.space.blocks ≡ 1 = ap (λ (v : View). length v.blocks) r.2.view in
-    kind_kept limits k (Some before) new before r.0 refl r.1 (ap (λ (v : View). v.size) r.2.view) limit
-    (λ _ has. omega (arith, limit, blocks, first.0, first.1, least, has.0)) h
+pub kind_reset : (limits : Limits) (k : ℕ) (old new : Option Guard) → ResetsIn old new → IfSome old (IsOfKind limits k) → IfSome new (IsOfKind limits k)
+kind_reset limits k None new e h = rw e tt
+kind_reset limits k (Some before) new r h =
+    kind_kept limits k (Some before) new before r.0 refl r.1 (ap (λ (v : View). v.size) r.2.view) (ap (λ (v : View). v.max_allocs) r.2.view) h

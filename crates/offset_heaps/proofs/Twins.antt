@@ -6,10 +6,9 @@ use Rattle.offset_allocator.specs.{Ranges.Range, Relations.SameState, View.View,
 use Rattle.offset_allocator.specs.Ranges as named
 use Rattle.offset_allocator.specs.Relations as space
 use Rattle.offset_allocator.proofs.{DecidedChanges.frees_decided, DecidedChanges.resets_decided, Ranges.frees_gone, Ranges.frees_others, Views.ViewTaken.well_frees}
-use Rattle.offset_guarded.specs.Guard.{Guard, handle_in, serial_of}
+use Rattle.offset_guarded.specs.Guard.{Guard, Ticket, handle_in, serial_of}
 use Rattle.offset_guarded.specs.Guard as guarded
 use Rattle.offset_guarded.proofs.Guards.{live_fits}
-use Rattle.offset_guarded.specs.declared.ticket.Ticket.{Ticket}
 use Rattle.offset_heaps.specs.declared.place.Place.{Place}
 use Rattle.offset_heaps.specs.Heaps.{Heaps, heap_at, part, range_in, range_of, room, room_of, slot, total}
 use Rattle.offset_heaps.specs.{Slots.ResetsIn, Twins.AreTwins, Twins.IsTwin, Twins.IsTwinIn}
@@ -202,8 +201,9 @@ pub twins_sym : (hs ks : Heaps) → AreTwins hs ks → AreTwins ks hs
 twins_sym hs ks t = record { limits = sym t.limits; made = sym t.made; realm = sym t.realm; heaps = λ k. twin_in_sym (heap_at k hs) (heap_at k ks) (t.heaps k) }
 
 module _ (hs ks : Heaps) (t : AreTwins hs ks) where
-  pub room_twins : (blocks k : ℕ) → room_of blocks (heap_at k ks) ≡ room_of blocks (heap_at k hs)
-  room_twins blocks k = option_twin (room_of blocks) (heap_at k hs) (heap_at k ks) (λ g h u. ap (room blocks) (as_twin g h u)) (t.heaps k)
+  pub room_twins : (blocks k : ℕ) → room_of ks.limits k blocks (heap_at k ks) ≡ room_of hs.limits k blocks (heap_at k hs)
+  room_twins blocks k = ap (λ l. room_of l k blocks (heap_at k ks)) t.limits
+      ∙ option_twin (room_of hs.limits k blocks) (heap_at k hs) (heap_at k ks) (λ g h u. ap (room hs.limits k blocks) (as_twin g h u)) (t.heaps k)
 
   pub none_twins : (k : ℕ) → heap_at k hs ≡ None → heap_at k ks ≡ None
   none_twins k e = subst (λ o. IsTwinIn o (heap_at k ks)) e (t.heaps k)

@@ -1,5 +1,5 @@
 -- Calls, their results and what they leave: of the contract of each call the clauses of the same names.
-use Rattle.std.specs.Prelude.{◌≡◌, ◌↔◌, ℕ, ◌<◌, ◌≤◌, ◌⊎◌, Bool, true, false, List, [], ◌∷◌, ◌++◌, Option, None, Some, IfSome, IsSome, IsTrue, Result, Ok, Err, IfOk, IfErr, OnErr}
+use Rattle.std.specs.Prelude.{◌≡◌, ◌↔◌, ℕ, ◌+◌, ◌<◌, ◌≤◌, ◌⊎◌, Bool, true, false, List, [], ◌∷◌, ◌++◌, Option, None, Some, IfSome, IsSome, IsTrue, Result, Ok, Err, IfOk, IfErr, OnErr, min}
 use Rattle.std.specs.declared.alloc.AllocError.{AllocError}
 use Rattle.offset_allocator.specs.Moving.Compacting.{Move}
 use Rattle.offset_allocator.specs.Requests.{blocks_needed, units_needed}
@@ -57,10 +57,11 @@ pub record Goes (p q : Place) (hs ks : Heaps) : Type 0 where
   pub grants : Relocates p align hs between (Some q)
   pub frees : Frees p between ks true
 
--- ranges go, one after another
-abbrev pub GoAll : Heaps → List Place → Heaps → Type 0
-GoAll hs [] ks = ks ≡ hs
-GoAll hs (p ∷ ps) ks = (q : Place) × (now : Heaps) × Goes p q hs now × IsWellFormed now × GoAll now ps ks
+-- ranges go, one after another, of which n have units
+abbrev pub GoAll : ℕ → Heaps → List Place → Heaps → Type 0
+GoAll n hs [] ks = (n ≡ 0) × (ks ≡ hs)
+GoAll n hs (p ∷ ps) ks = (q : Place) × (now : Heaps) × Goes p q hs now × IsWellFormed now
+    × ((later : ℕ) × (n ≡ min 1 (size_of p hs) + later) × GoAll later now ps ks)
 
 -- `drop_empty`
 pub record DropsEmpty (keep : ℕ) (hs ks : Heaps) (r : Option ℕ) : Type 0 where
@@ -91,7 +92,7 @@ pub record TakesSize (how : NewSize) (p : Place) (hs ks : Heaps) (r : Option Boo
 
 -- `extend_heap`
 pub record ExtendsOne (k more : ℕ) (hs ks : Heaps) (r : Result Bool AllocError) : Type 0 where
-  pub done : IfOk r (λ d. IsTrue d ↔ CanExtendIn more (heap_at k hs))
+  pub done : IfOk r (λ d. IsTrue d ↔ CanExtendIn hs.limits k more (heap_at k hs))
   pub none : heap_at k hs ≡ None → IsSame hs ks
   pub refused : r ≡ Ok false → AreTwins hs ks
   pub same : OnErr r (IsSame hs ks)

@@ -10,14 +10,12 @@ use Rattle.offset_allocator.specs.declared.moves.room.RoomCost.{RoomCost}
 use Rattle.offset_allocator.specs.Relations.{SameState}
 use Rattle.offset_allocator.specs.Resizing as space
 use Rattle.offset_allocator.specs.View.{View}
-use Rattle.offset_guarded.specs.Guard.{Guard}
+use Rattle.offset_guarded.specs.Guard.{Guard, Ticket}
 use Rattle.offset_guarded.specs.Guard as guarded
-use Rattle.offset_guarded.specs.declared.ticket.Ticket.{Ticket}
-use Rattle.offset_heaps.specs.declared.limits.Limits.{Limits}
 use Rattle.offset_heaps.specs.declared.place.Place.{Place}
 use Rattle.offset_heaps.specs.declared.resize.Resize.{Resize}
 use Rattle.offset_heaps.specs.declared.resize.Resize.TheVariants.{Shrink, Grow}
-use Rattle.offset_heaps.specs.Heaps.{HasFewNodes, Heaps, Puts, heap_at, range_of}
+use Rattle.offset_heaps.specs.Heaps.{Heaps, Puts, heap_at, range_of}
 
 -- the heap of a number, which is there, is another one now, and all else stays
 pub record Alters (k : ℕ) (P : Guard → Guard → Type 0) (hs ks : Heaps) : Type 0 where
@@ -74,20 +72,15 @@ abbrev pub is_less : NewSize → Bool
 is_less (Shrunk n) = true
 is_less (Grown n) = false
 
--- the nodes of a heap allow it: a range that becomes smaller may add a block
-abbrev pub HasNodesFor : Limits → ℕ → NewSize → Guard → Type 0
-HasNodesFor limits k (Shrunk n) g = HasFewNodes 4 limits k g → ⊥
-HasNodesFor limits k (Grown n) g = Unit {0}
-
 -- how many blocks it may add
 abbrev pub blocks_more : NewSize → ℕ
 blocks_more (Shrunk n) = 1
 blocks_more (Grown n) = 0
 
--- the heap of a number, where there is one, can do it
-abbrev pub CanResizeIn : Limits → ℕ → NewSize → ℕ → Option Guard → Type 0
-CanResizeIn limits k how x None = ⊥
-CanResizeIn limits k how x (Some g) = CanResize how x g.space × HasNodesFor limits k how g
+-- the heap of a number, where there is one, can do it: its space can, under the node limit that it has
+abbrev pub CanResizeIn : NewSize → ℕ → Option Guard → Type 0
+CanResizeIn how x None = ⊥
+CanResizeIn how x (Some g) = CanResize how x g.space
 
 -- the range of a ticket becomes smaller or larger in place, or stays as it is, where that can't be done
 pub record Resizes (how : NewSize) (t : Ticket) (done : Bool) (g h : Guard) : Type 0 where
@@ -107,7 +100,7 @@ ResizesAt how p hs ks done = Alters p.heap (Resizes how p.ticket done) hs ks
 
 -- the heap of a place can do it
 abbrev pub CanResizeAt : NewSize → Place → Heaps → Type 0
-CanResizeAt how p hs = CanResizeIn hs.limits p.heap how p.ticket.name (heap_at p.heap hs)
+CanResizeAt how p hs = CanResizeIn how p.ticket.name (heap_at p.heap hs)
 
 -- every place has as many units as it had, and no other is live
 abbrev pub KeepsSizes : Heaps → Heaps → Type 0

@@ -7,6 +7,7 @@ use Rattle.offset_allocator.specs.View.{View}
 use Rattle.offset_allocator.specs.declared.reports.statistics.Statistics.{Statistics}
 use Rattle.offset_guarded.specs.Guard.{Guard}
 use Rattle.offset_heaps.specs.declared.totals.Totals.{Totals}
+use Rattle.offset_heaps.specs.declared.limits.Limits.{Limits}
 use Rattle.offset_heaps.specs.Heaps.{AreTotals, slot}
 
 -- what is live and what is free, and where the heaps begin
@@ -32,9 +33,9 @@ AddsHeaps (suc n) slots start none text = (first : Bool) × (before : List ℕ) 
     × AddsHeap n (slot n slots) first before none text
 
 -- the text of all heaps
-pub record IsJson (slots : List (Option Guard)) (text : List ℕ) : Type 0 where
+pub record IsJson (limits : Limits) (slots : List (Option Guard)) (text : List ℕ) : Type 0 where
   pub totals : Totals
-  pub are : AreTotals totals slots
+  pub are : AreTotals totals limits slots
   pub none : Bool
   pub body : List ℕ
   pub heaps : AddsHeaps (length slots) slots (totals_json totals) none body

@@ -1,22 +1,36 @@
 -- Heaps whose space becomes larger in place.
-use Rattle.std.specs.Prelude.{◌≡◌, ℕ, ◌+◌, ◌≤◌, Bool, true, false, Option, None, Some}
-use Rattle.offset_allocator.specs.Relations.{CanExtend, Extends}
+use Rattle.std.specs.Prelude.{◌≡◌, ℕ, ◌+◌, ◌<◌, ◌≤◌, ◌⊎◌, Bool, true, false, List, [], ◌∷◌, ◌++◌, Option, None, Some, length}
+use Rattle.offset_allocator.specs.Relations.{Extends}
+use Rattle.offset_allocator.specs.View.{Block, View, max_size}
 use Rattle.offset_guarded.specs.Guard.{Guard}
 use Rattle.offset_guarded.specs.Guard as guarded
 use Rattle.offset_heaps.specs.declared.limits.Limits.{Limits}
 use Rattle.offset_heaps.specs.Changing.{Alters}
-use Rattle.offset_heaps.specs.Heaps.{Heaps, IsRaisedAsNeeded}
+use Rattle.offset_heaps.specs.Heaps.{Heaps, IsRaisedWhere, MustRaise, top_limit}
 
--- the heap of a number, where there is one, can have so many units more
-abbrev pub CanExtendIn : ℕ → Option Guard → Type 0
-CanExtendIn more None = ⊥
-CanExtendIn more (Some g) = 1 ≤ more → CanExtend more g.space
+-- the last block of a space is free: more units become a part of it
+abbrev pub EndsFree : View → Type 0
+EndsFree v = (before : List Block) × (last : Block) × (v.blocks ≡ before ++ last ∷ []) × (last.used ≡ false)
+
+-- the heap of a number, where there is one, can have so many units more, under its largest node limit
+abbrev pub CanExtendIn : Limits → ℕ → ℕ → Option Guard → Type 0
+CanExtendIn limits k more None = ⊥
+CanExtendIn limits k more (Some g) = 1 ≤ more → (g.space.size + more ≤ max_size) × ((length g.space.blocks + 1 < top_limit limits k g) ⊎ EndsFree g.space)
+
+-- its node limit has to be raised for them: they become a further block
+abbrev pub MustExtend : Limits → ℕ → ℕ → Guard → Type 0
+MustExtend limits k more g = (1 ≤ more) × (EndsFree g.space → ⊥) × MustRaise limits k 1 g
+
+-- the same of the heap of a number, where there is one
+abbrev pub MustExtendIn : Limits → ℕ → ℕ → Option Guard → Type 0
+MustExtendIn limits k more None = ⊥
+MustExtendIn limits k more (Some g) = MustExtend limits k more g
 
 -- the heap is extended by `more` units at its end, and every ticket keeps its range; its node limit is first raised, where
--- a grant would need that
+-- they need that
 pub record ExtendsIn (limits : Limits) (k more : ℕ) (g h : Guard) : Type 0 where
   pub between : Guard
-  pub raised : IsRaisedAsNeeded limits k g between
+  pub raised : IsRaisedWhere (MustExtend limits k more) limits g between
   pub step : Extends more between.space h.space true
   pub size : h.space.size ≡ g.space.size + more
   pub serials : guarded.KeepsSerials g h

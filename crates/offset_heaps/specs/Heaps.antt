@@ -8,9 +8,8 @@ use Rattle.offset_allocator.specs.Reporting.FreeSizes.{largest}
 use Rattle.offset_allocator.specs.Requests.{blocks_needed, units_needed}
 use Rattle.offset_allocator.specs.Tight.{AlignsTight}
 use Rattle.offset_allocator.specs.View.{bin_at, free_sizes, count_used, used_units}
-use Rattle.offset_guarded.specs.Guard.{Guard, handle_in, last_serial}
+use Rattle.offset_guarded.specs.Guard.{Guard, Ticket, handle_in, last_serial}
 use Rattle.offset_guarded.specs.Guard as guarded
-use Rattle.offset_guarded.specs.declared.ticket.Ticket.{Ticket}
 use Rattle.offset_heaps.specs.declared.place.Place.{Place}
 use Rattle.offset_heaps.specs.declared.place.Granted.{Granted}
 use Rattle.offset_heaps.specs.declared.limits.Limits.{Limits}
@@ -53,23 +52,28 @@ slot k slots = slice_index_or slots k None
 abbrev pub heap_at : ℕ → Heaps → Option Guard
 heap_at k hs = slot k hs.slots
 
--- the largest request that a heap grants where it may add this many blocks, or 0 where it grants none: for one block what
--- its report has
-abbrev pub room : ℕ → Guard → ℕ
-room blocks g = if nat_lt g.given last_serial && nat_lt (length g.space.blocks + blocks) g.space.max_allocs then largest (free_sizes g.space.blocks) else 0
+-- the largest node limit that the heap of a number may have: that of a usual one is raised as its grants need nodes
+abbrev pub top_limit : Limits → ℕ → Guard → ℕ
+top_limit limits k g = if nat_lt k limits.most then limits.max_allocs else g.space.max_allocs
+
+-- the largest request that the heap of a number grants where it may add this many blocks, or 0 where it grants none: under
+-- its largest node limit, to which it is raised where the grant needs that. So for one block it is what its report would
+-- have under that limit
+abbrev pub room : Limits → ℕ → ℕ → Guard → ℕ
+room limits k blocks g = if nat_lt g.given last_serial && nat_lt (length g.space.blocks + blocks) (top_limit limits k g) then largest (free_sizes g.space.blocks) else 0
 
 -- the same of what a slot holds: 0 where it has no heap
-abbrev pub room_of : ℕ → Option Guard → ℕ
-room_of blocks None = 0
-room_of blocks (Some g) = room blocks g
+abbrev pub room_of : Limits → ℕ → ℕ → Option Guard → ℕ
+room_of limits k blocks None = 0
+room_of limits k blocks (Some g) = room limits k blocks g
 
 -- no heap has room for the blocks and units
 abbrev pub NoneFits : ℕ → ℕ → Heaps → Type 0
-NoneFits blocks units hs = (k : ℕ) → room_of blocks (heap_at k hs) < units
+NoneFits blocks units hs = (k : ℕ) → room_of hs.limits k blocks (heap_at k hs) < units
 
 -- the heap of number k is the first that has room for the blocks and units
 abbrev pub IsFirstFit : ℕ → ℕ → ℕ → Heaps → Type 0
-IsFirstFit blocks units k hs = (units ≤ room_of blocks (heap_at k hs)) × ((j : ℕ) → j < k → room_of blocks (heap_at j hs) < units)
+IsFirstFit blocks units k hs = (units ≤ room_of hs.limits k blocks (heap_at k hs)) × ((j : ℕ) → j < k → room_of hs.limits j blocks (heap_at j hs) < units)
 
 -- the units of the usual heap of a number: the first size, doubled that many times, and at most the largest one
 abbrev pub usual_size : Limits → ℕ → ℕ
@@ -98,28 +102,27 @@ IsNext size k hs = (hs.made < last_realm)
     × ((IsUsual size hs × IsSpareUsual size k hs × ((j : ℕ) → j < k → IsSpareUsual size j hs → ⊥))
     ⊎ ((IsUsual size hs → ⊥) × IsSpareLarger k hs × ((j : ℕ) → j < k → IsSpareLarger j hs → ⊥)))
 
--- fewer than n nodes of a usual heap have no block, of those made and those that may still be, and its node limit is below
--- the largest one
-abbrev pub HasFewNodes : ℕ → Limits → ℕ → Guard → Type 0
-HasFewNodes n limits k g = (k < limits.most) × (g.space.max_allocs < limits.max_allocs) × (g.space.max_allocs < length g.space.blocks + n)
-
--- the node limit of a usual heap has to be raised before a grant: fewer than five nodes are unused
-abbrev pub MustRaise : Limits → ℕ → Guard → Type 0
-MustRaise limits k g = HasFewNodes 5 limits k g
+-- the node limit of a usual heap has to be raised for a call that may add this many blocks: it is below the largest one, and
+-- the space itself would refuse the call for want of nodes
+abbrev pub MustRaise : Limits → ℕ → ℕ → Guard → Type 0
+MustRaise limits k blocks g = (k < limits.most) × (g.space.max_allocs < limits.max_allocs) × (g.space.max_allocs ≤ length g.space.blocks + blocks)
 
 -- the same of the heap of a number, where there is one
-abbrev pub MustRaiseIn : Limits → ℕ → Option Guard → Type 0
-MustRaiseIn limits k None = ⊥
-MustRaiseIn limits k (Some g) = MustRaise limits k g
+abbrev pub MustRaiseIn : Limits → ℕ → ℕ → Option Guard → Type 0
+MustRaiseIn limits k blocks None = ⊥
+MustRaiseIn limits k blocks (Some g) = MustRaise limits k blocks g
 
 -- the limit of a heap that was raised: twice as much, and at most the largest one
 abbrev pub raised_limit : Limits → Guard → ℕ
 raised_limit limits g = min (2 * g.space.max_allocs) limits.max_allocs
 
--- a heap as a grant finds it: under that limit exactly where it has to be raised, and else as it was
-abbrev pub IsRaisedAsNeeded : Limits → ℕ → Guard → Guard → Type 0
-IsRaisedAsNeeded limits k g h = (MustRaise limits k g × guarded.IsRaised (raised_limit limits g) g h)
-    ⊎ ((MustRaise limits k g → ⊥) × (h ≡ g))
+-- a heap under that limit exactly where it has to be raised, and else as it was
+abbrev pub IsRaisedWhere : (Guard → Type 0) → Limits → Guard → Guard → Type 0
+IsRaisedWhere Must limits g h = (Must g × guarded.IsRaised (raised_limit limits g) g h) ⊎ ((Must g → ⊥) × (h ≡ g))
+
+-- a heap as a grant finds it, which may add this many blocks
+abbrev pub IsRaisedAsNeeded : Limits → ℕ → ℕ → Guard → Guard → Type 0
+IsRaisedAsNeeded limits k blocks g h = IsRaisedWhere (MustRaise limits k blocks) limits g h
 
 -- no heap has room for a request of at least one unit
 abbrev pub IsUnmet : ℕ → ℕ → Heaps → Type 0
@@ -137,7 +140,7 @@ IsWhy size align hs Empty = size ≡ 0
 IsWhy size align hs TooLarge = IsUnmet size align hs × (MayEverFit size hs → ⊥)
 IsWhy size align hs Full = IsUnmet size align hs × MayEverFit size hs × ((k : ℕ) → IsNext size k hs → ⊥)
 IsWhy size align hs Memory = (IsUnmet size align hs × ((k : ℕ) × IsNext size k hs))
-    ⊎ ((1 ≤ size) × ((k : ℕ) × IsFirstFit (blocks_needed align) (units_needed size align) k hs × MustRaiseIn hs.limits k (heap_at k hs)))
+    ⊎ ((1 ≤ size) × ((k : ℕ) × IsFirstFit (blocks_needed align) (units_needed size align) k hs × MustRaiseIn hs.limits k (blocks_needed align) (heap_at k hs)))
 
 -- a refusal for room
 abbrev pub IsForRoom : Result Granted Refusal → Type 0
@@ -159,11 +162,9 @@ pub record IsNew (size max_allocs made : ℕ) (g : Guard) : Type 0 where
 abbrev pub IsFirstLimit : Limits → Type 0
 IsFirstLimit limits = (min 8 limits.max_allocs ≤ limits.first_allocs) × (limits.first_allocs ≤ limits.max_allocs)
 
--- a usual heap's limit is between `first_allocs` and `max_allocs`, and below the latter at least three of its nodes have no
--- block: so it has room for two blocks more, as it would have under that limit
-abbrev pub HasNodesLeft : Limits → Guard → Type 0
-HasNodesLeft limits g = (limits.first_allocs ≤ g.space.max_allocs) × (g.space.max_allocs ≤ limits.max_allocs)
-    × (min limits.max_allocs (length g.space.blocks + 3) ≤ g.space.max_allocs)
+-- a usual heap's limit is between `first_allocs` and `max_allocs`
+abbrev pub HasUsualLimit : Limits → Guard → Type 0
+HasUsualLimit limits g = (limits.first_allocs ≤ g.space.max_allocs) × (g.space.max_allocs ≤ limits.max_allocs)
 
 -- the size that usual heaps begin with: at most the largest one, and at least 1 unless that is 0
 abbrev pub IsFirstSize : Limits → Type 0
@@ -172,14 +173,14 @@ IsFirstSize limits = (min 1 limits.size ≤ limits.first_size) × (limits.first_
 -- the heap of a number has a size and a node limit of its kind: where the number is below most, at least the units of the
 -- usual heap of that number, and the limit of such a heap; else those of a larger one, which has the units of some request
 abbrev pub IsOfKind : Limits → ℕ → Guard → Type 0
-IsOfKind limits k g = ((k < limits.most) × (usual_size limits k ≤ g.space.size) × HasNodesLeft limits g)
+IsOfKind limits k g = ((k < limits.most) × (usual_size limits k ≤ g.space.size) × HasUsualLimit limits g)
     ⊎ ((limits.most ≤ k) × (1 ≤ g.space.size) × (g.space.max_allocs ≡ larger_limit))
 
 -- the heap of a grant, as it was before: one that was there, raised as needed; a new usual one of its number, or one of
 -- the request's own size
-abbrev pub IsBefore : ℕ → Heaps → Granted → Guard → Type 0
-IsBefore size hs grant g = ((grant.is_new ≡ false)
-    × ((was : Guard) × (heap_at grant.place.heap hs ≡ Some was) × IsRaisedAsNeeded hs.limits grant.place.heap was g))
+abbrev pub IsBefore : ℕ → ℕ → Heaps → Granted → Guard → Type 0
+IsBefore size align hs grant g = ((grant.is_new ≡ false)
+    × ((was : Guard) × (heap_at grant.place.heap hs ≡ Some was) × IsRaisedAsNeeded hs.limits grant.place.heap (blocks_needed align) was g))
     ⊎ ((grant.is_new ≡ true) × (heap_at grant.place.heap hs ≡ None)
     × ((IsUsual size hs × IsNew (usual_size hs.limits grant.place.heap) hs.limits.first_allocs (hs.made + 1) g)
     ⊎ ((IsUsual size hs → ⊥) × IsNew size larger_limit (hs.made + 1) g)))
@@ -188,7 +189,7 @@ IsBefore size hs grant g = ((grant.is_new ≡ false)
 pub record Grants (size align : ℕ) (hs ks : Heaps) (grant : Granted) : Type 0 where
   pub before : Guard
   pub after : Guard
-  pub heap : IsBefore size hs grant before
+  pub heap : IsBefore size align hs grant before
   -- a new one begins at 0, a multiple of every alignment, so none is asked of it; one of the request's own size grants
   -- all of it
   pub step : ((grant.is_new ≡ true → IsUsual size hs)
@@ -269,10 +270,11 @@ abbrev pub is_empty : Option Guard → Bool
 is_empty None = false
 is_empty (Some g) = nat_eq (count_used g.space.blocks) 0
 
--- the largest request for which some heap has room, where it may add one block, or 0
-abbrev pub largest_room : List (Option Guard) → ℕ
-largest_room [] = 0
-largest_room (o ∷ slots) = max (room_of 1 o) (largest_room slots)
+-- the largest request for which one of these heaps, whose numbers are k and those after it, has room, where it may add one
+-- block, or 0
+abbrev pub largest_room : Limits → ℕ → List (Option Guard) → ℕ
+largest_room limits k [] = 0
+largest_room limits k (o ∷ slots) = max (room_of limits k 1 o) (largest_room limits (k + 1) slots)
 
 -- the units of a heap, and those of them that are live and free
 abbrev pub units_of_heap : Guard → ℕ
@@ -303,9 +305,9 @@ abbrev pub empties : List (Option Guard) → ℕ
 empties slots = total (λ g. if nat_eq (count_used g.space.blocks) 0 then 1 else 0) slots
 
 -- the numbers of all heaps
-pub record AreTotals (t : Totals) (slots : List (Option Guard)) : Type 0 where
+pub record AreTotals (t : Totals) (limits : Limits) (slots : List (Option Guard)) : Type 0 where
   pub heaps : t.heaps ≡ heap_count slots
   pub units : t.units ≡ total units_of_heap slots
   pub live_units : t.live_units ≡ total live_units_of slots
   pub free_units : t.free_units ≡ total free_of slots
-  pub largest : t.largest_free_region ≡ largest_room slots
+  pub largest : t.largest_free_region ≡ largest_room limits 0 slots

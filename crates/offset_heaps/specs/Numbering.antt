@@ -3,8 +3,7 @@ use Rattle.std.specs.Prelude.{◌≡◌, ℕ, ◌+◌, ◌<◌, ◌≤◌, Bool,
 use Rattle.std.specs.Option.{option_or}
 use Rattle.offset_allocator.specs.Reporting.Walking.{first_live, live_after, live_handles}
 use Rattle.offset_allocator.specs.View.{one, tally}
-use Rattle.offset_guarded.specs.Guard.{Guard}
-use Rattle.offset_guarded.specs.declared.ticket.Ticket.{Ticket}
+use Rattle.offset_guarded.specs.Guard.{Guard, Ticket}
 use Rattle.offset_heaps.specs.declared.place.Place.{Place}
 use Rattle.offset_heaps.specs.Heaps.{Heaps, heap_at, range_of, slot}
 use Rattle.offset_heaps.specs.Relocating.{place_in}

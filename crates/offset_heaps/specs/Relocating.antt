@@ -1,15 +1,14 @@
 -- Which heap takes a range of another one, which one is the emptiest, and the places of the live ranges of a heap.
-use Rattle.std.specs.Prelude.{◌≢◌, ℕ, ◌*◌, ◌<◌, ◌≤◌, List, Option, Some, None, false, option_map, unwrap_or}
+use Rattle.std.specs.Prelude.{◌≡◌, ◌≢◌, ℕ, ◌+◌, ◌-◌, ◌*◌, ◌^◌, ◌<◌, ◌≤◌, ◌⊎◌, List, [], ◌∷◌, Option, Some, None, false, max, option_map, unwrap_or}
 use Rattle.offset_allocator.specs.Reporting.Walking.{last_live, live_before}
 use Rattle.offset_allocator.specs.Ranges.{Range}
 use Rattle.offset_allocator.specs.Requests.{blocks_needed, units_needed}
 use Rattle.offset_allocator.specs.View.{Handle, count_used}
-use Rattle.offset_guarded.specs.Guard.{Guard, ticket_at}
-use Rattle.offset_guarded.specs.declared.ticket.Ticket.{Ticket}
+use Rattle.offset_guarded.specs.Guard.{Guard, Ticket, ticket_at}
 use Rattle.offset_heaps.specs.declared.place.Place.{Place}
 use Rattle.offset_heaps.specs.declared.limits.Limits.{Limits}
 use Rattle.offset_heaps.specs.declared.place.Granted.{Granted}
-use Rattle.offset_heaps.specs.Heaps.{Heaps, MustRaiseIn, heap_at, live_units_of, part, range_of, room_of, slot, total}
+use Rattle.offset_heaps.specs.Heaps.{Heaps, IsLive, MustRaiseIn, heap_at, live_units_of, numbers, part, range_of, room_of, slot, total}
 
 -- the units of a range, or 0 where there is none
 abbrev pub units_in : Option Range → ℕ
@@ -31,18 +30,39 @@ square_of g = live_units_of g * live_units_of g
 abbrev pub squares : Heaps → ℕ
 squares hs = total square_of hs.slots
 
--- a heap other than `own` takes a range of `own`, which has `live` live units: it has room for the units and the blocks,
--- and its node limit need not be raised for them, and it has at least as many live units
-pub record TakesUnits (limits : Limits) (own blocks units live : ℕ) (slots : List (Option Guard)) (k : ℕ) : Type 0 where
+-- how many live ranges a heap has
+abbrev pub ranges_of : Guard → ℕ
+ranges_of g = count_used g.space.blocks
+
+-- the rank of a heap among n numbers: by its live units, and of as many the lower number comes first
+abbrev pub rank : ℕ → ℕ → Guard → ℕ
+rank n k g = n * live_units_of g + (n - k)
+
+-- the rank of each of these heaps, whose numbers are k and those after it, for each of its live ranges, added up
+abbrev pub ranks_from : ℕ → ℕ → List (Option Guard) → ℕ
+ranks_from n k [] = 0
+ranks_from n k (o ∷ slots) = part (λ g. ranges_of g * rank n k g) o + ranks_from n (k + 1) slots
+
+-- those of all heaps, and what they are at most
+abbrev pub ranks : Heaps → ℕ
+ranks hs = ranks_from (numbers hs) 0 hs.slots
+
+abbrev pub most_ranks : Heaps → ℕ
+most_ranks hs = total ranges_of hs.slots * (numbers hs * 2 ^ 32)
+
+-- a heap other than `own` takes a range of `own`, which has `live` live units: it has room for its units, or one unit where
+-- it has none, and for the blocks; its node limit need not be raised for them; and it has at least as many live units. For
+-- a range of no units, which adds nothing to them, it has more, or a lower number
+pub record TakesUnits (limits : Limits) (own size align live : ℕ) (slots : List (Option Guard)) (k : ℕ) : Type 0 where
   pub other : k ≢ own
-  pub room : units ≤ room_of blocks (slot k slots)
-  pub stays : MustRaiseIn limits k (slot k slots) → ⊥
+  pub room : max 1 (units_needed size align) ≤ room_of limits k (blocks_needed align) (slot k slots)
+  pub stays : MustRaiseIn limits k (blocks_needed align) (slot k slots) → ⊥
   pub full : live ≤ part live_units_of (slot k slots)
+  pub before : size ≡ 0 → (live < part live_units_of (slot k slots)) ⊎ (k < own)
 
 -- a heap takes the range of a place, from a multiple of align on
 abbrev pub TakesRange : Place → ℕ → Heaps → ℕ → Type 0
-TakesRange p align hs k = (1 ≤ size_of p hs)
-    × TakesUnits hs.limits p.heap (blocks_needed align) (units_needed (size_of p hs) align) (live_units_at p.heap hs) hs.slots k
+TakesRange p align hs k = IsLive p hs × TakesUnits hs.limits p.heap (size_of p hs) align (live_units_at p.heap hs) hs.slots k
 
 -- it is the first one that does
 abbrev pub IsTaker : Place → ℕ → Heaps → ℕ → Type 0

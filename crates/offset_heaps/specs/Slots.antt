@@ -2,13 +2,14 @@
 use Rattle.std.specs.Prelude.{◌≡◌, ℕ, ◌+◌, ◌*◌, ◌%◌, ◌<◌, ◌≤◌, ◌⊎◌, List, Option, Some, None, length, nat_lt, slice_set, if◌then◌else◌}
 use Rattle.offset_allocator.specs.Classes.{down}
 use Rattle.offset_allocator.specs.Relations.{Aligns, Frees, Resets}
-use Rattle.offset_allocator.specs.Tight.{AlignsTight, CanHold, listed_from}
-use Rattle.offset_allocator.specs.View.{bin_at}
-use Rattle.offset_guarded.specs.Guard.{Guard, HasSerialLeft, handle_in}
+use Rattle.offset_allocator.specs.Reporting.FreeSizes.{largest}
+use Rattle.offset_allocator.specs.Requests.{AdmitsBlocks, blocks_needed}
+use Rattle.offset_allocator.specs.Tight.{AlignsTight, CanHold, HasBlockFor, listed_from}
+use Rattle.offset_allocator.specs.View.{bin_at, free_sizes}
+use Rattle.offset_guarded.specs.Guard.{Guard, HasSerialLeft, Ticket, handle_in}
 use Rattle.offset_guarded.specs.Guard as guarded
-use Rattle.offset_guarded.specs.declared.ticket.Ticket.{Ticket}
 use Rattle.offset_heaps.specs.declared.limits.Limits.{Limits}
-use Rattle.offset_heaps.specs.Heaps.{IsRaisedAsNeeded, slot, range_in}
+use Rattle.offset_heaps.specs.Heaps.{IsRaisedAsNeeded, slot, range_in, top_limit}
 
 -- a heap grants a request
 pub record GrantsIn (size align : ℕ) (old new : Option Guard) (t : Ticket) : Type 0 where
@@ -21,15 +22,26 @@ pub record GrantsIn (size align : ℕ) (old new : Option Guard) (t : Ticket) : T
   pub accesses : after.space.accesses ≤ before.space.accesses + 128
   pub aligned : t.offset % align ≡ 0
 
--- the node limit of a heap is raised as needed, before a grant
-abbrev pub RaisesIn : Limits → ℕ → Option Guard → Option Guard → Type 0
-RaisesIn limits k None new = new ≡ None
-RaisesIn limits k (Some g) new = (h : Guard) × (new ≡ Some h) × IsRaisedAsNeeded limits k g h
+-- a heap has room for the units and the blocks that a grant may add, under the node limit that it has
+abbrev pub HasRoomNow : ℕ → ℕ → Option Guard → Type 0
+HasRoomNow blocks units None = ⊥
+HasRoomNow blocks units (Some g) = HasSerialLeft g × AdmitsBlocks blocks g.space × (units ≤ largest (free_sizes g.space.blocks))
 
--- a heap has a serial left, and a free block that holds a request, with room for the blocks that it may add
-abbrev pub CanHoldIn : ℕ → ℕ → Option Guard → Type 0
-CanHoldIn size align None = ⊥
-CanHoldIn size align (Some g) = HasSerialLeft g × CanHold size align g.space
+-- the node limit of a heap is raised as needed, before a grant that may add this many blocks
+abbrev pub RaisesIn : Limits → ℕ → ℕ → Option Guard → Option Guard → Type 0
+RaisesIn limits k blocks None new = new ≡ None
+RaisesIn limits k blocks (Some g) new = (h : Guard) × (new ≡ Some h) × IsRaisedAsNeeded limits k blocks g h
+
+-- the heap of a number has a serial left, and a free block that holds a request, with room for the blocks that it may add,
+-- under its largest node limit
+abbrev pub CanHoldIn : Limits → ℕ → ℕ → ℕ → Option Guard → Type 0
+CanHoldIn limits k size align None = ⊥
+CanHoldIn limits k size align (Some g) = HasSerialLeft g × (length g.space.blocks + blocks_needed align < top_limit limits k g) × HasBlockFor size align g.space
+
+-- the same under the node limit that it has
+abbrev pub CanHoldNow : ℕ → ℕ → Option Guard → Type 0
+CanHoldNow size align None = ⊥
+CanHoldNow size align (Some g) = HasSerialLeft g × CanHold size align g.space
 
 -- such a block is granted
 pub record GrantsTightIn (size : ℕ) (old new : Option Guard) (t : Ticket) : Type 0 where

@@ -21,8 +21,8 @@ empty_key o = if is_empty o then 1 else 0
 
 -- what the index has of a number
 pub record IsNoted (limits : Limits) (slots : List (Option Guard)) (index : Index) (k : ℕ) : Type 0 where
-  pub one : cell k index.one.keys ≡ room_of 1 (slot k slots)
-  pub two : cell k index.two.keys ≡ room_of 2 (slot k slots)
+  pub one : cell k index.one.keys ≡ room_of limits k 1 (slot k slots)
+  pub two : cell k index.two.keys ≡ room_of limits k 2 (slot k slots)
   pub spare : cell k index.spare.keys ≡ spare_of limits k (slot k slots)
   pub empty : cell k index.empty.keys ≡ empty_key (slot k slots)
 

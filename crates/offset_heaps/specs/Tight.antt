@@ -1,6 +1,7 @@
 -- Tight requests: which heap grants one, what it leaves, and why one is refused.
 use Rattle.std.specs.Prelude.{◌≡◌, ℕ, ◌+◌, ◌*◌, ◌<◌, ◌≤◌, ◌⊎◌, Some, length}
 use Rattle.offset_allocator.specs.Classes.{down}
+use Rattle.offset_allocator.specs.Requests.{blocks_needed}
 use Rattle.offset_allocator.specs.Tight.{AlignsTight, listed_from}
 use Rattle.offset_guarded.specs.Guard.{Guard, handle_in}
 use Rattle.offset_guarded.specs.Guard as guarded
@@ -12,11 +13,11 @@ use Rattle.offset_heaps.specs.Slots.{CanHoldIn}
 
 -- no heap holds a request
 abbrev pub NoneHolds : ℕ → ℕ → Heaps → Type 0
-NoneHolds size align hs = (k : ℕ) → CanHoldIn size align (heap_at k hs) → ⊥
+NoneHolds size align hs = (k : ℕ) → CanHoldIn hs.limits k size align (heap_at k hs) → ⊥
 
 -- this heap is the first that holds it
 abbrev pub IsFirstHolding : ℕ → ℕ → ℕ → Heaps → Type 0
-IsFirstHolding size align k hs = CanHoldIn size align (heap_at k hs) × ((j : ℕ) → j < k → CanHoldIn size align (heap_at j hs) → ⊥)
+IsFirstHolding size align k hs = CanHoldIn hs.limits k size align (heap_at k hs) × ((j : ℕ) → j < k → CanHoldIn hs.limits j size align (heap_at j hs) → ⊥)
 
 -- a tight grant in a heap that was there, raised as needed: a step of that heap, which all others do not see
 pub record GrantsTight (size align : ℕ) (hs ks : Heaps) (p : Place) : Type 0 where
@@ -24,7 +25,7 @@ pub record GrantsTight (size align : ℕ) (hs ks : Heaps) (p : Place) : Type 0 w
   pub before : Guard
   pub after : Guard
   pub heap : heap_at p.heap hs ≡ Some was
-  pub raised : IsRaisedAsNeeded hs.limits p.heap was before
+  pub raised : IsRaisedAsNeeded hs.limits p.heap (blocks_needed align) was before
   pub step : AlignsTight size align before.space after.space (Some (handle_in p.ticket))
   pub grants : guarded.Grants size before after p.ticket
   pub accesses : after.space.accesses ≤ before.space.accesses + 140 + 6 * length (listed_from (down size) before.space.bins)
@@ -43,7 +44,7 @@ IsWhyTight size align hs Empty = size ≡ 0
 IsWhyTight size align hs TooLarge = IsUnheld size align hs × (MayEverFit size hs → ⊥)
 IsWhyTight size align hs Full = IsUnheld size align hs × MayEverFit size hs × ((k : ℕ) → IsNext size k hs → ⊥)
 IsWhyTight size align hs Memory = (IsUnheld size align hs × ((k : ℕ) × IsNext size k hs))
-    ⊎ ((1 ≤ size) × ((k : ℕ) × IsFirstHolding size align k hs × MustRaiseIn hs.limits k (heap_at k hs)))
+    ⊎ ((1 ≤ size) × ((k : ℕ) × IsFirstHolding size align k hs × MustRaiseIn hs.limits k (blocks_needed align) (heap_at k hs)))
 
 -- a tight request would be granted, if memory is given: some heap holds it, or another may be made
 abbrev pub IsServedTight : ℕ → ℕ → Heaps → Type 0

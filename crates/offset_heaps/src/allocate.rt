@@ -1,9 +1,9 @@
 //! Requests: which heap grants one, and when another heap is made for it. It changes one slot, and notes it
 //! in the index.
 ghost use Rattle.std.specs.Prelude.{ℕ, ◌≡◌, ◌↔◌, ◌+◌, ◌*◌, ◌%◌, ◌^◌, ◌<◌, ◌≤◌, None, Some, Ok, Err};
-ghost use Rattle.std.specs.Prelude.{false, true, length, IsErr, IsTrue, IfOk, IfErr, IfSome, MatchOption, OnErr};
+ghost use Rattle.std.specs.Prelude.{false, true, length, max, IsErr, IsTrue, IfOk, IfErr, IfSome, MatchOption, OnErr};
 ghost use Rattle.offset_allocator.specs.Requests.{blocks_needed, units_needed};
-ghost use Rattle.offset_heaps.specs.Slots.{Changes, IsBelow, RaisesIn};
+ghost use Rattle.offset_heaps.specs.Slots.{CanHoldIn, Changes, IsBelow, RaisesIn};
 
 use crate::index::LARGER_KEY;
 use crate::limits::usual_room;
@@ -91,31 +91,38 @@ impl<T: Tables> HeapsOf<T> {
             .first_at_least(LARGER_KEY as u64, &mut self.accesses)
     }
 
-    // Doubles the node limit of the heap of a number, where it has to be raised before a grant.
-    pub(crate) fn raise(&mut self, number: u32) -> Result<(), AllocError>
+    // Doubles the node limit of the heap of a number, where it has to be raised for a grant that may add so many
+    // blocks.
+    pub(crate) fn raise(&mut self, number: u32, blocks: u32) -> Result<(), AllocError>
         requires there { number < length self.old.slots }
+        requires few { blocks ≤ 2 }
         ensures raises { IfOk result (λ _.
-            Changes number (RaisesIn self.old.limits number) self.old.slots self.new.slots) }
+            Changes number (RaisesIn self.old.limits number blocks) self.old.slots self.new.slots) }
         ensures rest { self.new ≡ record self.old { slots = self.new.slots; accesses = self.new.accesses } }
         // The limit need not be raised again, and the heap has room for as much as before.
-        ensures stays { IfOk result (λ _. MustRaiseIn self.old.limits number (heap_at number self.new) → ⊥) }
-        ensures room { IfOk result (λ _. (blocks : ℕ) → blocks ≤ 2
-            → room_of blocks (heap_at number self.new) ≡ room_of blocks (heap_at number self.old)) }
-        ensures must { IsErr result → MustRaiseIn self.old.limits number (heap_at number self.old) }
+        ensures stays { IfOk result
+            (λ _. MustRaiseIn self.old.limits number blocks (heap_at number self.new) → ⊥) }
+        ensures room { IfOk result (λ _. (more : ℕ) → room_of self.old.limits number more (heap_at number self.new)
+            ≡ room_of self.old.limits number more (heap_at number self.old)) }
+        ensures holds { IfOk result (λ _. (size align : ℕ)
+            → CanHoldIn self.old.limits number size align (heap_at number self.old)
+            → CanHoldIn self.old.limits number size align (heap_at number self.new)) }
+        ensures must { IsErr result → MustRaiseIn self.old.limits number blocks (heap_at number self.old) }
         ensures same { IsErr result → IsSame self.old self.new }
         ensures accesses { self.new.accesses ≡ self.old.accesses + 1 }
     {
-        self.slots
-            .raise(self.alloc, number, self.limits, &mut self.accesses)
+        self.slots.raise(self.alloc, number, self.limits, blocks, &mut self.accesses)
     }
 
-    // Grants a request in the heap of a number, which has room for it, and whose node limit need not be raised.
+    // Grants a request in the heap of a number, which has room for it, and for one unit, and whose node limit need
+    // not be raised.
     pub(crate) fn grant_at(&mut self, number: u32, size: u32, align: u32) -> Granted
         requires there { number < length self.old.slots }
-        requires some { 1 ≤ units_needed size align }
         requires alignment { 1 ≤ align }
-        requires room { units_needed size align ≤ room_of (blocks_needed align) (heap_at number self.old) }
-        requires stays { MustRaiseIn self.old.limits number (heap_at number self.old) → ⊥ }
+        requires room { max 1 (units_needed size align)
+            ≤ room_of self.old.limits number (blocks_needed align) (heap_at number self.old) }
+        requires stays { MustRaiseIn self.old.limits number (blocks_needed align)
+            (heap_at number self.old) → ⊥ }
         ensures grants { Grants size align self.old self.new result }
         ensures number { result.place.heap ≡ number }
         ensures found { result.is_new ≡ false }
@@ -151,7 +158,7 @@ impl<T: Tables> HeapsOf<T> {
         ensures accesses { (bits : ℕ) → numbers self.old ≤ 2 ^ bits
             → self.new.accesses ≤ self.old.accesses + 12 * bits + 11 }
     {
-        match self.raise(number) {
+        match self.raise(number, align.min(2)) {
             Err(_) => Err(Refusal::Memory),
             Ok(_) => Ok(self.grant_at(number, size, align)),
         }
@@ -290,8 +297,8 @@ impl<T: Tables> HeapsOf<T> {
 
     /// Grants `size` units of one heap: what `allocate_aligned(size, 1)` grants.
     ///
-    /// A heap has room exactly for requests up to the `largest_free_region` of its report, while it has a
-    /// serial left: see `laws::room_is_reported`.
+    /// A heap has room exactly for requests up to the `largest_free_region` that its report would have under its
+    /// largest node limit, while it has a serial left: see `laws::room_is_reported`.
     ///
     /// ```
     /// let mesh = heaps.allocate(300).unwrap();
@@ -327,11 +334,11 @@ impl<T: Tables> HeapsOf<T> {
     /// `most` that no heap has and whose heap would have it, of `first_size` units doubled as often as its
     /// number says, and at most `size`; else a larger heap of exactly `size` units, all of which are granted,
     /// with the first number from `most` on that no heap has, and with the node limit 4: it never has more than
-    /// two live ranges. A usual heap begins with the node limit `first_allocs`. One that has room, but fewer
-    /// than five unused nodes, and a node limit below `max_allocs`, first has its limit doubled, as
-    /// `GuardedOf::raised` does it, to `max_allocs` at most: so a heap has room exactly where it would have room
-    /// under `max_allocs`: see `laws::room_is_that_of_the_largest_limit`. Only for a new heap and for more nodes
-    /// memory is requested.
+    /// two live ranges. A usual heap begins with the node limit `first_allocs`, and has room exactly where it
+    /// would have room under `max_allocs`: see `laws::room_is_that_of_the_largest_limit`. Where its own limit is
+    /// lower, and its space would refuse the request for want of nodes, the limit is first doubled, as
+    /// `GuardedOf::raised` does it, to `max_allocs` at most: that is always enough. Only for a new heap and for
+    /// more nodes memory is requested, and never where the request is granted without them.
     ///
     /// Where the request is refused, all is as it was, and the `Refusal` says why.
     ///

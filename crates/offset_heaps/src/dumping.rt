@@ -106,7 +106,7 @@ fn put_slots<T: Tables>(
 /// assert!(text.starts_with("{\"totals\":{\"heaps\":0,"));
 /// ```
 pub fn json_of<T: Tables>(alloc: Global, heaps: &HeapsOf<T>) -> Result<String, AllocError>
-    ensures { IfOk result (λ text. IsJson heaps.now.slots (string_bytes text)) }
+    ensures { IfOk result (λ text. IsJson heaps.now.limits heaps.now.slots (string_bytes text)) }
 {
     let limits = heaps.limits;
     let mut text = String::new(alloc);

@@ -2,18 +2,60 @@
 ghost use Rattle.std.specs.Prelude.{◌≡◌, ◌↔◌, ◌+◌, ◌<◌, None, Ok, Some, IfOk, IfSome, IsErr, IsSome, IsTrue, OnErr};
 ghost use Rattle.std.specs.Prelude.{false, option_map, true};
 ghost use Rattle.offset_heaps.specs.Changing.{AltersIn};
-ghost use Rattle.offset_heaps.specs.Extending.{CanExtendIn, ExtendsHeap, ExtendsIf};
-ghost use Rattle.offset_heaps.specs.Heaps.{IsOfKind, MustRaiseIn, units_of_heap};
+ghost use Rattle.offset_heaps.specs.Extending.{CanExtendIn, EndsFree, ExtendsHeap, ExtendsIf, MustExtend, MustExtendIn};
+ghost use Rattle.offset_heaps.specs.Heaps.{IsOfKind, IsRaisedWhere, units_of_heap};
 ghost use Rattle.offset_heaps.specs.Twins.{AreTwins};
 
 use crate::HeapsOf;
 use crate::limits::Limits;
-use crate::slots::raise_heap;
-use offset_allocator::Tables;
+use crate::slots::{double_limit, must_raise};
+use offset_allocator::laws::is_well_formed;
+use offset_allocator::{Accesses, Tables};
 use offset_guarded::GuardedOf;
 use std::alloc::{AllocError, Global};
 
-// Adds units at the end of a heap, whose node limit is raised first where it would be for a grant.
+// Whether the last block of a heap is free.
+fn ends_free<T: Tables>(heap: &GuardedOf<T>) -> bool
+    ensures { IsTrue result ↔ EndsFree heap.now.space }
+{
+    let mut blocks = heap.allocator().blocks();
+    match offset_allocator::laws::next_block_counted(&mut blocks, &mut Accesses::new()) {
+        None => false,
+        Some(block) => match block.allocation {
+            None => true,
+            Some(_) => false,
+        },
+    }
+}
+
+// Whether the node limit of the heap of a number has to be raised for so many units more.
+fn must_extend<T: Tables>(heap: &GuardedOf<T>, number: u32, limits: Limits, more: u32) -> bool
+    ensures { IsTrue result ↔ MustExtend limits number more heap.now }
+{
+    more > 0 && must_raise(heap, number, limits, 1) && !ends_free(heap)
+}
+
+// Doubles the node limit of the heap of a number, where it has to be raised for so many units more.
+fn raise_for<T: Tables>(
+    alloc: Global,
+    heap: &mut GuardedOf<T>,
+    number: u32,
+    limits: Limits,
+    more: u32,
+) -> Result<(), AllocError>
+    requires limit_max { limits.max_allocs + 1 < T.Index.MAX }
+    ensures raises { IfOk result
+        (λ _. IsRaisedWhere (MustExtend limits number more) limits heap.old heap.new) }
+    ensures must { IsErr result → MustExtend limits number more heap.old }
+    ensures same { IsErr result → heap.new ≡ heap.old }
+{
+    if must_extend(heap, number, limits, more) {
+        double_limit(alloc, heap, limits)?;
+    }
+    Ok(())
+}
+
+// Adds units at the end of a heap, whose node limit is raised first where they need that.
 fn extend_heap<T: Tables>(
     alloc: Global,
     heap: &mut GuardedOf<T>,
@@ -23,16 +65,17 @@ fn extend_heap<T: Tables>(
 ) -> Result<bool, AllocError>
     requires limit_max { limits.max_allocs + 1 < T.Index.MAX }
     requires kind { IsOfKind limits number heap.old }
-    ensures done { IfOk result (λ done. IsTrue done ↔ CanExtendIn more (Some heap.old)) }
+    ensures done { IfOk result (λ done. IsTrue done ↔ CanExtendIn limits number more (Some heap.old)) }
     ensures change { IfOk result (λ done. ExtendsIf limits number more done heap.old heap.new) }
-    ensures must { IsErr result → MustRaiseIn limits number (Some heap.old)
-        × CanExtendIn more (Some heap.old) }
+    ensures must { IsErr result → MustExtendIn limits number more (Some heap.old)
+        × CanExtendIn limits number more (Some heap.old) }
     ensures same { IsErr result → heap.new ≡ heap.old }
 {
     if more > u32::MAX - heap.allocator().size() {
         return Ok(false);
     }
-    raise_heap(alloc, heap, number, limits)?;
+    is_well_formed(heap.allocator());
+    raise_for(alloc, heap, number, limits, more)?;
     Ok(heap.extend(more))
 }
 
@@ -47,9 +90,10 @@ pub(crate) fn extend_in<T: Tables>(
     requires there { IsSome slot.old }
     requires limit_max { limits.max_allocs + 1 < T.Index.MAX }
     requires kind { IfSome slot.old (IsOfKind limits number) }
-    ensures done { IfOk result (λ done. IsTrue done ↔ CanExtendIn more slot.old) }
+    ensures done { IfOk result (λ done. IsTrue done ↔ CanExtendIn limits number more slot.old) }
     ensures change { IfOk result (λ done. AltersIn (ExtendsIf limits number more done) slot.old slot.new) }
-    ensures must { IsErr result → MustRaiseIn limits number slot.old × CanExtendIn more slot.old }
+    ensures must { IsErr result → MustExtendIn limits number more slot.old
+        × CanExtendIn limits number more slot.old }
     ensures same { IsErr result → slot.new ≡ slot.old }
 {
     match slot {
@@ -66,9 +110,9 @@ impl<T: Tables> HeapsOf<T> {
     /// more units than `Limits` say then; once it is dropped, its number has the units of the limits again.
     ///
     /// `false` is returned where the number has no heap, where the heap would have more than 4294967295 units,
-    /// or where its last block is used and no further block may exist; then all is as it was. With 0 units it is
-    /// `true` where the number has a heap. A usual heap that has fewer than five unused nodes, and a node limit
-    /// below `max_allocs`, first has that doubled, as before a grant: with 0 units too.
+    /// or where its last block is used and no further block may exist under its largest node limit; then all is
+    /// as it was. With 0 units it is `true` where the number has a heap. Where the units become a further block
+    /// of a usual heap, for which its own limit leaves no node, that limit is first doubled, up to `max_allocs`.
     ///
     /// # Errors
     ///
@@ -82,7 +126,8 @@ impl<T: Tables> HeapsOf<T> {
     /// ```
     pub fn extend_heap(&mut self, number: u32, more: u32) -> Result<bool, AllocError>
         // It is done exactly where the number has a heap that can have so many units more.
-        ensures done { IfOk result (λ done. IsTrue done ↔ CanExtendIn more (heap_at number self.old)) }
+        ensures done { IfOk result
+            (λ done. IsTrue done ↔ CanExtendIn self.old.limits number more (heap_at number self.old)) }
         ensures size { result ≡ Ok true → option_map units_of_heap (heap_at number self.new)
             ≡ option_map (λ g. units_of_heap g + more) (heap_at number self.old) }
         // Every place keeps its range.
@@ -90,8 +135,8 @@ impl<T: Tables> HeapsOf<T> {
         // Where it is not done, every later call returns the same as if this one had not been made.
         ensures refused { result ≡ Ok false → AreTwins self.old self.new }
         // Memory is requested only for a heap whose node limit has to be raised, and that can be extended.
-        ensures must { IsErr result → MustRaiseIn self.old.limits number (heap_at number self.old)
-            × CanExtendIn more (heap_at number self.old) }
+        ensures must { IsErr result → MustExtendIn self.old.limits number more (heap_at number self.old)
+            × CanExtendIn self.old.limits number more (heap_at number self.old) }
         ensures same { OnErr result (IsSame self.old self.new) }
         ensures none { heap_at number self.old ≡ None → IsSame self.old self.new }
         // The step of its heap. All other heaps are as they were.

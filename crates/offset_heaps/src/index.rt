@@ -1,10 +1,10 @@
 //! Which heaps have room, which are empty, and which numbers have no heap. It touches its own rows alone, and
 //! reads one slot.
-ghost use Rattle.std.specs.Prelude.{ℕ, ◌≡◌, ◌↔◌, ◌+◌, ◌*◌, ◌^◌, ◌<◌, ◌≤◌, IfOk, IsTrue, length, max};
+ghost use Rattle.std.specs.Prelude.{ℕ, ◌≡◌, ◌↔◌, ◌+◌, ◌-◌, ◌*◌, ◌^◌, ◌<◌, ◌≤◌, IfOk, IsTrue, length, max};
 ghost use Rattle.std.specs.Prelude.{option_copied, replicate};
 ghost use Rattle.offset_allocator.specs.Accesses.{Costs};
 ghost use Rattle.offset_guarded.specs.Guard.{HasSerialLeft};
-ghost use Rattle.offset_heaps.specs.Heaps.{is_empty, room_of};
+ghost use Rattle.offset_heaps.specs.Heaps.{is_empty, room_of, top_limit};
 ghost use Rattle.offset_heaps.specs.Soundness.{spare_of};
 ghost use Rattle.offset_heaps.specs.Maxima.{IsFirst};
 
@@ -28,25 +28,47 @@ pub(crate) struct Index {
     pub(crate) empty: Marks,
 }
 
-// Whether a serial is left for one more grant.
-fn has_serial_left<T: Tables>(heap: &GuardedOf<T>) -> bool
+/// Whether a serial is left for one more grant.
+pub(crate) fn has_serial_left<T: Tables>(heap: &GuardedOf<T>) -> bool
     ensures { IsTrue result ↔ HasSerialLeft heap.now }
 {
     !heap.is_spent()
 }
 
-/// The largest requests that a heap grants where it may add one block, and two, or 0.
-pub(crate) fn rooms<T: Tables>(heap: Option<&GuardedOf<T>>) -> (u32, u32)
-    ensures one { result.0 ≡ room_of 1 (option_copied heap.entry) }
-    ensures two { result.1 ≡ room_of 2 (option_copied heap.entry) }
+/// One more than the number of blocks that may still be added to the heap of a number, under its largest node
+/// limit.
+pub(crate) fn nodes_left<T: Tables>(heap: &GuardedOf<T>, number: u32, limits: Limits) -> u32
+    ensures { result ≡ top_limit limits number heap.now - length heap.now.space.blocks }
+{
+    let space = heap.allocator();
+    let own = space.max_allocs();
+    let blocks = own - unused_nodes(space);
+    let top = if number < limits.most {
+        limits.max_allocs
+    } else {
+        own
+    };
+    if top < blocks { 0 } else { top - blocks }
+}
+
+/// The largest requests that the heap of a number grants where it may add one block, and two, or 0.
+pub(crate) fn rooms<T: Tables>(
+    heap: Option<&GuardedOf<T>>,
+    number: u32,
+    limits: Limits,
+) -> (u32, u32)
+    ensures one { result.0 ≡ room_of limits number 1 (option_copied heap.entry) }
+    ensures two { result.1 ≡ room_of limits number 2 (option_copied heap.entry) }
 {
     let Some(heap) = heap else { return (0, 0) };
-    let space = heap.allocator();
-    let left = unused_nodes(space);
+    let left = nodes_left(heap, number, limits);
     if !has_serial_left(heap) || left <= 1 {
         return (0, 0);
     }
-    let largest = space.storage_report().largest_free_region;
+    let largest = offset_allocator::laws::largest_region_counted(
+        heap.allocator(),
+        &mut Accesses::new(),
+    );
     if left == 2 {
         return (largest, 0);
     }
@@ -120,7 +142,7 @@ impl Index {
         ensures accesses { Costs 5 (12 * self.old.one.height + 9) count.old count.new }
     {
         let heap = slots.at(number, count);
-        let (one, two) = rooms(heap);
+        let (one, two) = rooms(heap, number, limits);
         self.one.set(number, one, count);
         self.two.set(number, two, count);
         self.spare.set(number, spare(heap, number, limits), count);

@@ -6,17 +6,18 @@ ghost use Rattle.std.specs.List.{AllByRecursion};
 ghost use Rattle.std.specs.declared.alloc.AllocError.{AllocError};
 ghost use Rattle.offset_allocator.specs.Ranges.{AreDisjoint, Range};
 ghost use Rattle.offset_allocator.specs.Reporting.Reports.{IsReport};
-ghost use Rattle.offset_allocator.specs.Requests.{CanGrant, blocks_needed, units_needed};
+ghost use Rattle.offset_allocator.specs.Requests.{AdmitsBlocks, CanGrant, blocks_needed, units_needed};
 ghost use Rattle.offset_allocator.specs.declared.reports.StorageReport.{StorageReport};
 ghost use Rattle.offset_guarded.specs.Guard.{Guard, HasSerialLeft, IsRaised};
-ghost use Rattle.offset_heaps.specs.Heaps.{Heaps, room, AreAlike, AreTotals, heap_at, numbers, range_of};
-ghost use Rattle.offset_heaps.specs.Heaps.{Grants, IsFirstFit, IsLive, IsNext, IsUsual, IsWhy, MustRaiseIn, Puts};
+ghost use Rattle.offset_heaps.specs.Heaps.{Heaps, room, AreAlike, AreTotals, heap_at, numbers, range_of, top_limit};
+ghost use Rattle.offset_heaps.specs.Heaps.{Grants, IsFirstFit, IsLive, IsNext, IsRaisedAsNeeded, IsUsual, IsWhy};
+ghost use Rattle.offset_heaps.specs.Heaps.{MustRaiseIn, Puts};
 ghost use Rattle.offset_heaps.specs.Heaps.{IsFirstSize, total, units_of_heap, usual_room, usual_size};
 ghost use Rattle.offset_heaps.specs.Histories.{AreSteps, IsGone, IsStep, ResetsAll};
 ghost use Rattle.offset_heaps.specs.Numbering.{AreOfLive, MeetsPlaces, first_from, live_places, next_place};
 ghost use Rattle.offset_heaps.specs.State.{IsCopy, IsStateOf, IsWellFormed, SameHeaps};
 ghost use Rattle.offset_heaps.specs.Relocating.{IsEmptiest, NoneLive, last_live_in, live_before_in};
-ghost use Rattle.offset_heaps.specs.Relocating.{live_units_at, squares, size_of};
+ghost use Rattle.offset_heaps.specs.Relocating.{live_units_at, most_ranks, ranks, squares, size_of};
 ghost use Rattle.offset_heaps.specs.Tight.{IsRefusedForTight, IsServedTight, IsWhyTight};
 ghost use Rattle.offset_heaps.specs.Twins.{AreTwins};
 ghost use Rattle.offset_heaps.specs.Calls.{Allocates, AllocatesTight, TakesAll, Call, Drops, DropsEmpty, Frees, GivesUp};
@@ -50,32 +51,42 @@ pub fn places_are_apart<T: Tables>(heaps: &HeapsOf<T>, number: u32)
     }
 }
 
-/// While it has a serial left, a heap has room for one more block and exactly the units that its report has.
+/// While it has a serial left, a heap has room for one more block and exactly the units that its report would have
+/// under its largest node limit: those of its own report, where its space may have one more block, and of any
+/// heap whose limit is the largest one that it may have.
 pub fn room_is_reported()
-    ensures { (g : Guard) (r : StorageReport) → HasSerialLeft g → IsReport r g.space
-        → room 1 g ≡ r.largest_free_region }
+    ensures largest { (limits : Limits) (k : ℕ) (g h : Guard) (r : StorageReport) → HasSerialLeft g
+        → IsRaised (top_limit limits k g) g h → IsReport r h.space → room limits k 1 g ≡ r.largest_free_region }
+    ensures own { (limits : Limits) (k : ℕ) (g : Guard) (r : StorageReport) → HasSerialLeft g
+        → g.space.max_allocs ≤ top_limit limits k g
+        → (g.space.max_allocs < top_limit limits k g → AdmitsBlocks 1 g.space)
+        → IsReport r g.space → room limits k 1 g ≡ r.largest_free_region }
 {}
 
-/// A heap has room for exactly what it grants: where it has a serial left, what its space can grant, with as
-/// many more blocks as the request may add.
+/// A heap has room for exactly what it grants: where it has a serial left, what its space can grant under its
+/// largest node limit, with as many more blocks as the request may add. For the one or two blocks of a request it
+/// is what its space can grant once its limit is raised as the request needs it.
 pub fn room_is_granted<T: Tables>(heaps: &HeapsOf<T>, number: u32)
-    ensures { IfSome (heap_at number heaps.now) (λ g. (blocks units : ℕ) → 1 ≤ units
-        → (units ≤ room blocks g) ↔ (HasSerialLeft g × CanGrant blocks units g.space)) }
+    ensures largest { IfSome (heap_at number heaps.now) (λ g. (h : Guard) (blocks units : ℕ)
+        → IsRaised (top_limit heaps.now.limits number g) g h → 1 ≤ units
+        → (units ≤ room heaps.now.limits number blocks g) ↔ (HasSerialLeft g × CanGrant blocks units h.space)) }
+    ensures raised { IfSome (heap_at number heaps.now) (λ g. (h : Guard) (blocks units : ℕ) → blocks ≤ 2
+        → IsRaisedAsNeeded heaps.now.limits number blocks g h → 1 ≤ units
+        → (units ≤ room heaps.now.limits number blocks g) ↔ (HasSerialLeft g × CanGrant blocks units h.space)) }
 {
+    // what is read recalls the invariant
+    let _ = &heaps.made;
     if let Some(heap) = heaps.heap(number) {
         is_well_formed(heap.allocator());
     }
 }
 
-/// A heap has room for exactly as much as it would have under the largest node limit, however small its own is:
-/// so which heap grants a request, and whether one does, does not depend on the limit that heaps begin with.
-pub fn room_is_that_of_the_largest_limit<T: Tables>(heaps: &HeapsOf<T>, number: u32)
-    requires { number < heaps.now.limits.most }
-    ensures { IfSome (heap_at number heaps.now) (λ g. (h : Guard) (blocks : ℕ) → blocks ≤ 2
-        → IsRaised heaps.now.limits.max_allocs g h → room blocks h ≡ room blocks g) }
-{
-    let _ = &heaps.made;
-}
+/// A usual heap has room for exactly as much as it would have under the largest node limit, however small its own
+/// is: so which heap grants a request, and whether one does, does not depend on the limit that heaps begin with.
+pub fn room_is_that_of_the_largest_limit()
+    ensures { (limits : Limits) (k : ℕ) (g h : Guard) (blocks : ℕ) → k < limits.most
+        → IsRaised limits.max_allocs g h → room limits k blocks h ≡ room limits k blocks g }
+{}
 
 /// At most one reason of a refusal holds of a request. Where a heap has room for it, none holds but that memory
 /// was refused, and then the node limit of the first such heap has to be raised; and where another may be made
@@ -85,7 +96,7 @@ pub fn reasons_exclude_one_another()
         → IsWhy size align hs s → r ≡ s }
     ensures found { (size align k : ℕ) (hs : Heaps) (r : Refusal) → 1 ≤ size
         → IsFirstFit (blocks_needed align) (units_needed size align) k hs → IsWhy size align hs r
-        → (r ≡ Memory) × MustRaiseIn hs.limits k (heap_at k hs) }
+        → (r ≡ Memory) × MustRaiseIn hs.limits k (blocks_needed align) (heap_at k hs) }
     ensures made { (size align k : ℕ) (hs : Heaps) (r : Refusal) → 1 ≤ size
         → IsNext size k hs → IsWhy size align hs r → r ≡ Memory }
     ensures tight { (size align : ℕ) (hs : Heaps) (r s : Refusal) → IsWhyTight size align hs r
@@ -154,17 +165,24 @@ pub fn dropped_heaps_stay_dropped<T: Tables>(heaps: &HeapsOf<T>)
 }
 
 /// Ranges that go from heap to heap, by `relocate` or `relocate_aligned`, each old range freed before the
-/// next goes, come to an end, in whatever order they go: each adds at least 2 to the sum of the squares of
-/// the heaps' live units, which is at most that of the squares of their units.
+/// next goes, come to an end, in whatever order they go. Each that has units adds at least 2 to the sum of the
+/// squares of the heaps' live units, which is at most that of the squares of their units. One of no units leaves
+/// that sum as it is, and adds to that of the ranks of the heaps, one for each live range: between two ranges that
+/// have units, only so many of no units go.
 ///
-/// From a heap of `a` live units to one of `b`, `u` units add `2 u (b - a) + 2 u²` to that sum.
+/// From a heap of `a` live units to one of `b`, `u` units add `2 u (b - a) + 2 u²` to the sum of the squares.
 pub fn relocations_end()
     ensures grows { (p q : Place) (hs ks : Heaps) → IsWellFormed hs → Goes p q hs ks → squares ks ≡ squares hs
         + 2 * (size_of p hs * (live_units_at q.heap hs - live_units_at p.heap hs)) + 2 * (size_of p hs * size_of p hs) }
-    ensures some { (p q : Place) (hs ks : Heaps) → Goes p q hs ks
-        → (1 ≤ size_of p hs) × (live_units_at p.heap hs ≤ live_units_at q.heap hs) }
-    ensures ends { (ps : List Place) (hs ks : Heaps) → IsWellFormed hs → GoAll hs ps ks
-        → squares hs + 2 * length ps ≤ total (λ g. units_of_heap g * units_of_heap g) hs.slots }
+    ensures fuller { (p q : Place) (hs ks : Heaps) → Goes p q hs ks
+        → live_units_at p.heap hs ≤ live_units_at q.heap hs }
+    ensures none { (p q : Place) (hs ks : Heaps) → IsWellFormed hs → Goes p q hs ks → size_of p hs ≡ 0
+        → ranks hs < ranks ks }
+    ensures ends { (n : ℕ) (ps : List Place) (hs ks : Heaps) → IsWellFormed hs → GoAll n hs ps ks
+        → squares hs + 2 * n ≤ total (λ g. units_of_heap g * units_of_heap g) hs.slots }
+    ensures all { (n : ℕ) (ps : List Place) (hs ks : Heaps) → IsWellFormed hs → GoAll n hs ps ks
+        → squares hs * (most_ranks hs + 1) + ranks hs + length ps
+        ≤ total (λ g. units_of_heap g * units_of_heap g) hs.slots * (most_ranks hs + 1) + most_ranks hs }
 {}
 
 /// A walk from `first_place` on by `place_after` meets the places of all live ranges, by the numbers of their
@@ -251,8 +269,8 @@ pub fn a_state_decides_each_step()
     ensures emptiest { (hs hs' : Heaps) → AreTwins hs hs' → (r r' : Option ℕ)
         → MatchOption r (NoneLive (numbers hs) hs.slots) (IsEmptiest (numbers hs) hs.slots)
         → MatchOption r' (NoneLive (numbers hs') hs'.slots) (IsEmptiest (numbers hs') hs'.slots) → r ≡ r' }
-    ensures totals { (hs hs' : Heaps) → AreTwins hs hs' → (r r' : Totals) → AreTotals r hs.slots
-        → AreTotals r' hs'.slots → r ≡ r' }
+    ensures totals { (hs hs' : Heaps) → AreTwins hs hs' → (r r' : Totals) → AreTotals r hs.limits hs.slots
+        → AreTotals r' hs'.limits hs'.slots → r ≡ r' }
     ensures last_live { (k : ℕ) (hs hs' : Heaps) → IsWellFormed hs → AreTwins hs hs'
         → last_live_in k hs'.realm (heap_at k hs') ≡ last_live_in k hs.realm (heap_at k hs) }
     ensures live_before { (p : Place) (hs hs' : Heaps) → IsWellFormed hs → AreTwins hs hs' → IsLive p hs

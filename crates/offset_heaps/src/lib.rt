@@ -223,9 +223,9 @@ impl<T: Tables> HeapsOf<T> {
     }
 
     // The heap of a place.
-    fn heap_of(&self, place: Place) -> Option<&GuardedOf<T>>
-        ensures range { range_of place self.now ≡ range_in place.ticket (option_copied result) }
-        ensures heap { IsSome result → option_copied result ≡ heap_at place.heap self.now }
+    fn heap_of(&self, place: &Place) -> Option<&GuardedOf<T>>
+        ensures range { range_of place.now self.now ≡ range_in place.now.ticket (option_copied result) }
+        ensures heap { IsSome result → option_copied result ≡ heap_at place.now.heap self.now }
     {
         if place.realm == self.realm {
             self.heap(place.heap)
@@ -245,7 +245,7 @@ impl<T: Tables> HeapsOf<T> {
     pub fn is_live(&self, place: Place) -> bool
         ensures { IsTrue result ↔ IsLive place self.now }
     {
-        match self.heap_of(place) {
+        match self.heap_of(&place) {
             None => false,
             Some(heap) => heap.is_live(place.ticket),
         }
@@ -260,7 +260,7 @@ impl<T: Tables> HeapsOf<T> {
     pub fn size_of(&self, place: Place) -> Option<u32>
         ensures { result ≡ option_map (λ (r : Range). r.size) (range_of place self.now) }
     {
-        match self.heap_of(place) {
+        match self.heap_of(&place) {
             None => None,
             Some(heap) => heap.size_of(place.ticket),
         }
@@ -276,7 +276,7 @@ impl<T: Tables> HeapsOf<T> {
     pub fn offset_of(&self, place: Place) -> Option<u32>
         ensures { result ≡ option_map (λ (r : Range). r.offset) (range_of place self.now) }
     {
-        match self.heap_of(place) {
+        match self.heap_of(&place) {
             None => None,
             Some(heap) => heap.offset_of(place.ticket),
         }

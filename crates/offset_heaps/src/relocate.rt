@@ -2,12 +2,12 @@
 //! slot by a grant, and notes it in the index.
 ghost use Rattle.std.specs.Prelude.{ℕ, ◌≡◌, ◌↔◌, ◌+◌, ◌*◌, ◌%◌, ◌^◌, ◌<◌, ◌≤◌, None, Some, IfSome, MatchOption};
 ghost use Rattle.std.specs.Prelude.{length};
-ghost use Rattle.offset_allocator.specs.Requests.{blocks_needed};
 ghost use Rattle.offset_heaps.specs.Heaps.{numbers};
 ghost use Rattle.offset_heaps.specs.Relocating.{IsEmptiest, NoneLive, TakesUnits};
 
 use crate::HeapsOf;
 use crate::place::Place;
+use crate::slots::units_for;
 use offset_allocator::{Accesses, Tables};
 
 /// As `emptiest` of `Heaps`. The count grows by the number of numbers, one for each slot.
@@ -26,20 +26,19 @@ impl<T: Tables> HeapsOf<T> {
     ghost use Rattle.offset_heaps.specs.Heaps.{Grants, IsSame, KeepsOthers, range_of};
     ghost use Rattle.offset_heaps.specs.Relocating.{IsTaker, NoneTakes, granted, size_of};
 
-    // The first heap that takes a range of the heap `own`, which has `live` live units.
-    fn taker(&mut self, own: u32, units: u64, align: u32, live: u32) -> Option<u32>
-        requires some { 1 ≤ units }
+    // The first heap that takes a range of `size` units of the heap `own`, which has `live` live units.
+    fn taker(&mut self, own: u32, size: u32, align: u32, live: u32) -> Option<u32>
         requires alignment { 1 ≤ align }
         ensures first { MatchOption result
-            ((k : ℕ) → TakesUnits self.old.limits own (blocks_needed align) units live self.old.slots k → ⊥)
-            (λ k. TakesUnits self.old.limits own (blocks_needed align) units live self.old.slots k
-            × ((j : ℕ) → j < k
-            → TakesUnits self.old.limits own (blocks_needed align) units live self.old.slots j → ⊥)) }
+            ((k : ℕ) → TakesUnits self.old.limits own size align live self.old.slots k → ⊥)
+            (λ k. TakesUnits self.old.limits own size align live self.old.slots k
+            × ((j : ℕ) → j < k → TakesUnits self.old.limits own size align live self.old.slots j → ⊥)) }
         ensures there { IfSome result (λ k. k < length self.old.slots) }
         ensures same { IsSame self.old self.new }
         ensures accesses { (bits : ℕ) → numbers self.old ≤ 2 ^ bits
             → self.new.accesses ≤ self.old.accesses + numbers self.old + bits + 1 }
     {
+        let units = units_for(size, align);
         let from = self.first_fit(units, align)?;
         let limits = self.limits;
         let numbers = limits.most + limits.most_larger;
@@ -48,7 +47,7 @@ impl<T: Tables> HeapsOf<T> {
             numbers,
             limits,
             own,
-            units,
+            size,
             align,
             live,
             &mut self.accesses,
@@ -61,12 +60,14 @@ impl<T: Tables> HeapsOf<T> {
     /// `last_live` and `live_before`, it empties that heap, which `drop_empty` then drops.
     ///
     /// The heap is the first one, by number, that has room, other than the place's own, and in which at least
-    /// as many units are live: so none goes to an empty heap, and calls of `relocate`, each followed by the
+    /// as many units are live. A range of no units, which `shrink` may leave, needs room for one; since it adds
+    /// no live unit, it goes to a heap with more live units, or with as many and a lower number: so each range
+    /// of the `emptiest` heap may go to any other one in which a unit is live. Calls of `relocate`, each followed by the
     /// release of its old range before the next one, come to an end, since the sum of the squares of the
-    /// heaps' live units grows at each: see `laws::relocations_end`. With later releases a range may go to
-    /// and fro: make one pass, free what it left, then begin the next. No heap is made, and no memory is
-    /// taken: a heap whose node limit would have to be raised for it, as `Limits::first_allocs` says, takes no
-    /// range. The range is what `GuardedOf::allocate` grants there: for one at an alignment see
+    /// heaps' live units grows at each range that has units: see `laws::relocations_end`. With later releases a
+    /// range may go to and fro: make one pass, free what it left, then begin the next. No heap is made, and no
+    /// memory is taken: a heap whose node limit would have to be raised for it, as `Limits::first_allocs` says,
+    /// takes no range. The range is what `GuardedOf::allocate` grants there: for one at an alignment see
     /// `relocate_aligned`.
     ///
     /// `None` is returned where no heap takes the range, and where the place is not live; then nothing
@@ -105,7 +106,7 @@ impl<T: Tables> HeapsOf<T> {
 
     /// As `relocate`, and the second range begins at a multiple of `align`, from 1 on, in its heap: the
     /// first other one that has room for an aligned request as `allocate_aligned` has it, for
-    /// `size + align - 1` units, and in which at least as many units are live.
+    /// `size + align - 1` units, or one where that is none, and that may take it as `relocate` says.
     ///
     /// ```
     /// heaps.allocate(500).unwrap();
@@ -141,12 +142,8 @@ impl<T: Tables> HeapsOf<T> {
         }
         let (size, live) = self
             .slots
-            .units_at(place.heap, place.ticket, &mut self.accesses);
-        if size == 0 {
-            return None;
-        }
-        let units = size as u64 + align as u64 - 1;
-        let number = self.taker(place.heap, units, align, live)?;
+            .units_at(place.heap, place.ticket, &mut self.accesses)?;
+        let number = self.taker(place.heap, size, align, live)?;
         Some(self.grant_at(number, size, align).place)
     }
 

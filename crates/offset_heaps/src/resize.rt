@@ -1,7 +1,7 @@
 //! Ranges that become smaller or larger in place. It changes one slot, and notes it in the index.
 ghost use Rattle.std.specs.Prelude.{◌≡◌, ◌↔◌, None, Some, IfSome, IsSome, IsTrue, false, true};
 ghost use Rattle.offset_heaps.specs.Changing.{CanResizeAt, HasUnits, KeepsLive, Shrunk, Grown, ResizesAt};
-ghost use Rattle.offset_heaps.specs.Changing.{is_less, units_wanted, new_size};
+ghost use Rattle.offset_heaps.specs.Changing.{units_wanted, new_size};
 ghost use Rattle.offset_heaps.specs.Twins.{AreTwins};
 
 use crate::HeapsOf;
@@ -15,18 +15,6 @@ pub(crate) enum Resize {
     Shrink(u32),
     /// At least as many.
     Grow(u32),
-}
-
-impl Resize {
-    /// Whether it is to have at most as many.
-    pub(crate) fn is_less(self) -> bool
-        ensures { result ≡ is_less (new_size self) }
-    {
-        match self {
-            Resize::Shrink(_) => true,
-            Resize::Grow(_) => false,
-        }
-    }
 }
 
 impl<T: Tables> HeapsOf<T> {
@@ -47,13 +35,9 @@ impl<T: Tables> HeapsOf<T> {
         if place.realm != self.realm {
             return None;
         }
-        let done = self.slots.resize(
-            place.heap,
-            self.limits,
-            place.ticket,
-            how,
-            &mut self.accesses,
-        )?;
+        let done = self
+            .slots
+            .resize(place.heap, place.ticket, how, &mut self.accesses)?;
         self.index
             .note(&self.slots, place.heap, self.limits, &mut self.accesses);
         Some(done)
@@ -61,9 +45,9 @@ impl<T: Tables> HeapsOf<T> {
 
     /// Makes the range of a place smaller in place, as `GuardedOf::shrink` does in its heap, and returns
     /// whether it did; or `None` where the place is not live, and then nothing changes. `false` is returned
-    /// where the range has fewer units, or the node limit of its heap is reached and the units that it gives
-    /// back have no free block after them, or fewer than four nodes are unused of a heap whose limit may still
-    /// be doubled: no memory is taken here; then all is as it was.
+    /// exactly where the heap's space refuses it, under the node limit that it has: where the range has fewer
+    /// units, or that limit is reached and the units that it gives back have no free block after them; then all
+    /// is as it was. No memory is taken here, so no limit is raised.
     ///
     /// ```
     /// let mesh = heaps.allocate(300).unwrap().place;

@@ -3,7 +3,7 @@ ghost use Rattle.std.specs.Prelude.{◌≡◌, ◌↔◌, ◌+◌, ◌*◌, ◌<
 ghost use Rattle.std.specs.Prelude.{Option, length};
 ghost use Rattle.offset_allocator.specs.Saving.StateFaults.{IfFault};
 ghost use Rattle.offset_guarded.specs.Guard.{Guard};
-ghost use Rattle.offset_heaps.specs.Heaps.{HasNodesLeft, IsOfKind};
+ghost use Rattle.offset_heaps.specs.Heaps.{HasUsualLimit, IsOfKind};
 ghost use Rattle.offset_heaps.specs.State.{AreNone, AreRead, IsHeader, IsHeapAdmitted, IsHeapFormed};
 ghost use Rattle.offset_heaps.specs.State.{IsHeapRead, IsHeapState, IsNoState, IsRestored, IsWellFormed};
 ghost use Rattle.offset_heaps.specs.StateFaults.{IsFault, IsHeapFault, IsHeapsFault, IsNumbersFault};
@@ -14,7 +14,6 @@ use crate::fresh::LARGER_LIMIT;
 use crate::limits::{Limits, usual_size};
 use crate::slots::Slots;
 use crate::state::{FORM, StateFault, StateFaultKind, VERSION};
-use offset_allocator::laws::unused_nodes;
 use offset_allocator::{Accesses, NodeIndex, ReadError, Tables};
 use offset_guarded::GuardedOf;
 use offset_guarded::laws::a_state_is_read_back;
@@ -107,17 +106,12 @@ fn header_of<T: Tables>(
     })
 }
 
-// Whether a usual heap has a node limit that the limits allow, and below the largest one as many unused
-// nodes as it has between two calls.
-fn has_nodes_left<T: Tables>(heap: &GuardedOf<T>, limits: Limits) -> bool
-    ensures { IsTrue result ↔ HasNodesLeft limits heap.now }
+// Whether a usual heap has a node limit that the limits allow.
+fn has_usual_limit<T: Tables>(heap: &GuardedOf<T>, limits: Limits) -> bool
+    ensures { IsTrue result ↔ HasUsualLimit limits heap.now }
 {
-    let space = heap.allocator();
-    let limit = space.max_allocs();
-    let left = unused_nodes(space);
-    limit >= limits.first_allocs
-        && limit <= limits.max_allocs
-        && (limit == limits.max_allocs || left >= 3)
+    let limit = heap.allocator().max_allocs();
+    limit >= limits.first_allocs && limit <= limits.max_allocs
 }
 
 // Whether a heap has the size and a node limit of the kind of a number.
@@ -126,7 +120,7 @@ fn is_of_kind<T: Tables>(heap: &GuardedOf<T>, number: u32, limits: Limits) -> bo
 {
     let space = heap.allocator();
     if number < limits.most {
-        space.size() >= usual_size(limits, number) && has_nodes_left(heap, limits)
+        space.size() >= usual_size(limits, number) && has_usual_limit(heap, limits)
     } else {
         space.size() >= 1 && space.max_allocs() == LARGER_LIMIT
     }

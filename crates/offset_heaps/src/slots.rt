@@ -2,25 +2,26 @@
 //! touches.
 ghost use Rattle.std.specs.Prelude.{◌≡◌, ◌↔◌, ◌+◌, ◌<◌, ◌≤◌, IsTrue, IsSome, None, Some, false, length};
 ghost use Rattle.std.specs.Prelude.{IfOk, IfSome, IsErr, MatchOption, is_some, option_copied, replicate};
-ghost use Rattle.std.specs.Prelude.{ℕ, slice_set, true};
+ghost use Rattle.std.specs.Prelude.{ℕ, ◌⊎◌, max, slice_set, true};
 ghost use Rattle.std.specs.List.{FoldsTo};
 ghost use Rattle.offset_allocator.specs.Requests.{blocks_needed, units_needed};
-ghost use Rattle.offset_guarded.specs.Guard.{Guard, IsLive};
+ghost use Rattle.offset_allocator.specs.View.{IsWellFormed};
+ghost use Rattle.offset_guarded.specs.Guard.{Guard, IsLive, IsRaised};
 ghost use Rattle.offset_allocator.specs.Moving.Compacting.{IsCalledWith};
 ghost use Rattle.offset_heaps.specs.Changing.{AltersIn, CanResize, CanResizeIn, CompactsIn, MakesRoomIn, Resizes};
 ghost use Rattle.offset_heaps.specs.Changing.{CompactsSlot, IsCalledAt, moves_in, numbered, new_size};
-ghost use Rattle.offset_heaps.specs.Extending.{CanExtendIn, ExtendsIf};
-ghost use Rattle.offset_heaps.specs.Heaps.{HasFewNodes, IsOfKind, IsRaisedAsNeeded, MustRaise, MustRaiseIn, is_empty};
-ghost use Rattle.offset_heaps.specs.Heaps.{live_units_of, part};
+ghost use Rattle.offset_heaps.specs.Extending.{CanExtendIn, ExtendsIf, MustExtendIn};
+ghost use Rattle.offset_heaps.specs.Heaps.{IsOfKind, IsRaisedAsNeeded, MustRaise, MustRaiseIn, is_empty};
+ghost use Rattle.offset_heaps.specs.Heaps.{live_units_of, part, raised_limit};
 ghost use Rattle.offset_heaps.specs.Heaps.{range_in, room, room_of, slot};
 ghost use Rattle.offset_heaps.specs.Numbering.{IsHeapFrom, NoHeapFrom};
 ghost use Rattle.offset_heaps.specs.Relocating.{HasLive, IsEmptiest, NoneLive, TakesUnits, units_in};
-ghost use Rattle.offset_heaps.specs.Slots.{CanHoldIn, Changes, GrantsTightAlignedIn, FreesSlot, KeepsOthersIn, RaisesIn};
-ghost use Rattle.offset_heaps.specs.Slots.{IsEmptier, ResetsIn, GrantsIn, GrantsTightIn};
+ghost use Rattle.offset_heaps.specs.Slots.{CanHoldIn, CanHoldNow, Changes, GrantsTightAlignedIn, FreesSlot, KeepsOthersIn};
+ghost use Rattle.offset_heaps.specs.Slots.{GrantsIn, GrantsTightIn, HasRoomNow, IsEmptier, RaisesIn, ResetsIn};
 
 use crate::compact::compact_numbered;
 use crate::extend::extend_in;
-use crate::index::{is_empty_heap, rooms};
+use crate::index::{has_serial_left, is_empty_heap, nodes_left, rooms};
 use crate::limits::Limits;
 use crate::resize::Resize;
 use offset_allocator::laws::{is_well_formed, unused_nodes};
@@ -44,52 +45,67 @@ impl<T: Tables> Model for Slots<T> {
     ghost view = { λ s. s.heaps.items };
 }
 
-// The largest request at a multiple of `align` that a heap grants, or 0.
-fn room_at<T: Tables>(heap: &GuardedOf<T>, align: u32) -> u32
+// The largest request at a multiple of `align` that the heap of a number grants, or 0.
+fn room_at<T: Tables>(heap: &GuardedOf<T>, number: u32, limits: Limits, align: u32) -> u32
     requires { 1 ≤ align }
-    ensures { result ≡ room (blocks_needed align) heap.now }
+    ensures { result ≡ room limits number (blocks_needed align) heap.now }
 {
-    let (one, two) = rooms(Some(heap));
+    let (one, two) = rooms(Some(heap), number, limits);
     if align == 1 { one } else { two }
 }
 
-// Whether fewer than `least` nodes of the heap of a number are unused, and its node limit may still be raised.
-fn has_few_nodes<T: Tables>(heap: &GuardedOf<T>, number: u32, limits: Limits, least: u32) -> bool
-    ensures { IsTrue result ↔ HasFewNodes least limits number heap.now }
+/// Whether the node limit of the heap of a number has to be raised for a call that may add so many blocks.
+pub(crate) fn must_raise<T: Tables>(
+    heap: &GuardedOf<T>,
+    number: u32,
+    limits: Limits,
+    blocks: u32,
+) -> bool
+    ensures { IsTrue result ↔ MustRaise limits number blocks heap.now }
 {
     let space = heap.allocator();
-    number < limits.most && space.max_allocs() < limits.max_allocs && unused_nodes(space) < least
+    number < limits.most && space.max_allocs() < limits.max_allocs && unused_nodes(space) <= blocks
 }
 
-// Whether the node limit of a heap has to be raised before a grant, which adds two blocks at most: after it at least
-// three nodes are unused, or the limit is the largest one. A report is then that of the largest limit.
-fn must_raise<T: Tables>(heap: &GuardedOf<T>, number: u32, limits: Limits) -> bool
-    ensures { IsTrue result ↔ MustRaise limits number heap.now }
+/// Doubles the node limit of a heap, up to the largest one.
+pub(crate) fn double_limit<T: Tables>(
+    alloc: Global,
+    heap: &mut GuardedOf<T>,
+    limits: Limits,
+) -> Result<(), AllocError>
+    requires below { heap.old.space.max_allocs < limits.max_allocs }
+    requires limit_max { limits.max_allocs + 1 < T.Index.MAX }
+    ensures raised { IfOk result (λ _. IsRaised (raised_limit limits heap.old) heap.old heap.new) }
+    ensures same { IsErr result → heap.new ≡ heap.old }
 {
-    has_few_nodes(heap, number, limits, 5)
+    let limit = heap.allocator().max_allocs();
+    let most = limits.max_allocs;
+    let twice = if most - limit < limit {
+        most
+    } else {
+        2 * limit
+    };
+    *heap = heap.raised(alloc, twice)?;
+    Ok(())
 }
 
-/// Doubles the node limit of the heap of a number, where it has to be raised.
-pub(crate) fn raise_heap<T: Tables>(
+// Doubles the node limit of the heap of a number, where it has to be raised for so many blocks.
+fn raise_heap<T: Tables>(
     alloc: Global,
     heap: &mut GuardedOf<T>,
     number: u32,
     limits: Limits,
+    blocks: u32,
 ) -> Result<(), AllocError>
     requires limit_max { limits.max_allocs + 1 < T.Index.MAX }
-    ensures raises { IfOk result (λ _. IsRaisedAsNeeded limits number heap.old heap.new) }
-    ensures must { IsErr result → MustRaise limits number heap.old }
+    ensures formed { IsWellFormed heap.old.space }
+    ensures raises { IfOk result (λ _. IsRaisedAsNeeded limits number blocks heap.old heap.new) }
+    ensures must { IsErr result → MustRaise limits number blocks heap.old }
     ensures same { IsErr result → heap.new ≡ heap.old }
 {
-    if must_raise(heap, number, limits) {
-        let limit = heap.allocator().max_allocs();
-        let most = limits.max_allocs;
-        let twice = if most - limit < limit {
-            most
-        } else {
-            2 * limit
-        };
-        *heap = heap.raised(alloc, twice)?;
+    is_well_formed(heap.allocator());
+    if must_raise(heap, number, limits, blocks) {
+        double_limit(alloc, heap, limits)?;
     }
     Ok(())
 }
@@ -100,23 +116,24 @@ fn raise_in<T: Tables>(
     slot: &mut Option<GuardedOf<T>>,
     number: u32,
     limits: Limits,
+    blocks: u32,
 ) -> Result<(), AllocError>
     requires limit_max { limits.max_allocs + 1 < T.Index.MAX }
-    ensures raises { IfOk result (λ _. RaisesIn limits number slot.old slot.new) }
-    ensures must { IsErr result → MustRaiseIn limits number slot.old }
+    ensures formed { IfSome slot.old (λ g. IsWellFormed g.space) }
+    ensures raises { IfOk result (λ _. RaisesIn limits number blocks slot.old slot.new) }
+    ensures must { IsErr result → MustRaiseIn limits number blocks slot.old }
     ensures same { IsErr result → slot.new ≡ slot.old }
 {
     match slot {
-        Some(heap) => raise_heap(alloc, heap, number, limits),
+        Some(heap) => raise_heap(alloc, heap, number, limits, blocks),
         None => Ok(()),
     }
 }
 
-/// Grants a request in a heap that has room for it.
+/// Grants a request in a heap that has room for it, and for one unit.
 pub(crate) fn grant_in<T: Tables>(slot: &mut Option<GuardedOf<T>>, size: u32, align: u32) -> Ticket
-    requires some { 1 ≤ units_needed size align }
     requires alignment { 1 ≤ align }
-    requires room { units_needed size align ≤ room_of (blocks_needed align) slot.old }
+    requires room { HasRoomNow (blocks_needed align) (max 1 (units_needed size align)) slot.old }
     ensures { GrantsIn size align slot.old slot.new result }
 {
     match slot {
@@ -133,7 +150,7 @@ pub(crate) fn grant_in<T: Tables>(slot: &mut Option<GuardedOf<T>>, size: u32, al
 
 /// Grants a request in a heap that has a free block for it.
 pub(crate) fn grant_tight_in<T: Tables>(slot: &mut Option<GuardedOf<T>>, size: u32) -> Ticket
-    requires { CanHoldIn size 1 slot.old }
+    requires { CanHoldNow size 1 slot.old }
     ensures { GrantsTightIn size slot.old slot.new result }
 {
     match slot {
@@ -152,7 +169,7 @@ fn grant_tight_aligned_in<T: Tables>(
     align: u32,
 ) -> Ticket
     requires alignment { 1 ≤ align }
-    requires holds { CanHoldIn size align slot.old }
+    requires holds { CanHoldNow size align slot.old }
     ensures { GrantsTightAlignedIn size align slot.old slot.new result }
 {
     match slot {
@@ -164,15 +181,20 @@ fn grant_tight_aligned_in<T: Tables>(
     }
 }
 
-// Whether a free block of a heap holds a request. Where none does, the heap has no room for it either.
-fn holds<T: Tables>(heap: &GuardedOf<T>, size: u32, align: u32) -> bool
+// Whether a free block of the heap of a number holds a request. Where none does, the heap has no room for it either.
+fn holds<T: Tables>(heap: &GuardedOf<T>, number: u32, limits: Limits, size: u32, align: u32) -> bool
     requires some { 1 ≤ size }
     requires alignment { 1 ≤ align }
-    ensures holds { IsTrue result ↔ CanHoldIn size align (Some heap.now) }
-    ensures less { result ≡ false → room (blocks_needed align) heap.now < units_needed size align }
+    ensures holds { IsTrue result ↔ CanHoldIn limits number size align (Some heap.now) }
+    ensures less { result ≡ false
+        → room limits number (blocks_needed align) heap.now < units_needed size align }
 {
-    is_well_formed(heap.allocator());
-    heap.refusal_tight_aligned(size, align).is_none()
+    let space = heap.allocator();
+    is_well_formed(space);
+    if !has_serial_left(heap) || nodes_left(heap, number, limits) <= align.min(2) {
+        return false;
+    }
+    offset_allocator::laws::has_block_for_counted(space, size, align, &mut Accesses::new())
 }
 
 // Frees the range of a ticket, where it is live.
@@ -204,33 +226,21 @@ fn resize_heap<T: Tables>(heap: &mut GuardedOf<T>, ticket: Ticket, how: Resize) 
     }
 }
 
-// The same, but that a range does not become smaller where few nodes are unused.
+// The same, where the number has a heap.
 fn resize_in<T: Tables>(
     slot: &mut Option<GuardedOf<T>>,
-    number: u32,
-    limits: Limits,
     ticket: Ticket,
     how: Resize,
 ) -> Option<bool>
     ensures live { IsSome result ↔ IsSome (range_in ticket slot.old) }
     ensures done { IfSome result
-        (λ done. IsTrue done ↔ CanResizeIn limits number (new_size how) ticket.name slot.old) }
+        (λ done. IsTrue done ↔ CanResizeIn (new_size how) ticket.name slot.old) }
     ensures change { IfSome result (λ done. AltersIn (Resizes (new_size how) ticket done) slot.old slot.new) }
     ensures same { result ≡ None → slot.new ≡ slot.old }
 {
     match slot {
         None => None,
-        Some(heap) => {
-            // a range that shrinks might leave too few nodes
-            if how.is_less() && has_few_nodes(heap, number, limits, 4) {
-                return if heap.is_live(ticket) {
-                    Some(false)
-                } else {
-                    None
-                };
-            }
-            resize_heap(heap, ticket, how)
-        }
+        Some(heap) => resize_heap(heap, ticket, how),
     }
 }
 
@@ -292,6 +302,23 @@ fn reset_in<T: Tables>(slot: &mut Option<GuardedOf<T>>)
         Some(heap) => heap.reset(),
         None => {}
     }
+}
+
+/// The units that a heap needs for a range of `size` units from a multiple of `align` on, which a request may not have:
+/// one at least.
+pub(crate) fn units_for(size: u32, align: u32) -> u64
+    requires { 1 ≤ align }
+    ensures { result ≡ max 1 (units_needed size align) }
+{
+    let units = size as u64 + align as u64 - 1;
+    if units == 0 { 1 } else { units }
+}
+
+// Whether a heap with `full` live units may take a range of `size` units of the heap `own`, which has `live`.
+fn is_fuller(size: u32, own: u32, live: u32, number: u32, full: u32) -> bool
+    ensures { IsTrue result ↔ ((live ≤ full) × (size ≡ 0 → (live < full) ⊎ (number < own))) }
+{
+    live < full || (live == full && (size > 0 || number < own))
 }
 
 // The emptiest heap so far, and its live units, with those of one more heap.
@@ -357,23 +384,33 @@ impl<T: Tables> Slots<T> {
         self.heaps[number as usize] = heap;
     }
 
-    /// Doubles the node limit of the heap of a number, where it has to be raised before a grant.
+    /// Doubles the node limit of the heap of a number, where it has to be raised for a grant that may add so many
+    /// blocks.
     pub(crate) fn raise(
         &mut self,
         alloc: Global,
         number: u32,
         limits: Limits,
+        blocks: u32,
         count: &mut Accesses,
     ) -> Result<(), AllocError>
         requires there { number < length self.old }
         requires limit_max { limits.max_allocs + 1 < T.Index.MAX }
-        ensures raises { IfOk result (λ _. Changes number (RaisesIn limits number) self.old self.new) }
-        ensures must { IsErr result → MustRaiseIn limits number (slot number self.old) }
+        ensures formed { IfSome (slot number self.old) (λ g. IsWellFormed g.space) }
+        ensures raises { IfOk result
+            (λ _. Changes number (RaisesIn limits number blocks) self.old self.new) }
+        ensures must { IsErr result → MustRaiseIn limits number blocks (slot number self.old) }
         ensures same { IsErr result → self.new ≡ self.old }
         ensures accesses { count.new ≡ count.old + 1 }
     {
         count.tick();
-        raise_in(alloc, &mut self.heaps[number as usize], number, limits)
+        raise_in(
+            alloc,
+            &mut self.heaps[number as usize],
+            number,
+            limits,
+            blocks,
+        )
     }
 
     /// Grants a request in the heap of a number, which has room for it.
@@ -385,9 +422,9 @@ impl<T: Tables> Slots<T> {
         count: &mut Accesses,
     ) -> Ticket
         requires there { number < length self.old }
-        requires some { 1 ≤ units_needed size align }
         requires alignment { 1 ≤ align }
-        requires room { units_needed size align ≤ room_of (blocks_needed align) (slot number self.old) }
+        requires room { HasRoomNow (blocks_needed align) (max 1 (units_needed size align))
+            (slot number self.old) }
         ensures grants { Changes number (λ o p. GrantsIn size align o p result) self.old self.new }
         ensures accesses { count.new ≡ count.old + 1 }
     {
@@ -405,7 +442,7 @@ impl<T: Tables> Slots<T> {
     ) -> Ticket
         requires there { number < length self.old }
         requires alignment { 1 ≤ align }
-        requires holds { CanHoldIn size align (slot number self.old) }
+        requires holds { CanHoldNow size align (slot number self.old) }
         ensures grants { Changes number (λ o p. GrantsTightAlignedIn size align o p result) self.old self.new }
         ensures accesses { count.new ≡ count.old + 1 }
     {
@@ -414,17 +451,24 @@ impl<T: Tables> Slots<T> {
     }
 
     // Whether a free block of the heap of a number holds a request.
-    fn holds_at(&self, number: u32, size: u32, align: u32, count: &mut Accesses) -> bool
+    fn holds_at(
+        &self,
+        number: u32,
+        limits: Limits,
+        size: u32,
+        align: u32,
+        count: &mut Accesses,
+    ) -> bool
         requires some { 1 ≤ size }
         requires alignment { 1 ≤ align }
-        ensures holds { IsTrue result ↔ CanHoldIn size align (slot number self.now) }
+        ensures holds { IsTrue result ↔ CanHoldIn limits number size align (slot number self.now) }
         ensures less { result ≡ false
-            → room_of (blocks_needed align) (slot number self.now) < units_needed size align }
+            → room_of limits number (blocks_needed align) (slot number self.now) < units_needed size align }
         ensures accesses { count.new ≡ count.old + 1 }
     {
         match self.at(number, count) {
             None => false,
-            Some(heap) => holds(heap, size, align),
+            Some(heap) => holds(heap, number, limits, size, align),
         }
     }
 
@@ -432,6 +476,7 @@ impl<T: Tables> Slots<T> {
     pub(crate) fn first_holding(
         &self,
         numbers: u32,
+        limits: Limits,
         size: u32,
         align: u32,
         count: &mut Accesses,
@@ -439,16 +484,16 @@ impl<T: Tables> Slots<T> {
         requires some { 1 ≤ size }
         requires alignment { 1 ≤ align }
         requires numbers { length self.now ≡ numbers }
-        ensures first { MatchOption result ((k : ℕ) → CanHoldIn size align (slot k self.now) → ⊥)
-            (λ k. CanHoldIn size align (slot k self.now)
-            × ((j : ℕ) → j < k → CanHoldIn size align (slot j self.now) → ⊥)) }
-        ensures less { result ≡ None
-            → (k : ℕ) → room_of (blocks_needed align) (slot k self.now) < units_needed size align }
+        ensures first { MatchOption result ((k : ℕ) → CanHoldIn limits k size align (slot k self.now) → ⊥)
+            (λ k. CanHoldIn limits k size align (slot k self.now)
+            × ((j : ℕ) → j < k → CanHoldIn limits j size align (slot j self.now) → ⊥)) }
+        ensures less { result ≡ None → (k : ℕ)
+            → room_of limits k (blocks_needed align) (slot k self.now) < units_needed size align }
         ensures there { IfSome result (λ k. k < numbers) }
         ensures accesses { count.new ≤ count.old + numbers }
     {
         for number in 0..numbers {
-            if self.holds_at(number, size, align, count) {
+            if self.holds_at(number, limits, size, align, count) {
                 return Some(number);
             }
         }
@@ -477,7 +522,6 @@ impl<T: Tables> Slots<T> {
     pub(crate) fn resize(
         &mut self,
         number: u32,
-        limits: Limits,
         ticket: Ticket,
         how: Resize,
         count: &mut Accesses,
@@ -485,7 +529,7 @@ impl<T: Tables> Slots<T> {
         ensures live { IsSome result ↔ IsSome (range_in ticket (slot number self.old)) }
         ensures there { IsSome result → number < length self.old }
         ensures done { IfSome result
-            (λ done. IsTrue done ↔ CanResizeIn limits number (new_size how) ticket.name (slot number self.old)) }
+            (λ done. IsTrue done ↔ CanResizeIn (new_size how) ticket.name (slot number self.old)) }
         ensures change { IfSome result
             (λ done. Changes number (AltersIn (Resizes (new_size how) ticket done)) self.old self.new) }
         ensures same { result ≡ None → self.new ≡ self.old }
@@ -495,17 +539,11 @@ impl<T: Tables> Slots<T> {
         if number as usize >= self.heaps.len() {
             return None;
         }
-        resize_in(
-            &mut self.heaps[number as usize],
-            number,
-            limits,
-            ticket,
-            how,
-        )
+        resize_in(&mut self.heaps[number as usize], ticket, how)
     }
 
-    /// Adds units at the end of the heap of a number, whose node limit is raised first where it would be for a
-    /// grant, and returns whether it did.
+    /// Adds units at the end of the heap of a number, whose node limit is raised first where they need that, and
+    /// returns whether it did.
     pub(crate) fn extend(
         &mut self,
         alloc: Global,
@@ -517,11 +555,12 @@ impl<T: Tables> Slots<T> {
         requires there { IsSome (slot number self.old) }
         requires limit_max { limits.max_allocs + 1 < T.Index.MAX }
         requires kind { IfSome (slot number self.old) (IsOfKind limits number) }
-        ensures done { IfOk result (λ done. IsTrue done ↔ CanExtendIn more (slot number self.old)) }
+        ensures done { IfOk result
+            (λ done. IsTrue done ↔ CanExtendIn limits number more (slot number self.old)) }
         ensures change { IfOk result
             (λ done. Changes number (AltersIn (ExtendsIf limits number more done)) self.old self.new) }
-        ensures must { IsErr result → MustRaiseIn limits number (slot number self.old)
-            × CanExtendIn more (slot number self.old) }
+        ensures must { IsErr result → MustExtendIn limits number more (slot number self.old)
+            × CanExtendIn limits number more (slot number self.old) }
         ensures same { IsErr result → self.new ≡ self.old }
         ensures accesses { count.new ≡ count.old + 1 }
     {
@@ -626,76 +665,80 @@ impl<T: Tables> Slots<T> {
         is_empty_heap(self.at(number, count))
     }
 
-    /// The units of the range of a ticket in the heap of a number, or 0, and the units that are live there.
-    pub(crate) fn units_at(&self, number: u32, ticket: Ticket, count: &mut Accesses) -> (u32, u32)
-        ensures units { result.0 ≡ units_in (range_in ticket (slot number self.now)) }
-        ensures live { result.1 ≡ part live_units_of (slot number self.now) }
+    /// The units of the range of a ticket in the heap of a number, where it is live, and the units that are live
+    /// there.
+    pub(crate) fn units_at(
+        &self,
+        number: u32,
+        ticket: Ticket,
+        count: &mut Accesses,
+    ) -> Option<(u32, u32)>
+        ensures live { IsSome result ↔ IsSome (range_in ticket (slot number self.now)) }
+        ensures units { IfSome result (λ r. r.0 ≡ units_in (range_in ticket (slot number self.now))) }
+        ensures all { IfSome result (λ r. r.1 ≡ part live_units_of (slot number self.now)) }
         ensures accesses { count.new ≡ count.old + 1 }
     {
         match self.at(number, count) {
-            None => (0, 0),
-            Some(heap) => (
-                heap.size_of(ticket).unwrap_or(0),
-                heap.allocator().live_units(),
-            ),
+            None => None,
+            Some(heap) => match heap.size_of(ticket) {
+                None => None,
+                Some(size) => Some((size, heap.allocator().live_units())),
+            },
         }
     }
 
-    // Whether the heap of a number takes a range of the heap `own`, which has `live` live units.
+    // Whether the heap of a number takes a range of `size` units of the heap `own`, which has `live` live units.
     fn takes(
         &self,
         number: u32,
         limits: Limits,
         own: u32,
-        units: u64,
+        size: u32,
         align: u32,
         live: u32,
         count: &mut Accesses,
     ) -> bool
-        requires some { 1 ≤ units }
         requires alignment { 1 ≤ align }
-        ensures takes { IsTrue result
-            ↔ TakesUnits limits own (blocks_needed align) units live self.now number }
+        ensures takes { IsTrue result ↔ TakesUnits limits own size align live self.now number }
         ensures accesses { count.new ≡ count.old + 1 }
     {
         match self.at(number, count) {
             None => false,
             Some(heap) => {
-                let room = room_at(heap, align) as u64;
+                let room = room_at(heap, number, limits, align) as u64;
                 number != own
-                    && room >= units
-                    && heap.allocator().live_units() >= live
-                    && !must_raise(heap, number, limits)
+                    && room >= units_for(size, align)
+                    && is_fuller(size, own, live, number, heap.allocator().live_units())
+                    && !must_raise(heap, number, limits, align.min(2))
             }
         }
     }
 
-    /// The first heap, from a number on, that takes a range of the heap `own`, which has `live` live units.
+    /// The first heap, from a number on, that takes a range of `size` units of the heap `own`, which has `live`
+    /// live units.
     pub(crate) fn taker(
         &self,
         from: u32,
         numbers: u32,
         limits: Limits,
         own: u32,
-        units: u64,
+        size: u32,
         align: u32,
         live: u32,
         count: &mut Accesses,
     ) -> Option<u32>
-        requires some { 1 ≤ units }
         requires alignment { 1 ≤ align }
         requires from { from ≤ numbers }
         requires numbers { numbers ≤ length self.now }
         ensures first { MatchOption result
             ((k : ℕ) → from ≤ k → k < numbers
-            → TakesUnits limits own (blocks_needed align) units live self.now k → ⊥)
-            (λ k. (k < numbers) × TakesUnits limits own (blocks_needed align) units live self.now k
-            × ((j : ℕ) → from ≤ j → j < k
-            → TakesUnits limits own (blocks_needed align) units live self.now j → ⊥)) }
+            → TakesUnits limits own size align live self.now k → ⊥)
+            (λ k. (k < numbers) × TakesUnits limits own size align live self.now k
+            × ((j : ℕ) → from ≤ j → j < k → TakesUnits limits own size align live self.now j → ⊥)) }
         ensures accesses { count.new ≤ count.old + numbers }
     {
         for number in from..numbers {
-            if self.takes(number, limits, own, units, align, live, count) {
+            if self.takes(number, limits, own, size, align, live, count) {
                 return Some(number);
             }
         }

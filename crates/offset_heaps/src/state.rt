@@ -40,9 +40,8 @@ pub enum StateFaultKind {
     /// The realm of a heap is above that of the heap that was made last: the place is in the state of the heap.
     Realm,
     /// The size or the node limit of a heap. Where its number is below `most`: fewer units than the usual heap
-    /// of that number, a node limit below `first_allocs` or above `max_allocs`, or one below `max_allocs` with
-    /// fewer than three unused nodes; else no unit, or another node limit than a larger heap has. The place is
-    /// where the state of the heap begins.
+    /// of that number, or a node limit below `first_allocs` or above `max_allocs`; else no unit, or another node
+    /// limit than a larger heap has. The place is where the state of the heap begins.
     Size,
     /// The state of a heap has this fault: the place is that in its bytes, and counts from where all bytes
     /// begin.

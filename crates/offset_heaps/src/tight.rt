@@ -34,7 +34,7 @@ pub fn refusal_tight_aligned_counted<T: Tables>(
     let numbers = limits.most + limits.most_larger;
     if heaps
         .slots
-        .first_holding(numbers, size, align, count)
+        .first_holding(numbers, limits, size, align, count)
         .is_some()
     {
         return None;
@@ -60,15 +60,16 @@ impl<T: Tables> HeapsOf<T> {
         let limits = self.limits;
         let numbers = limits.most + limits.most_larger;
         self.slots
-            .first_holding(numbers, size, align, &mut self.accesses)
+            .first_holding(numbers, limits, size, align, &mut self.accesses)
     }
 
     // Grants a request in the heap of a number, a free block of which holds it, and whose node limit need not be raised.
     fn grant_tight_at(&mut self, number: u32, size: u32, align: u32) -> Granted
         requires there { number < length self.old.slots }
         requires alignment { 1 ≤ align }
-        requires holds { CanHoldIn size align (heap_at number self.old) }
-        requires stays { MustRaiseIn self.old.limits number (heap_at number self.old) → ⊥ }
+        requires holds { CanHoldIn self.old.limits number size align (heap_at number self.old) }
+        requires stays { MustRaiseIn self.old.limits number (blocks_needed align)
+            (heap_at number self.old) → ⊥ }
         ensures grants { GrantsTight size align self.old self.new result.place }
         ensures number { result.place.heap ≡ number }
         ensures found { result.is_new ≡ false }
@@ -104,7 +105,7 @@ impl<T: Tables> HeapsOf<T> {
         ensures accesses { (bits : ℕ) → numbers self.old ≤ 2 ^ bits
             → self.new.accesses ≤ self.old.accesses + 12 * bits + 11 }
     {
-        match self.raise(number) {
+        match self.raise(number, align.min(2)) {
             Err(_) => Err(Refusal::Memory),
             Ok(_) => Ok(self.grant_tight_at(number, size, align)),
         }
@@ -166,9 +167,9 @@ impl<T: Tables> HeapsOf<T> {
     /// Grants `size` units of any free block that holds them from a multiple of `align` on, from 1 on, in its
     /// heap: so heaps that are nearly full are filled.
     ///
-    /// It is the first heap, by number, that has a free block which holds the request where it begins, and unused
-    /// nodes for it, and it grants what `GuardedOf::allocate_tight_aligned` grants. So a heap that
-    /// has room for the same request of `allocate_aligned` grants this one, and others may. Where none holds it,
+    /// It is the first heap, by number, that has a free block which holds the request where it begins, and, under
+    /// its largest node limit, unused nodes for it, and it grants what `GuardedOf::allocate_tight_aligned`
+    /// grants. So a heap that has room for the same request of `allocate_aligned` grants this one, and others may. Where none holds it,
     /// another heap is made, exactly as by `allocate_aligned`: a usual one where the last of these has room for
     /// `size` units when it is fresh, else one of exactly `size` units. The node limit of the heap is raised before,
     /// where it has to be, as there.

@@ -4,6 +4,7 @@ ghost use Rattle.offset_heaps.specs.Heaps.{free_of, live_units_of, part, room_of
 
 use crate::HeapsOf;
 use crate::index::rooms;
+use crate::limits::Limits;
 use offset_allocator::laws::sizes_add_up;
 use offset_allocator::{Accesses, Tables};
 use offset_guarded::GuardedOf;
@@ -19,9 +20,9 @@ pub struct Totals {
     pub live_units: u64,
     /// The units of all free blocks.
     pub free_units: u64,
-    /// The largest `largest_free_region` of a heap, or 0 where there is none; one that has given all its
-    /// serials counts as 0 here, and in no other field. A request of at least one unit is granted by a heap
-    /// that is there exactly when it is at most this.
+    /// The largest `largest_free_region` of a heap, under its largest node limit, or 0 where there is none; one
+    /// that has given all its serials counts as 0 here, and in no other field. A request of at least one unit is
+    /// granted by a heap that is there, if memory for more nodes is given, exactly when it is at most this.
     pub largest_free_region: u32,
 }
 
@@ -38,7 +39,12 @@ fn live_free_all<T: Tables>(heap: &GuardedOf<T>) -> (u32, u32, u32)
 }
 
 // The numbers of some heaps, with those of one more.
-fn with_heap<T: Tables>(totals: Totals, heap: Option<&GuardedOf<T>>) -> Totals
+fn with_heap<T: Tables>(
+    totals: Totals,
+    heap: Option<&GuardedOf<T>>,
+    number: u32,
+    limits: Limits,
+) -> Totals
     requires heaps { totals.heaps + 1 < 2 ^ 32 }
     requires units { totals.units + 2 ^ 32 < 2 ^ 64 }
     requires add_up { totals.live_units + totals.free_units ≡ totals.units }
@@ -47,12 +53,12 @@ fn with_heap<T: Tables>(totals: Totals, heap: Option<&GuardedOf<T>>) -> Totals
     ensures live { result.live_units ≡ totals.live_units + part live_units_of (option_copied heap.entry) }
     ensures free { result.free_units ≡ totals.free_units + part free_of (option_copied heap.entry) }
     ensures largest { result.largest_free_region
-        ≡ max totals.largest_free_region (room_of 1 (option_copied heap.entry)) }
+        ≡ max totals.largest_free_region (room_of limits number 1 (option_copied heap.entry)) }
     ensures few { result.heaps ≤ totals.heaps + 1 }
     ensures small { result.units < totals.units + 2 ^ 32 }
     ensures add_up { result.live_units + result.free_units ≡ result.units }
 {
-    let (one, _) = rooms(heap);
+    let (one, _) = rooms(heap, number, limits);
     let largest = totals.largest_free_region.max(one);
     match heap {
         None => Totals {
@@ -86,7 +92,7 @@ impl<T: Tables> HeapsOf<T> {
     /// assert_eq!((totals.heaps, totals.live_units, totals.free_units), (1, 300, 700));
     /// ```
     pub fn totals(&self) -> Totals
-        ensures totals { AreTotals result self.now.slots }
+        ensures totals { AreTotals result self.now.limits self.now.slots }
         // No unit is lost.
         ensures add_up { result.live_units + result.free_units ≡ result.units }
     {
@@ -97,9 +103,10 @@ impl<T: Tables> HeapsOf<T> {
             free_units: 0,
             largest_free_region: 0,
         };
-        for number in 0..self.limits.most + self.limits.most_larger {
+        let limits = self.limits;
+        for number in 0..limits.most + limits.most_larger {
             let heap = self.slots.at(number, &mut Accesses::new());
-            totals = with_heap(totals, heap);
+            totals = with_heap(totals, heap, number, limits);
         }
         totals
     }

@@ -1,6 +1,6 @@
 //! Walks from one live range of a heap to the next in space. It changes nothing.
 ghost use Rattle.std.specs.Prelude.{◌≡◌, None, option_map};
-ghost use Rattle.offset_guarded.specs.declared.ticket.Ticket.{Ticket};
+ghost use Rattle.offset_guarded.specs.Guard.{Ticket};
 ghost use Rattle.offset_heaps.specs.Heaps.{IsLive, heap_at};
 ghost use Rattle.offset_heaps.specs.Numbering.{first_live_in, live_after_in};
 ghost use Rattle.offset_heaps.specs.Relocating.{last_live_in, live_before_in};
@@ -78,7 +78,7 @@ impl<T: Tables> HeapsOf<T> {
             ≡ live_before_in place.heap self.now.realm place.ticket (heap_at place.heap self.now) }
         ensures not_live { (IsLive place self.now → ⊥) → result ≡ None }
     {
-        match self.heap_of(place) {
+        match self.heap_of(&place) {
             None => None,
             Some(guarded) => self.place_at(place.heap, guarded.live_before(place.ticket)),
         }
@@ -97,7 +97,7 @@ impl<T: Tables> HeapsOf<T> {
             ≡ live_after_in place.heap self.now.realm place.ticket (heap_at place.heap self.now) }
         ensures not_live { (IsLive place self.now → ⊥) → result ≡ None }
     {
-        match self.heap_of(place) {
+        match self.heap_of(&place) {
             None => None,
             Some(guarded) => self.place_at(place.heap, guarded.live_after(place.ticket)),
         }

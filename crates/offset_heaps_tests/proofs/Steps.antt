@@ -8,6 +8,7 @@ use Rattle.offset_heaps.specs.declared.place.Place.{Place}
 use Rattle.offset_heaps.specs.declared.refusal.Refusal.{Refusal}
 use Rattle.offset_heaps.specs.Heaps.{Heaps, FreesIn, Grants, IsSame, Puts, heap_at}
 use Rattle.offset_allocator.specs.Moving.Compacting.{Move}
+use Rattle.offset_allocator.specs.Requests.{blocks_needed}
 use Rattle.offset_allocator.specs.declared.moves.room.RoomCost.{RoomCost}
 use Rattle.offset_guarded.specs.Guard.{Guard}
 use Rattle.offset_heaps.specs.Changing.{CompactsHeap, MakesRoomAt, ResizesAt, NewSize}
@@ -66,7 +67,7 @@ module _ (hs ks : Heaps) where
     | inl e ↦ inr (inl (size, align, g, new e))
     | inr e ↦
         let s = old e in
-        let realm : s.after.realm ≡ s.was.realm = s.grants.realm.1 ∙ raised_realm hs.limits g.place.heap s.was s.before s.raised in
+        let realm : s.after.realm ≡ s.was.realm = s.grants.realm.1 ∙ raised_realm hs.limits g.place.heap (blocks_needed align) s.was s.before s.raised in
         inr (inr (inr (inr (inr (inl (g.place.heap, record { before = s.was; after = s.after; heap = s.heap; by = realm; heaps = s.heaps }))))))
   ]
 

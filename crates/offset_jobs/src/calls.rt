@@ -149,8 +149,8 @@ pub fn calls(
         let played = play_guarded::<ByNode<u32>>(alloc, u32::MAX, 1_000_000, 7, &calls)?;
         add_replies(&played.replies, digest);
         for ticket in &played.tickets {
-            digest.add(ticket.serial);
-            digest.add(u64::from(ticket.offset) << 32 | u64::from(ticket.name));
+            digest.add(ticket.serial());
+            digest.add(u64::from(ticket.offset) << 32 | u64::from(ticket.name()));
         }
     }
     Ok(())

@@ -124,7 +124,7 @@ impl Work for PlayTickets {
         let played = play_guarded::<T>(alloc, script.size, limit, 7, &calls)?;
         put_replies(cells, &played.replies);
         for ticket in &played.tickets {
-            put(cells, ticket.serial);
+            put(cells, ticket.serial());
         }
         Ok(())
     }

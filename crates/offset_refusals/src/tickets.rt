@@ -26,7 +26,7 @@ fn call<T: Tables>(
             };
             match kept {
                 None => 1,
-                Some(ticket) => ticket.serial,
+                Some(ticket) => ticket.serial(),
             }
         }
         Some(ticket) => match kind {

@@ -28,6 +28,11 @@ AreLive v handles = (k x : ℕ) → kept_name handles k ≡ Some x → IsLive x 
 abbrev pub AreNamedApart : List (Option Handle) → Type 0
 AreNamedApart handles = (j k x : ℕ) → kept_name handles j ≡ Some x → kept_name handles k ≡ Some x → j ≡ k
 
+-- what contracts see of a player: its allocator, and the handles of the grants so far, that of grant k at k - 1 while the grant is live
+pub record Player : Type 0 where
+  pub space : View
+  pub handles : List (Option Handle)
+
 -- what holds of a space and the handles that are kept before and after each call: each is live, and no two have one name
 pub record AreHeld (v : View) (handles : List (Option Handle)) : Type 0 where
   pub live : AreLive v handles

@@ -57,7 +57,7 @@ pub enum Answer {
 /// It fails only where an allocation fails.
 ///
 /// ```
-/// let answer = full_answer(alloc, &player.space)?;
+/// let answer = full_answer(alloc, player.space())?;
 /// assert!(matches!(answer, Answer::Full(rows) if rows.len() == 1));
 /// ```
 pub fn full_answer<T: Tables>(alloc: Global, space: &AllocatorOf<T>) -> Result<Answer, AllocError>

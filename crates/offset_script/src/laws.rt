@@ -96,8 +96,8 @@ pub fn a_full_space_refuses()
         → (step command.Report s).answer ≡ machine.Report 0 0 }
 {}
 
-/// After a request to the space of a player, the handles that it keeps are live as before, each with a name of
-/// its own, and what was granted may be kept beside them: so `keep` may follow any request.
+/// After a request to a space, the handles that are kept of it are live as before, each with a name of its own,
+/// and what was granted may be kept beside them.
 pub fn a_grant_may_be_kept()
     ensures held { (n : ℕ) (v w : View) (handles : List (Option Handle)) (granted : Option Handle)
         → IfSome granted (Grants n v w) → (granted ≡ None → SameSpace v w)

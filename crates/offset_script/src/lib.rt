@@ -8,6 +8,8 @@ mod buffer;
 mod common_lines;
 mod devices;
 mod faults;
+#[doc(hidden)]
+pub mod keeper;
 pub mod laws;
 mod lines;
 mod listening;

@@ -1,32 +1,49 @@
-//! A player: it carries out commands on an allocator, of which it keeps the handles. No other module of this
-//! crate changes a space.
+//! A player: an allocator that takes commands one by one. Nothing but a command changes its space.
 
-ghost use Rattle.std.specs.Prelude.{◌≡◌, ◌+◌, ◌<◌, ◌≤◌, ℕ, IsTrue, [], length, slice_index_or, vec_len};
-ghost use Rattle.std.specs.Prelude.{vec_capacity, None, IfOk, IfSome, IsOk, OnErr, OnOk, option_map};
-ghost use Rattle.offset_script.specs.Steps.{kept_handle, kept_name, AreHeld, IsKept, MayBeKept, Stays, Takes};
+ghost use Rattle.std.specs.Prelude.{◌≡◌, ◌+◌, ◌<◌, ◌≤◌, [], IfOk, IfSome, IsTrue, OnErr, length, option_map};
+ghost use Rattle.offset_script.specs.Steps.{kept_handle, kept_name, AreHeld, Stays, Takes};
 ghost use Rattle.offset_script.specs.Machine.{answer_view};
 ghost use Rattle.offset_script.specs.Grammar.{has_valid_alignment};
 ghost use Rattle.offset_allocator.specs.Relations.{IsFresh};
 
-use crate::answers::{Answer, full_answer};
+use crate::answers::Answer;
+use crate::keeper::KeeperOf;
 use crate::scripts::Command;
 use offset_allocator::{Allocation, AllocatorOf, ByNode, NodeIndex, Tables};
 use std::alloc::{AllocError, Global};
+use std::marker::Model;
 
 /// A player of an allocator by node.
 pub type Player<NI = u32> = PlayerOf<ByNode<NI>>;
 
-/// An allocator, with the handles of its live grants: it takes commands one by one.
+/// An allocator, with the handles of its live grants: it takes commands one by one. Nothing else changes its
+/// space, so each handle that is kept is live, and no two have one name. What would free one, does not compile:
+///
+/// ```compile_fail
+/// let mut player = offset_script::Player::<u32>::start(offset_script::Global, 1000, 16).unwrap();
+/// player.space().free(player.handle(1).unwrap());
+/// ```
+///
+/// ```compile_fail
+/// let mut player = offset_script::Player::<u32>::start(offset_script::Global, 1000, 16).unwrap();
+/// player.keeper.handles.clear();
+/// ```
 #[derive(Drop)]
 pub struct PlayerOf<T: Tables> {
-    /// The allocator.
-    pub space: AllocatorOf<T>,
-    /// The handle of grant k is at k - 1 while the grant is live.
-    pub handles: Vec<Option<Allocation<T::Index>>>,
-    // Resets have removed the first handles, up to this number.
-    swept: usize,
-    ghost within: { swept ≤ vec_len handles },
-    ghost gone: { (k : ℕ) → k < swept → slice_index_or handles.items k None ≡ None },
+    keeper: KeeperOf<T>,
+}
+
+impl<T: Tables> Model for PlayerOf<T> {
+    ghost use Rattle.offset_script.specs.Steps.{AreHeld, Player};
+
+    ghost Value = { Player };
+
+    ghost view = { λ p. record {
+      space = p.keeper.space;
+      handles = p.keeper.handles.items;
+    } };
+
+    ghost invariant = { λ p. AreHeld p.keeper.space p.keeper.handles.items };
 }
 
 impl<T: Tables> PlayerOf<T> {
@@ -38,20 +55,41 @@ impl<T: Tables> PlayerOf<T> {
     ///
     /// ```
     /// let player = Player::<u16>::start(alloc, 1000, 16)?;
-    /// assert_eq!(player.space.size(), 1000);
+    /// assert_eq!(player.space().size(), 1000);
     /// ```
     pub fn start(alloc: Global, size: u32, max_allocs: u32) -> Result<Self, AllocError>
         requires low { 2 ≤ max_allocs }
         requires high { max_allocs + 1 < T.Index.MAX }
-        ensures fresh { IfOk result (λ p. IsFresh size max_allocs p.space × (p.handles.items ≡ [])) }
-        ensures held { IfOk result (λ p. AreHeld p.space p.handles.items) }
+        ensures fresh { IfOk result (λ p. IsFresh size max_allocs p.space × (p.handles ≡ [])) }
+        ensures held { IfOk result (λ p. AreHeld p.space p.handles) }
     {
-        let space = AllocatorOf::with_max_allocs(alloc, size, max_allocs)?;
-        Ok(PlayerOf {
-            space,
-            handles: Vec::new(alloc),
-            swept: 0,
-        })
+        let keeper = KeeperOf::start(alloc, size, max_allocs)?;
+        Ok(PlayerOf { keeper })
+    }
+
+    /// The allocator, to read.
+    ///
+    /// ```
+    /// player.call(alloc, Command::Alloc(300))?;
+    /// assert_eq!(player.space().free_units(), 700);
+    /// ```
+    pub fn space(&self) -> &AllocatorOf<T>
+        ensures { result.now ≡ self.now.space }
+    {
+        &self.keeper.space
+    }
+
+    /// The handles of the grants so far: that of grant k is at k - 1 while the grant is live.
+    ///
+    /// ```
+    /// player.call(alloc, Command::Alloc(300))?;
+    /// assert_eq!(player.handles(), [player.handle(1)]);
+    /// ```
+    pub fn handles(&self) -> &[Option<Allocation<T::Index>>]
+        ensures handles { result.now ≡ self.now.handles }
+        ensures held { AreHeld self.now.space self.now.handles }
+    {
+        &self.keeper.handles
     }
 
     /// The handle of the grant of this number, if it is live.
@@ -62,163 +100,14 @@ impl<T: Tables> PlayerOf<T> {
     /// ```
     pub fn handle(&self, number: u32) -> Option<Allocation<T::Index>>
         // The handle as it was kept, and so its name.
-        ensures handle { result ≡ kept_handle self.now.handles.items number }
-        ensures name { option_map (λ h. h.name) result ≡ kept_name self.now.handles.items number }
-        ensures within { IfSome result (λ h. (1 ≤ number)
-            × (number ≤ length self.now.handles.items)) }
+        ensures handle { result ≡ kept_handle self.now.handles number }
+        ensures name { option_map (λ h. h.name) result ≡ kept_name self.now.handles number }
+        ensures within { IfSome result (λ h. (1 ≤ number) × (number ≤ length self.now.handles)) }
     {
-        if number == 0 {
-            return None;
-        }
-        match self.handles.get(number as usize - 1) {
-            Some(handle) => *handle,
-            None => None,
-        }
-    }
-
-    /// The answer to a request with this result. The handle of a grant is kept under the next number: it has
-    /// to be live in `space`, and not kept yet.
-    ///
-    /// # Errors
-    ///
-    /// It fails only where an allocation fails, and never while `handles` has room for one more. Then the
-    /// grant is live, and not kept: to free it, or to keep it later, is left to the caller.
-    ///
-    /// ```
-    /// let granted = player.space.allocate(300);
-    /// player.keep(granted)?;
-    /// assert_eq!(player.handle(1), granted);
-    /// ```
-    pub fn keep(&mut self, granted: Option<Allocation<T::Index>>) -> Result<Answer, AllocError>
-        // Each handle that is kept is live, and no two have one name; so it is before and after each call.
-        requires held { AreHeld self.old.space self.old.handles.items }
-        // The grant is live, and no handle that is kept has its name.
-        requires granted { MayBeKept granted self.old.space self.old.handles.items }
-        ensures handle { IfOk result (λ a. IsKept granted self.old.handles.items
-            self.new.handles.items (answer_view a)) }
-        ensures held { AreHeld self.new.space self.new.handles.items }
-        // The space is never touched, and where memory is refused, no handle either.
-        ensures space { self.new.space ≡ self.old.space }
-        ensures same { OnErr result (self.new.handles.items ≡ self.old.handles.items) }
-        // With room for one more handle it takes no memory.
-        ensures succeeds { vec_len self.old.handles < vec_capacity self.old.handles → IsOk result }
-    {
-        match granted {
-            None => Ok(Answer::Refused),
-            Some(handle) => {
-                self.handles.push(Some(handle))?;
-                Ok(Answer::Grant {
-                    number: self.handles.len() as u64,
-                    offset: handle.offset,
-                })
-            }
-        }
-    }
-
-    // Makes room for one more handle. It comes before a request, so that no grant is without a number.
-    fn reserve(&mut self) -> Result<(), AllocError>
-        ensures room { OnOk result (vec_len self.new.handles < vec_capacity self.new.handles) }
-        ensures same { Stays self.old.space self.old.handles.items self.new.space self.new.handles.items }
-    {
-        self.handles.reserve(1)
-    }
-
-    // The answer to `alloc`.
-    fn allocate(&mut self, size: u32) -> Result<Answer, AllocError>
-        requires { AreHeld self.old.space self.old.handles.items }
-        ensures takes { IfOk result (λ a. Takes (Command.Alloc size) self.old.space self.old.handles.items
-            self.new.space self.new.handles.items (answer_view a)) }
-        ensures held { AreHeld self.new.space self.new.handles.items }
-        ensures same { OnErr result (Stays self.old.space self.old.handles.items
-            self.new.space self.new.handles.items) }
-    {
-        self.reserve()?;
-        let granted = self.space.allocate(size);
-        self.keep(granted)
-    }
-
-    // The answer to `free`. The grant's handle is removed.
-    fn release(&mut self, number: u32) -> Answer
-        requires { AreHeld self.old.space self.old.handles.items }
-        ensures takes { Takes (Command.Free number) self.old.space self.old.handles.items
-            self.new.space self.new.handles.items (answer_view result) }
-        ensures held { AreHeld self.new.space self.new.handles.items }
-    {
-        match self.handle(number) {
-            None => Answer::Gone,
-            Some(handle) => {
-                self.space.free(handle);
-                self.handles[number as usize - 1] = None;
-                Answer::Freed
-            }
-        }
-    }
-
-    // The answer to `size`.
-    fn size(&self, number: u32) -> Answer
-        ensures { Takes (Command.Size number) self.now.space self.now.handles.items
-            self.now.space self.now.handles.items (answer_view result) }
-    {
-        match self.handle(number) {
-            None => Answer::Gone,
-            Some(handle) => Answer::Size(self.space.allocation_size(handle)),
-        }
-    }
-
-    // The answer to `report`.
-    fn report(&self) -> Answer
-        ensures { Takes Command.Report self.now.space self.now.handles.items
-            self.now.space self.now.handles.items (answer_view result) }
-    {
-        Answer::Report(self.space.storage_report())
-    }
-
-    // The answer to `reset`. All handles are removed, and numbers go on.
-    fn reset(&mut self) -> Answer
-        ensures takes { Takes Command.Reset self.old.space self.old.handles.items
-            self.new.space self.new.handles.items (answer_view result) }
-        ensures held { AreHeld self.new.space self.new.handles.items }
-    {
-        self.space.reset();
-        for i in self.swept..self.handles.len() {
-            self.handles[i] = None;
-        }
-        self.swept = self.handles.len();
-        Answer::Reset
-    }
-
-    // The answer to `align`.
-    fn allocate_aligned(&mut self, size: u32, align: u32) -> Result<Answer, AllocError>
-        requires alignment { IsTrue (has_valid_alignment (Command.Align size align)) }
-        requires held { AreHeld self.old.space self.old.handles.items }
-        ensures takes { IfOk result (λ a. Takes (Command.Align size align) self.old.space self.old.handles.items
-            self.new.space self.new.handles.items (answer_view a)) }
-        ensures held { AreHeld self.new.space self.new.handles.items }
-        ensures same { OnErr result (Stays self.old.space self.old.handles.items
-            self.new.space self.new.handles.items) }
-    {
-        self.reserve()?;
-        let granted = self.space.allocate_aligned(size, align);
-        self.keep(granted)
-    }
-
-    // The answer to `extend`.
-    fn extend(&mut self, more: u32) -> Answer
-        requires { AreHeld self.old.space self.old.handles.items }
-        ensures takes { Takes (Command.Extend more) self.old.space self.old.handles.items
-            self.new.space self.new.handles.items (answer_view result) }
-        ensures held { AreHeld self.new.space self.new.handles.items }
-    {
-        if self.space.extend(more) {
-            Answer::Extended
-        } else {
-            Answer::Refused
-        }
+        self.keeper.handle(number)
     }
 
     /// Carries out one command, and returns its answer. The alignment of a request has to be at least 1.
-    /// Each handle that is kept has to be live, and no two may have one name: so it is in a player that
-    /// `start` made, and after each `call` and each `keep`.
     ///
     /// # Errors
     ///
@@ -230,26 +119,16 @@ impl<T: Tables> PlayerOf<T> {
     /// assert!(matches!(answer, Answer::Grant { number: 1, offset: 0 }));
     /// ```
     pub fn call(&mut self, alloc: Global, command: Command) -> Result<Answer, AllocError>
-        requires held { AreHeld self.old.space self.old.handles.items }
         requires alignment { IsTrue (has_valid_alignment command) }
         // The step of the command, with its answer.
-        ensures takes { IfOk result (λ a. Takes command self.old.space self.old.handles.items
-            self.new.space self.new.handles.items (answer_view a)) }
-        // So the next call may follow.
-        ensures held { AreHeld self.new.space self.new.handles.items }
+        ensures takes { IfOk result (λ a. Takes command self.old.space self.old.handles
+            self.new.space self.new.handles (answer_view a)) }
+        // Each handle that is kept is live, and no two have one name.
+        ensures held { AreHeld self.new.space self.new.handles }
         // Where memory is refused, nothing is done.
-        ensures same { OnErr result (Stays self.old.space self.old.handles.items
-            self.new.space self.new.handles.items) }
+        ensures same { OnErr result (Stays self.old.space self.old.handles
+            self.new.space self.new.handles) }
     {
-        match command {
-            Command::Alloc(size) => self.allocate(size),
-            Command::Free(number) => Ok(self.release(number)),
-            Command::Size(number) => Ok(self.size(number)),
-            Command::Report => Ok(self.report()),
-            Command::Full => full_answer(alloc, &self.space),
-            Command::Reset => Ok(self.reset()),
-            Command::Align(size, align) => self.allocate_aligned(size, align),
-            Command::Extend(more) => Ok(self.extend(more)),
-        }
+        self.keeper.call(alloc, command)
     }
 }

@@ -41,14 +41,16 @@ pub(crate) fn play_to<T: Tables, L: Listener>(
         AreStepsFromFresh Takes size max_allocs cs (answers cs (start size max_allocs))) }
 {
     let mut player: PlayerOf<T> = PlayerOf::start(alloc, size, max_allocs)?;
+    let fresh = player.space();
     // A step of the proof, which does nothing, here and below.
-    is_well_formed(&player.space);
-    let mut listener = L::begin(alloc, &player.space, commands.len())?;
+    is_well_formed(fresh);
+    let mut listener = L::begin(alloc, fresh, commands.len())?;
     for command in commands {
         let asked = L::played(*command);
         let answer = player.call(alloc, asked)?;
-        is_well_formed(&player.space);
-        listener.hear(alloc, &player.space, asked, answer)?;
+        let space = player.space();
+        is_well_formed(space);
+        listener.hear(alloc, space, asked, answer)?;
     }
     Ok(listener)
 }

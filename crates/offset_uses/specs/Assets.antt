@@ -2,8 +2,7 @@
 use Rattle.std.specs.Prelude.{◌≡◌, ◌↔◌, ℕ, Option, None, IfSome, IsSome}
 use Rattle.offset_allocator.specs.Relations.{Frees}
 use Rattle.offset_allocator.specs.Requests.{CanGrant}
-use Rattle.offset_guarded.specs.declared.ticket.Ticket.{Ticket}
-use Rattle.offset_guarded.specs.Guard.{Guard, Grants, HasSerialLeft, IsLive, IsSame, range_of}
+use Rattle.offset_guarded.specs.Guard.{Guard, Grants, HasSerialLeft, IsLive, IsSame, Ticket, range_of}
 
 -- the range of a ticket is freed, where it is live; all serials stay
 pub record Unloads (t : Ticket) (g h : Guard) : Type 0 where

@@ -1,8 +1,7 @@
 //! An asset pool whose loaders call back late, twice, or after the pool was emptied.
 
 ghost use Rattle.std.specs.Prelude.{◌≡◌, Some, None, IfSome};
-ghost use Rattle.offset_guarded.specs.declared.ticket.Ticket.{Ticket};
-ghost use Rattle.offset_guarded.specs.Guard.{AreAlike, Guard, KeepsOthers, IsLive, range_of};
+ghost use Rattle.offset_guarded.specs.Guard.{AreAlike, Guard, KeepsOthers, IsLive, Ticket, range_of};
 ghost use Rattle.offset_uses.specs.Assets.{Loads, Unloads};
 
 use offset_allocator::Tables;

@@ -1,5 +1,4 @@
-//! A player beside an engine: commands one after the other, and ranges that the engine requests by itself.
-//! Proved from the contracts of a player alone.
+//! A player of commands, one after the other. Proved from the contracts of a player alone.
 
 ghost use Rattle.std.specs.Prelude.{◌≡◌, ◌+◌, ◌<◌, ◌⊎◌, IfOk, IsTrue, List, Option, length};
 ghost use Rattle.offset_allocator.specs.View.{Handle, View};
@@ -9,7 +8,6 @@ ghost use Rattle.offset_script.specs.Machine as machine;
 ghost use Rattle.offset_script.specs.Steps.{AreHeld, Takes};
 
 use offset_allocator::Tables;
-use offset_script::laws::a_grant_may_be_kept;
 use offset_script::{Answer, Command, PlayerOf};
 use std::alloc::{AllocError, Global};
 
@@ -20,38 +18,31 @@ pub fn two_commands<T: Tables>(
     first: Command,
     second: Command,
 ) -> Result<(Answer, Answer), AllocError>
-    requires held { AreHeld player.old.space player.old.handles.items }
     requires first { IsTrue (has_valid_alignment first) }
     requires second { IsTrue (has_valid_alignment second) }
     ensures takes { IfOk result (λ a. (v : View) × (kept : List (Option Handle))
-        × Takes first player.old.space player.old.handles.items v kept (answer_view a.0)
-        × Takes second v kept player.new.space player.new.handles.items (answer_view a.1)) }
-    ensures held { AreHeld player.new.space player.new.handles.items }
+        × Takes first player.old.space player.old.handles v kept (answer_view a.0)
+        × Takes second v kept player.new.space player.new.handles (answer_view a.1)) }
+    ensures held { AreHeld player.new.space player.new.handles }
 {
     let answer = player.call(alloc, first)?;
     let other = player.call(alloc, second)?;
     Ok((answer, other))
 }
 
-/// Requests a range of a player's space, keeps its handle, and frees it by its number. The answer is `Freed`,
-/// or `Refused` where the request is.
-pub fn keep_and_free<T: Tables>(
+/// Requests a range, and frees it by the number of its grant. The answer is `Freed`, or `Refused` where the
+/// request is.
+pub fn request_and_free<T: Tables>(
     alloc: Global,
     player: &mut PlayerOf<T>,
     size: u32,
 ) -> Result<Answer, AllocError>
-    requires held { AreHeld player.old.space player.old.handles.items }
-    requires few { length player.old.handles.items + 1 < 4294967296 }
+    requires few { length player.old.handles + 1 < 4294967296 }
     ensures answer { IfOk result (λ a. (answer_view a ≡ machine.Freed) ⊎ (answer_view a ≡ machine.Refused)) }
-    ensures held { AreHeld player.new.space player.new.handles.items }
+    ensures held { AreHeld player.new.space player.new.handles }
 {
-    // A step of the proof, which does nothing.
-    a_grant_may_be_kept();
-    let granted = player.space.allocate(size);
-    if granted.is_none() {
-        return Ok(Answer::Refused);
+    match player.call(alloc, Command::Alloc(size))? {
+        Answer::Grant { number, .. } => player.call(alloc, Command::Free(number as u32)),
+        other => Ok(other),
     }
-    player.keep(granted)?;
-    let number = player.handles.len() as u32;
-    player.call(alloc, Command::Free(number))
 }

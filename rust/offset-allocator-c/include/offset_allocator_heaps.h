@@ -39,9 +39,9 @@ typedef struct oah_heaps oah_heaps;
  * has none and whose heap has room for the request.
  *
  * first_allocs: 0, and a usual heap has the node limit max_allocs; or the limit that it begins with, at least 8 and at most
- * max_allocs: it takes memory for the nodes of its limit, and before a grant that finds fewer than five unused nodes the
- * limit is doubled, up to max_allocs. Which request is granted, and where, is the same, but oah_relocate takes no memory: a
- * heap that would have to get nodes takes no range. */
+ * max_allocs: it takes memory for the nodes of its limit, which is doubled, up to max_allocs, as a part of the grant that has
+ * too few. Which request is granted, and where, is the same, but oah_relocate and oah_shrink take no memory: a heap that
+ * would have to get nodes takes no range, and none there is shrunk that needs one. */
 typedef struct oah_limits {
     uint32_t size;
     uint32_t max_allocs;
@@ -154,11 +154,12 @@ uint32_t oah_offset_of(const oah_heaps *heaps, oah_place place);
 
 /* Grants a second range of as many units as that of a place, in the first other heap, by number, that has room and in which
  * at least as many units are live, and returns its place; the old one stays live. Its serial is 0 where no heap takes the
- * range, or the place is not live; then nothing changes. No heap is made. Such calls, each followed by the release of its
- * old range before the next one, come to an end, since the sum of the squares of the heaps' live units grows at each; with
- * later releases a range may go to and fro: make one pass, free what it left, then begin the next. The range begins at any
- * multiple: for one at an alignment see oah_relocate_aligned. Done for each live range of the emptiest heap, it empties
- * that heap, for oah_drop_empty:
+ * range, or the place is not live; then nothing changes. No heap is made. A range of no units, which oah_shrink may leave, needs
+ * room for one, and goes to a heap with more live units or, of as many, with a lower number. Such calls, each followed by the
+ * release of its old range before the next one, come to an end, since the sum of the squares of the heaps' live units grows
+ * at each that has units; with later releases a range may go to and fro: make one pass, free what it left, then begin the
+ * next. The range begins at any multiple: for one at an alignment see oah_relocate_aligned. Done for each live range of the
+ * emptiest heap, it empties that heap, for oah_drop_empty:
  *
  *     uint32_t from = oah_emptiest(heaps);
  *     for (oah_place old = oah_last_live(heaps, from), next; old.ticket.serial; old = next) {
@@ -170,8 +171,8 @@ uint32_t oah_offset_of(const oah_heaps *heaps, oah_place place);
  * Cost: that of oah_allocate, and at most one read of each number. */
 oah_place oah_relocate(oah_heaps *heaps, oah_place place);
 
-/* The same at a multiple of align, which is at least 1, in the heap, which needs room for as many units and align - 1 more. Its
- * serial is 0 also where align is 0. */
+/* The same at a multiple of align, which is at least 1, in the heap, which needs room for as many units and align - 1 more, or
+ * for one. Its serial is 0 also where align is 0. */
 oah_place oah_relocate_aligned(oah_heaps *heaps, oah_place place, uint32_t align);
 
 /* The number of the heap with the fewest live units, of those that have a live range, the last such; OA_NO_SPACE where
@@ -226,8 +227,8 @@ oah_reason oah_refusal_tight(const oah_heaps *heaps, uint32_t size);
 oah_reason oah_refusal_tight_aligned(const oah_heaps *heaps, uint32_t size, uint32_t align);
 
 /* As oag_extend, of the heap of a number, whose buffer became larger in place: true if done. Every place keeps its range. A
- * usual heap that has fewer than five unused nodes, and may have more, gets them first, as before a grant. False,
- * and nothing changes, also where the number has no heap, or the memory for these was refused. */
+ * usual heap that needs more nodes for the units, and may have them, gets them first. False, and nothing changes, also where
+ * the number has no heap, or the memory for these was refused. */
 bool oah_extend_heap(oah_heaps *heaps, uint32_t number, uint32_t more);
 
 /* As oag_compact, of the heap of a number: true if there is one. Every place stays live; a range that moves begins at

@@ -3,11 +3,11 @@
 use core::ffi::c_void;
 use core::ptr::NonNull;
 
-use offset_allocator_heaps::{json_of, Global, Granted, Heaps, Limits, Place, ReadError, Refusal, StateFaultKind, Ticket};
+use offset_allocator_heaps::{json_of, Global, Granted, Heaps, Limits, Place, ReadError, Refusal, StateFaultKind};
 use offset_allocator_proved::Move;
 
 use crate::{
-    boxed, calls, guarded_fault, room, seen, short, text, totals, Callback, Found, Guard, Moved, Report, Room, State, Text, Totals, NO_REPORT,
+    boxed, calls, guard, guarded_fault, room, seen, short, text, ticket, totals, Callback, Found, Guard, Moved, Report, Room, State, Text, Totals, NO_REPORT,
     NO_SPACE, NO_TICKET,
 };
 
@@ -89,8 +89,7 @@ const NOTHING_AT_ALL: All = All { heaps: 0, largest_free_region: 0, units: 0, li
 
 fn at(found: Option<Place>) -> At {
     found.map_or(NOWHERE, |Place { heap, realm, ticket }| {
-        let ticket = Guard { serial: ticket.serial, name: ticket.name, realm: ticket.realm };
-        At { ticket, heap, realm }
+        At { ticket: guard(Some(ticket)), heap, realm }
     })
 }
 
@@ -111,10 +110,8 @@ fn answer(result: Result<Granted, Refusal>) -> Answer {
     }
 }
 
-// No call reads the offset of a ticket.
-fn place(at: At) -> Place {
-    let Guard { serial, name, realm } = at.ticket;
-    Place { heap: at.heap, realm: at.realm, ticket: Ticket { offset: 0, name, serial, realm } }
+fn place(At { ticket: guard, heap, realm }: At) -> Place {
+    Place { heap, realm, ticket: ticket(guard) }
 }
 
 // Calls C with the number of a heap and each move in it, where it passed a function.

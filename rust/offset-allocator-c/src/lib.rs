@@ -240,12 +240,17 @@ fn handle(allocation: Option<Allocation>) -> Handle {
 const NO_TICKET: Guard = Guard { serial: 0, name: NO_SPACE, realm: 0 };
 
 fn guard(ticket: Option<Ticket>) -> Guard {
-    ticket.map_or(NO_TICKET, |ticket| Guard { serial: ticket.serial, name: ticket.name, realm: ticket.realm })
+    ticket.map_or(NO_TICKET, |ticket| Guard { serial: ticket.serial(), name: ticket.name(), realm: ticket.realm() })
 }
 
-// No call reads the offset of a ticket.
+// A ticket that is never live, since no grant has the serial 0.
+fn no_ticket() -> Ticket {
+    Ticket::from_parts(0, 0, 0, 0).unwrap()
+}
+
+// No call reads the offset of a ticket. `NO_SPACE` is no name, so no ticket with it is live.
 fn ticket(guard: Guard) -> Ticket {
-    Ticket { offset: 0, name: guard.name, serial: guard.serial, realm: guard.realm }
+    Ticket::from_parts(0, guard.name, guard.serial, guard.realm).unwrap_or_else(no_ticket)
 }
 
 // The allocation of a handle, if it is live.

@@ -291,7 +291,7 @@ static void filled(void) {
     oah_drop(heaps);
 }
 
-/* A heap begins with 8 nodes, which are doubled before a grant that finds fewer than five unused, up to 40; a larger heap has 4. */
+/* A heap begins with 8 nodes, which are doubled as a part of the grant that has too few, up to 40; a larger heap has 4. */
 static void heaps_grow(void) {
     oah_limits limits = {.size = 200, .max_allocs = 40, .most = 2, .most_larger = 1};
     oah_limits small = limits, all = limits, less = limits, more = limits, six = {.size = 200, .max_allocs = 7, .most = 2, .first_allocs = 6};
@@ -307,8 +307,8 @@ static void heaps_grow(void) {
         oa_totals found = oah_statistics(heaps, 0);
         uint32_t now = found.live_ranges + found.free_blocks + found.unused_nodes;
         if (now != limit) {
-            /* with one live range less and the free block at the end four nodes were unused */
-            CHECK(now == (limit == 32 ? 40 : 2 * limit) && live == limit - 4);
+            /* with one live range less and the free block at the end one node was unused, as one always is */
+            CHECK(now == (limit == 32 ? 40 : 2 * limit) && live == limit - 1);
             limit = now;
             grown++;
         }

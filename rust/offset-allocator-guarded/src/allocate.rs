@@ -18,12 +18,7 @@ fn ticket_for<T: Tables>(
 ) -> Ticket {
     serials.cover(space.node_count());
     let (offset, name) = handle.to_parts();
-    Ticket {
-        offset,
-        name,
-        serial: serials.give(name),
-        realm,
-    }
+    Ticket::of(offset, name, serials.give(name), realm)
 }
 
 /// As `would_begin` of `Guarded`. The count grows by at most 4.

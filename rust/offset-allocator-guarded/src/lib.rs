@@ -94,7 +94,7 @@ impl<T: Tables> GuardedOf<T> {
     /// # use offset_allocator_guarded::*;
     /// # let alloc = Global;
     /// let mut guarded = Guarded::<u16>::with_realm(alloc, 1000, 3, 7)?;
-    /// assert_eq!(guarded.allocate(10).unwrap().realm, 7);
+    /// assert_eq!(guarded.allocate(10).unwrap().realm(), 7);
     /// assert!(guarded.allocate(10).is_none());
     /// # Ok::<(), AllocError>(())
     /// ```
@@ -229,10 +229,10 @@ impl<T: Tables> GuardedOf<T> {
     // The handle of a live ticket.
     #[inline(always)]
     fn handle(&self, ticket: Ticket) -> Option<Allocation<T::Index>> {
-        if ticket.realm != self.realm || ticket.serial != self.serials.at(ticket.name) {
+        if ticket.realm() != self.realm || ticket.serial() != self.serials.at(ticket.name()) {
             return None;
         }
-        let Some(handle) = Allocation::from_parts(ticket.offset, ticket.name) else {
+        let Some(handle) = Allocation::from_parts(ticket.offset, ticket.name()) else {
             return None;
         };
         if self.space.is_live(handle) {
@@ -316,12 +316,7 @@ impl<T: Tables> GuardedOf<T> {
         let (_, name) = handle.to_parts();
         match self.space.allocation_offset(handle) {
             None => None,
-            Some(offset) => Some(Ticket {
-                offset,
-                name,
-                serial: self.serials.at(name),
-                realm: self.realm,
-            }),
+            Some(offset) => Some(Ticket::of(offset, name, self.serials.at(name), self.realm)),
         }
     }
 

@@ -35,7 +35,7 @@ pub struct Beside<V> {
 
 // Whether two tickets of one name are of one grant.
 fn are_alike(one: Ticket, other: Ticket) -> bool {
-    one.serial == other.serial && one.realm == other.realm
+    one.serial() == other.serial() && one.realm() == other.realm()
 }
 
 impl<V> Beside<V> {
@@ -58,7 +58,7 @@ impl<V> Beside<V> {
 
     // Puts a value under the name of a ticket, and returns what was there.
     fn put_at(&mut self, ticket: Ticket, value: V) -> Result<Option<(Ticket, V)>, V> {
-        let name = ticket.name as usize;
+        let name = ticket.name() as usize;
         if self.cover(name + 1).is_err() {
             return Err(value);
         }
@@ -109,7 +109,7 @@ impl<V> Beside<V> {
     /// # Ok::<(), AllocError>(())
     /// ```
     pub fn get(&self, ticket: Ticket) -> Option<&V> {
-        match self.cells.get(ticket.name as usize) {
+        match self.cells.get(ticket.name() as usize) {
             Some(Some((kept, value))) => {
                 if are_alike(*kept, ticket) {
                     Some(value)
@@ -137,7 +137,7 @@ impl<V> Beside<V> {
         if self.get(ticket).is_none() {
             return None;
         }
-        match replace(&mut self.cells[ticket.name as usize], None) {
+        match replace(&mut self.cells[ticket.name() as usize], None) {
             Some((_ticket, value)) => Some(value),
             None => unreachable!(),
         }

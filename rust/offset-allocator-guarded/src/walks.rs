@@ -24,12 +24,7 @@ impl<T: Tables> GuardedOf<T> {
     // The present ticket of a handle.
     fn ticket_at(&self, handle: Allocation<T::Index>) -> Ticket {
         let (offset, name) = handle.to_parts();
-        Ticket {
-            offset,
-            name,
-            serial: self.serials.at(name),
-            realm: self.realm,
-        }
+        Ticket::of(offset, name, self.serials.at(name), self.realm)
     }
 
     /// The ticket of the live range that is the first one in space, as `Allocator::first_live` finds it, or

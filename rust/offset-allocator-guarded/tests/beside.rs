@@ -10,7 +10,7 @@ use std::collections::HashMap;
 type Key = (u32, u64, u32);
 
 fn key(ticket: Ticket) -> Key {
-    (ticket.name, ticket.serial, ticket.realm)
+    (ticket.name(), ticket.serial(), ticket.realm())
 }
 
 // One of the last tickets.
@@ -33,7 +33,7 @@ fn values_are_those_of_a_map() {
             0 => {
                 if let Some(ticket) = space.allocate(1 + (number / 4 % 60) as u32) {
                     tickets.push(ticket);
-                    let earlier = model.iter().find(|(key, _)| key.0 == ticket.name).map(|(key, _)| *key);
+                    let earlier = model.iter().find(|(key, _)| key.0 == ticket.name()).map(|(key, _)| *key);
                     let was = earlier.and_then(|key| model.remove(&key));
                     assert_eq!(names.put(&space, ticket, step.to_string()), Ok(was));
                     model.insert(key(ticket), (ticket, step.to_string()));
@@ -59,9 +59,10 @@ fn values_are_those_of_a_map() {
                 let value = model.get(&key(ticket)).map(|(_, value)| value);
                 assert_eq!(names.get(ticket), value);
                 // a ticket counts by name, serial and realm
-                let moved = Ticket { offset: ticket.offset ^ 1, ..ticket };
+                let (offset, name, serial, realm) = ticket.to_parts();
+                let moved = Ticket::from_parts(offset ^ 1, name, serial, realm).unwrap();
                 assert_eq!(names.get(moved), value);
-                assert_eq!(names.get(Ticket { realm: 2, ..ticket }), None);
+                assert_eq!(names.get(Ticket::from_parts(offset, name, serial, 2).unwrap()), None);
                 stale += u32::from(value.is_none());
             }
             _ => {}
@@ -69,7 +70,7 @@ fn values_are_those_of_a_map() {
     }
     assert!(stale > 1_000 && replaced > 100);
     let mut left: Vec<(Ticket, String)> = model.into_values().collect();
-    left.sort_by_key(|(ticket, _)| ticket.name);
+    left.sort_by_key(|(ticket, _)| ticket.name());
     let leaks: Vec<(Ticket, String)> = names.leaks().iter().flatten().cloned().collect();
     assert_eq!(leaks, left);
 }
@@ -119,13 +120,15 @@ fn tickets_that_are_not_live_get_no_value() {
     assert_eq!(names.put(&space, stale, "stale"), Ok(None));
     space.free(stale);
     let live = space.allocate(10).unwrap();
-    assert_eq!(live.name, stale.name);
+    assert_eq!(live.name(), stale.name());
     // the value of an earlier grant comes out, and the earlier ticket does not displace the later one's
     assert_eq!(names.put(&space, live, "live"), Ok(Some((stale, "stale"))));
     assert_eq!(names.put(&space, stale, "again"), Err("again"));
     assert_eq!(names.get(live), Some(&"live"));
     // no memory is taken for a name that no node has, nor of a ticket of another space
-    for made_up in [Ticket { name: 20_000_000, ..live }, Ticket { serial: 3, ..live }, Ticket { realm: other.realm(), ..live }] {
+    let (offset, name, serial, realm) = live.to_parts();
+    for (name, serial, realm) in [(20_000_000, serial, realm), (name, 3, realm), (name, serial, other.realm())] {
+        let made_up = Ticket::from_parts(offset, name, serial, realm).unwrap();
         assert_eq!(names.put(&space, made_up, "made up"), Err("made up"));
     }
     assert_eq!(names.put(&other, live, "other"), Err("other"));

@@ -48,7 +48,7 @@ impl<T: Tables<Index = u32>> Worked<T> {
     fn grant(&mut self, granted: Option<Ticket>) -> (u64, Option<Ticket>) {
         if let Some(ticket) = granted {
             self.held.push(ticket);
-            self.last.insert(ticket.name, ticket.serial);
+            self.last.insert(ticket.name(), ticket.serial());
         }
         (u64::from(granted.is_some()), granted)
     }
@@ -220,7 +220,7 @@ fn changed_states_are_read_or_refused() {
                 let mut freed = Vec::new();
                 for handle in own.space.allocator().blocks().filter_map(|it| it.allocation) {
                     let ticket = other.space.ticket(handle).unwrap();
-                    assert!(ticket.serial >= 1 && ticket.serial <= numbers[3]);
+                    assert!(ticket.serial() >= 1 && ticket.serial() <= numbers[3]);
                     if random.below(2) == 0 {
                         assert!(other.space.free(ticket));
                         freed.push(ticket);
@@ -228,7 +228,7 @@ fn changed_states_are_read_or_refused() {
                 }
                 for _ in 0..6 {
                     if let (_, Some(ticket)) = other.call(&mut random) {
-                        assert!(ticket.serial > numbers[3]);
+                        assert!(ticket.serial() > numbers[3]);
                     }
                     assert!(freed.iter().all(|it| !other.space.is_live(*it)));
                 }
@@ -293,6 +293,6 @@ fn the_last_serial_may_be_given() {
     assert!(spent.is_spent() && spent.allocate(1).is_none() && spent.is_live(first) && spent.free(first));
     numbers[3] -= 1;
     let mut last = known(GuardedOf::<ByNode<u32>>::read_state(Global, &joined(&numbers, &rest), 10)).unwrap();
-    assert_eq!(last.allocate(1).map(|it| it.serial), Some(u64::MAX));
+    assert_eq!(last.allocate(1).map(|it| it.serial()), Some(u64::MAX));
     assert!(last.is_spent() && last.allocate(1).is_none());
 }

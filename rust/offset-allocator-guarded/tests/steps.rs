@@ -503,11 +503,11 @@ fn play_with_tickets<T: Tables>(random: &mut Random) {
         assert_eq!((is_done, &moves), (plain_done, &plain_moves));
         assert_eq!(is_done, wanted.is_done);
         for ticket in &held {
-            let place = ranges.iter().position(|it| it.0.name() == ticket.name).unwrap();
+            let place = ranges.iter().position(|it| it.0.name() == ticket.name()).unwrap();
             assert!(copy.is_live(*ticket));
             assert_eq!((copy.size_of(*ticket), copy.offset_of(*ticket)), (Some(ranges[place].2), Some(wanted.offsets[place])));
             let ticketed = copy.ticket(ranges[place].0).unwrap();
-            assert_eq!((ticketed.serial, ticketed.realm), (ticket.serial, 7));
+            assert_eq!((ticketed.serial(), ticketed.realm()), (ticket.serial(), 7));
         }
         for ticket in &gone {
             assert!(!copy.is_live(*ticket) && copy.offset_of(*ticket).is_none());
@@ -515,7 +515,7 @@ fn play_with_tickets<T: Tables>(random: &mut Random) {
         assert_eq!(parts(copy.allocator()), parts(&plain));
         // the next serial is that of before
         if let (Some(there), Some(here)) = (copy.allocate(0), space.try_clone(Global).unwrap().allocate(0)) {
-            assert_eq!(there.serial, here.serial);
+            assert_eq!(there.serial(), here.serial());
         }
     }
 }

@@ -44,7 +44,7 @@ struct Run<NI: NodeIndex> {
 }
 
 fn key(ticket: Ticket) -> Key {
-    (ticket.name, ticket.serial, ticket.realm)
+    (ticket.name(), ticket.serial(), ticket.realm())
 }
 
 impl<NI: NodeIndex> Run<NI> {
@@ -52,7 +52,7 @@ impl<NI: NodeIndex> Run<NI> {
         Run {
             space: Guarded::with_realm(Global, SIZE, NODES, REALM).unwrap(),
             live: HashMap::new(),
-            given: vec![Ticket { offset: 0, name: 0, serial: 0, realm: 0 }; 64],
+            given: vec![Ticket::from_parts(0, 0, 0, 0).unwrap(); 64],
             serials: 0,
             numbers: Numbers(state),
         }
@@ -61,32 +61,34 @@ impl<NI: NodeIndex> Run<NI> {
     // One of the last tickets, as it is or altered, or any numbers.
     fn any_ticket(&mut self) -> Ticket {
         let numbers = &mut self.numbers;
-        let mut ticket = self.given[numbers.below(64) as usize];
+        let (mut offset, mut name, mut serial, mut realm) = self.given[numbers.below(64) as usize].to_parts();
         match numbers.below(16) {
-            0 => ticket.name = numbers.below(u64::from(NODES) + 2) as u32,
-            1 => ticket.name = numbers.next() as u32,
-            2 => ticket.serial = numbers.below(self.serials + 2),
-            3 => ticket.serial = numbers.next(),
-            4 => ticket.realm = numbers.below(3) as u32,
-            5 => ticket.offset = numbers.next() as u32,
-            6 => ticket.serial = ticket.serial.wrapping_add(numbers.below(8)).wrapping_sub(4),
+            0 => name = numbers.below(u64::from(NODES) + 2) as u32,
+            1 => name = numbers.next() as u32,
+            2 => serial = numbers.below(self.serials + 2),
+            3 => serial = numbers.next(),
+            4 => realm = numbers.below(3) as u32,
+            5 => offset = numbers.next() as u32,
+            6 => serial = serial.wrapping_add(numbers.below(8)).wrapping_sub(4),
             7 => {
-                let name = numbers.below(u64::from(NODES)) as u32;
-                let serial = self.serials.saturating_sub(numbers.below(64));
-                ticket = Ticket { offset: 0, name, serial, realm: REALM };
+                (offset, realm) = (0, REALM);
+                name = numbers.below(u64::from(NODES)) as u32;
+                serial = self.serials.saturating_sub(numbers.below(64));
             }
             8 => {
-                let (name, serial) = (numbers.next() as u32, numbers.next());
-                ticket = Ticket { offset: name, name, serial, realm: serial as u32 };
+                (name, serial) = (numbers.next() as u32, numbers.next());
+                (offset, realm) = (name, serial as u32);
             }
+            // the other half of a serial
+            9 => serial = serial.wrapping_add(1 << 32),
             _ => {}
         }
-        ticket
+        Ticket::from_parts(offset, name, serial, realm).unwrap_or(self.given[0])
     }
 
     fn keep(&mut self, ticket: Ticket, size: u32) {
         self.serials += 1;
-        assert_eq!((ticket.serial, ticket.realm), (self.serials, REALM));
+        assert_eq!((ticket.serial(), ticket.realm()), (self.serials, REALM));
         let range = Range { offset: ticket.offset, size };
         for other in self.live.values() {
             let apart = other.offset + other.size <= range.offset || range.offset + size <= other.offset;
@@ -158,7 +160,7 @@ impl<NI: NodeIndex> Run<NI> {
     // Every live range is where the list has it, and there is no other.
     fn expect_same(&self) {
         for (&(name, serial, realm), range) in &self.live {
-            let ticket = Ticket { offset: 0, name, serial, realm };
+            let ticket = Ticket::from_parts(0, name, serial, realm).unwrap();
             assert_eq!(self.space.offset_of(ticket), Some(range.offset));
             assert_eq!(self.space.size_of(ticket), Some(range.size));
         }

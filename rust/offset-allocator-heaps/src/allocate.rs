@@ -58,13 +58,14 @@ impl<T: Tables> HeapsOf<T> {
             .first_at_least(LARGER_KEY as u64, &mut self.accesses)
     }
 
-    // Doubles the node limit of the heap of a number, where it has to be raised before a grant.
-    pub(crate) fn raise(&mut self, number: u32) -> Result<(), AllocError> {
-        self.slots
-            .raise(self.alloc, number, self.limits, &mut self.accesses)
+    // Doubles the node limit of the heap of a number, where it has to be raised for a grant that may add so many
+    // blocks.
+    pub(crate) fn raise(&mut self, number: u32, blocks: u32) -> Result<(), AllocError> {
+        self.slots.raise(self.alloc, number, self.limits, blocks, &mut self.accesses)
     }
 
-    // Grants a request in the heap of a number, which has room for it, and whose node limit need not be raised.
+    // Grants a request in the heap of a number, which has room for it, and for one unit, and whose node limit need
+    // not be raised.
     pub(crate) fn grant_at(&mut self, number: u32, size: u32, align: u32) -> Granted {
         let ticket = self.slots.grant(number, size, align, &mut self.accesses);
         self.index
@@ -81,7 +82,7 @@ impl<T: Tables> HeapsOf<T> {
 
     // Grants a request in the first heap that has room for it, and raises its node limit first where it has to.
     fn grant_first(&mut self, number: u32, size: u32, align: u32) -> Result<Granted, Refusal> {
-        match self.raise(number) {
+        match self.raise(number, align.min(2)) {
             Err(_) => Err(Refusal::Memory),
             Ok(_) => Ok(self.grant_at(number, size, align)),
         }
@@ -156,8 +157,8 @@ impl<T: Tables> HeapsOf<T> {
 
     /// Grants `size` units of one heap: what `allocate_aligned(size, 1)` grants.
     ///
-    /// A heap has room exactly for requests up to the `largest_free_region` of its report, while it has a
-    /// serial left: see the law `room_is_reported` of the proved sources.
+    /// A heap has room exactly for requests up to the `largest_free_region` that its report would have under its
+    /// largest node limit, while it has a serial left: see the law `room_is_reported` of the proved sources.
     ///
     /// ```
     /// # use offset_allocator_heaps::*;
@@ -183,11 +184,11 @@ impl<T: Tables> HeapsOf<T> {
     /// `most` that no heap has and whose heap would have it, of `first_size` units doubled as often as its
     /// number says, and at most `size`; else a larger heap of exactly `size` units, all of which are granted,
     /// with the first number from `most` on that no heap has, and with the node limit 4: it never has more than
-    /// two live ranges. A usual heap begins with the node limit `first_allocs`. One that has room, but fewer
-    /// than five unused nodes, and a node limit below `max_allocs`, first has its limit doubled, as
-    /// `GuardedOf::raised` does it, to `max_allocs` at most: so a heap has room exactly where it would have room
-    /// under `max_allocs`: see the law `room_is_that_of_the_largest_limit` of the proved sources. Only for a new heap and for more nodes
-    /// memory is requested.
+    /// two live ranges. A usual heap begins with the node limit `first_allocs`, and has room exactly where it
+    /// would have room under `max_allocs`: see the law `room_is_that_of_the_largest_limit` of the proved sources. Where its own limit is
+    /// lower, and its space would refuse the request for want of nodes, the limit is first doubled, as
+    /// `GuardedOf::raised` does it, to `max_allocs` at most: that is always enough. Only for a new heap and for
+    /// more nodes memory is requested, and never where the request is granted without them.
     ///
     /// Where the request is refused, all is as it was, and the `Refusal` says why.
     ///

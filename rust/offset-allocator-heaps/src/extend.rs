@@ -4,12 +4,43 @@
 
 use crate::HeapsOf;
 use crate::limits::Limits;
-use crate::slots::raise_heap;
-use offset_allocator::Tables;
+use crate::slots::{double_limit, must_raise};
+use offset_allocator::{Accesses, Tables};
 use offset_guarded::GuardedOf;
 use crate::memory::{AllocError, Global};
 
-// Adds units at the end of a heap, whose node limit is raised first where it would be for a grant.
+// Whether the last block of a heap is free.
+fn ends_free<T: Tables>(heap: &GuardedOf<T>) -> bool {
+    let mut blocks = heap.allocator().blocks();
+    match offset_allocator::laws::next_block_counted(&mut blocks, &mut Accesses::new()) {
+        None => false,
+        Some(block) => match block.allocation {
+            None => true,
+            Some(_) => false,
+        },
+    }
+}
+
+// Whether the node limit of the heap of a number has to be raised for so many units more.
+fn must_extend<T: Tables>(heap: &GuardedOf<T>, number: u32, limits: Limits, more: u32) -> bool {
+    more > 0 && must_raise(heap, number, limits, 1) && !ends_free(heap)
+}
+
+// Doubles the node limit of the heap of a number, where it has to be raised for so many units more.
+fn raise_for<T: Tables>(
+    alloc: Global,
+    heap: &mut GuardedOf<T>,
+    number: u32,
+    limits: Limits,
+    more: u32,
+) -> Result<(), AllocError> {
+    if must_extend(heap, number, limits, more) {
+        double_limit(alloc, heap, limits)?;
+    }
+    Ok(())
+}
+
+// Adds units at the end of a heap, whose node limit is raised first where they need that.
 fn extend_heap<T: Tables>(
     alloc: Global,
     heap: &mut GuardedOf<T>,
@@ -20,7 +51,7 @@ fn extend_heap<T: Tables>(
     if more > u32::MAX - heap.allocator().size() {
         return Ok(false);
     }
-    raise_heap(alloc, heap, number, limits)?;
+    raise_for(alloc, heap, number, limits, more)?;
     Ok(heap.extend(more))
 }
 
@@ -44,9 +75,9 @@ impl<T: Tables> HeapsOf<T> {
     /// more units than `Limits` say then; once it is dropped, its number has the units of the limits again.
     ///
     /// `false` is returned where the number has no heap, where the heap would have more than 4294967295 units,
-    /// or where its last block is used and no further block may exist; then all is as it was. With 0 units it is
-    /// `true` where the number has a heap. A usual heap that has fewer than five unused nodes, and a node limit
-    /// below `max_allocs`, first has that doubled, as before a grant: with 0 units too.
+    /// or where its last block is used and no further block may exist under its largest node limit; then all is
+    /// as it was. With 0 units it is `true` where the number has a heap. Where the units become a further block
+    /// of a usual heap, for which its own limit leaves no node, that limit is first doubled, up to `max_allocs`.
     ///
     /// # Errors
     ///

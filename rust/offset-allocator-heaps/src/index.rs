@@ -22,20 +22,40 @@ pub(crate) struct Index {
     pub(crate) empty: Marks,
 }
 
-// Whether a serial is left for one more grant.
-fn has_serial_left<T: Tables>(heap: &GuardedOf<T>) -> bool {
+/// Whether a serial is left for one more grant.
+pub(crate) fn has_serial_left<T: Tables>(heap: &GuardedOf<T>) -> bool {
     !heap.is_spent()
 }
 
-/// The largest requests that a heap grants where it may add one block, and two, or 0.
-pub(crate) fn rooms<T: Tables>(heap: Option<&GuardedOf<T>>) -> (u32, u32) {
-    let Some(heap) = heap else { return (0, 0) };
+/// One more than the number of blocks that may still be added to the heap of a number, under its largest node
+/// limit.
+pub(crate) fn nodes_left<T: Tables>(heap: &GuardedOf<T>, number: u32, limits: Limits) -> u32 {
     let space = heap.allocator();
-    let left = unused_nodes(space);
+    let own = space.max_allocs();
+    let blocks = own - unused_nodes(space);
+    let top = if number < limits.most {
+        limits.max_allocs
+    } else {
+        own
+    };
+    if top < blocks { 0 } else { top - blocks }
+}
+
+/// The largest requests that the heap of a number grants where it may add one block, and two, or 0.
+pub(crate) fn rooms<T: Tables>(
+    heap: Option<&GuardedOf<T>>,
+    number: u32,
+    limits: Limits,
+) -> (u32, u32) {
+    let Some(heap) = heap else { return (0, 0) };
+    let left = nodes_left(heap, number, limits);
     if !has_serial_left(heap) || left <= 1 {
         return (0, 0);
     }
-    let largest = space.storage_report().largest_free_region;
+    let largest = offset_allocator::laws::largest_region_counted(
+        heap.allocator(),
+        &mut Accesses::new(),
+    );
     if left == 2 {
         return (largest, 0);
     }
@@ -87,7 +107,7 @@ impl Index {
         count: &mut Accesses,
     ) {
         let heap = slots.at(number, count);
-        let (one, two) = rooms(heap);
+        let (one, two) = rooms(heap, number, limits);
         self.one.set(number, one, count);
         self.two.set(number, two, count);
         self.spare.set(number, spare(heap, number, limits), count);

@@ -221,7 +221,7 @@ impl<T: Tables> HeapsOf<T> {
     }
 
     // The heap of a place.
-    fn heap_of(&self, place: Place) -> Option<&GuardedOf<T>> {
+    fn heap_of(&self, place: &Place) -> Option<&GuardedOf<T>> {
         if place.realm == self.realm {
             self.heap(place.heap)
         } else {
@@ -243,7 +243,7 @@ impl<T: Tables> HeapsOf<T> {
     /// # Ok::<(), AllocError>(())
     /// ```
     pub fn is_live(&self, place: Place) -> bool {
-        match self.heap_of(place) {
+        match self.heap_of(&place) {
             None => false,
             Some(heap) => heap.is_live(place.ticket),
         }
@@ -261,7 +261,7 @@ impl<T: Tables> HeapsOf<T> {
     /// # Ok::<(), AllocError>(())
     /// ```
     pub fn size_of(&self, place: Place) -> Option<u32> {
-        match self.heap_of(place) {
+        match self.heap_of(&place) {
             None => None,
             Some(heap) => heap.size_of(place.ticket),
         }
@@ -280,7 +280,7 @@ impl<T: Tables> HeapsOf<T> {
     /// # Ok::<(), AllocError>(())
     /// ```
     pub fn offset_of(&self, place: Place) -> Option<u32> {
-        match self.heap_of(place) {
+        match self.heap_of(&place) {
             None => None,
             Some(heap) => heap.offset_of(place.ticket),
         }

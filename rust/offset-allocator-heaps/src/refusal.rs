@@ -19,8 +19,7 @@ pub enum Refusal {
     /// drop empty heaps of that kind. It says nothing of `is_full`, which is a space at its node limit.
     Full,
     /// Memory was refused: where no heap has room, that for another one, which may be made; where one has room,
-    /// that for more nodes of the first such, which has fewer than five unused nodes and a node limit below
-    /// `max_allocs`.
+    /// that for more nodes of the first such, whose own node limit, below `max_allocs`, leaves too few for it.
     Memory,
 }
 

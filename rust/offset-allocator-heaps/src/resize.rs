@@ -15,29 +15,15 @@ pub(crate) enum Resize {
     Grow(u32),
 }
 
-impl Resize {
-    /// Whether it is to have at most as many.
-    pub(crate) fn is_less(self) -> bool {
-        match self {
-            Resize::Shrink(_) => true,
-            Resize::Grow(_) => false,
-        }
-    }
-}
-
 impl<T: Tables> HeapsOf<T> {
     // Makes the range of a place smaller or larger in place.
     fn resize(&mut self, place: Place, how: Resize) -> Option<bool> {
         if place.realm != self.realm {
             return None;
         }
-        let done = self.slots.resize(
-            place.heap,
-            self.limits,
-            place.ticket,
-            how,
-            &mut self.accesses,
-        )?;
+        let done = self
+            .slots
+            .resize(place.heap, place.ticket, how, &mut self.accesses)?;
         self.index
             .note(&self.slots, place.heap, self.limits, &mut self.accesses);
         Some(done)
@@ -45,9 +31,9 @@ impl<T: Tables> HeapsOf<T> {
 
     /// Makes the range of a place smaller in place, as `GuardedOf::shrink` does in its heap, and returns
     /// whether it did; or `None` where the place is not live, and then nothing changes. `false` is returned
-    /// where the range has fewer units, or the node limit of its heap is reached and the units that it gives
-    /// back have no free block after them, or fewer than four nodes are unused of a heap whose limit may still
-    /// be doubled: no memory is taken here; then all is as it was.
+    /// exactly where the heap's space refuses it, under the node limit that it has: where the range has fewer
+    /// units, or that limit is reached and the units that it gives back have no free block after them; then all
+    /// is as it was. No memory is taken here, so no limit is raised.
     ///
     /// ```
     /// # use offset_allocator_heaps::*;

@@ -8,7 +8,6 @@ use crate::fresh::LARGER_LIMIT;
 use crate::limits::{Limits, usual_size};
 use crate::slots::Slots;
 use crate::state::{FORM, StateFault, StateFaultKind, VERSION};
-use offset_allocator::laws::unused_nodes;
 use offset_allocator::{Accesses, NodeIndex, ReadError, Tables};
 use offset_guarded::GuardedOf;
 use offset_guarded::numbers::{checksum, number};
@@ -94,22 +93,17 @@ fn header_of<T: Tables>(
     })
 }
 
-// Whether a usual heap has a node limit that the limits allow, and below the largest one as many unused
-// nodes as it has between two calls.
-fn has_nodes_left<T: Tables>(heap: &GuardedOf<T>, limits: Limits) -> bool {
-    let space = heap.allocator();
-    let limit = space.max_allocs();
-    let left = unused_nodes(space);
-    limit >= limits.first_allocs
-        && limit <= limits.max_allocs
-        && (limit == limits.max_allocs || left >= 3)
+// Whether a usual heap has a node limit that the limits allow.
+fn has_usual_limit<T: Tables>(heap: &GuardedOf<T>, limits: Limits) -> bool {
+    let limit = heap.allocator().max_allocs();
+    limit >= limits.first_allocs && limit <= limits.max_allocs
 }
 
 // Whether a heap has the size and a node limit of the kind of a number.
 fn is_of_kind<T: Tables>(heap: &GuardedOf<T>, number: u32, limits: Limits) -> bool {
     let space = heap.allocator();
     if number < limits.most {
-        space.size() >= usual_size(limits, number) && has_nodes_left(heap, limits)
+        space.size() >= usual_size(limits, number) && has_usual_limit(heap, limits)
     } else {
         space.size() >= 1 && space.max_allocs() == LARGER_LIMIT
     }

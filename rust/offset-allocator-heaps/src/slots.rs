@@ -5,7 +5,7 @@
 
 use crate::compact::compact_numbered;
 use crate::extend::extend_in;
-use crate::index::{is_empty_heap, rooms};
+use crate::index::{has_serial_left, is_empty_heap, nodes_left, rooms};
 use crate::limits::Limits;
 use crate::resize::Resize;
 use offset_allocator::laws::unused_nodes;
@@ -19,40 +19,50 @@ pub(crate) struct Slots<T: Tables> {
     heaps: Vec<Option<GuardedOf<T>>>,
 }
 
-// The largest request at a multiple of `align` that a heap grants, or 0.
-fn room_at<T: Tables>(heap: &GuardedOf<T>, align: u32) -> u32 {
-    let (one, two) = rooms(Some(heap));
+// The largest request at a multiple of `align` that the heap of a number grants, or 0.
+fn room_at<T: Tables>(heap: &GuardedOf<T>, number: u32, limits: Limits, align: u32) -> u32 {
+    let (one, two) = rooms(Some(heap), number, limits);
     if align == 1 { one } else { two }
 }
 
-// Whether fewer than `least` nodes of the heap of a number are unused, and its node limit may still be raised.
-fn has_few_nodes<T: Tables>(heap: &GuardedOf<T>, number: u32, limits: Limits, least: u32) -> bool {
+/// Whether the node limit of the heap of a number has to be raised for a call that may add so many blocks.
+pub(crate) fn must_raise<T: Tables>(
+    heap: &GuardedOf<T>,
+    number: u32,
+    limits: Limits,
+    blocks: u32,
+) -> bool {
     let space = heap.allocator();
-    number < limits.most && space.max_allocs() < limits.max_allocs && unused_nodes(space) < least
+    number < limits.most && space.max_allocs() < limits.max_allocs && unused_nodes(space) <= blocks
 }
 
-// Whether the node limit of a heap has to be raised before a grant, which adds two blocks at most: after it at least
-// three nodes are unused, or the limit is the largest one. A report is then that of the largest limit.
-fn must_raise<T: Tables>(heap: &GuardedOf<T>, number: u32, limits: Limits) -> bool {
-    has_few_nodes(heap, number, limits, 5)
+/// Doubles the node limit of a heap, up to the largest one.
+pub(crate) fn double_limit<T: Tables>(
+    alloc: Global,
+    heap: &mut GuardedOf<T>,
+    limits: Limits,
+) -> Result<(), AllocError> {
+    let limit = heap.allocator().max_allocs();
+    let most = limits.max_allocs;
+    let twice = if most - limit < limit {
+        most
+    } else {
+        2 * limit
+    };
+    *heap = heap.raised(alloc, twice)?;
+    Ok(())
 }
 
-/// Doubles the node limit of the heap of a number, where it has to be raised.
-pub(crate) fn raise_heap<T: Tables>(
+// Doubles the node limit of the heap of a number, where it has to be raised for so many blocks.
+fn raise_heap<T: Tables>(
     alloc: Global,
     heap: &mut GuardedOf<T>,
     number: u32,
     limits: Limits,
+    blocks: u32,
 ) -> Result<(), AllocError> {
-    if must_raise(heap, number, limits) {
-        let limit = heap.allocator().max_allocs();
-        let most = limits.max_allocs;
-        let twice = if most - limit < limit {
-            most
-        } else {
-            2 * limit
-        };
-        *heap = heap.raised(alloc, twice)?;
+    if must_raise(heap, number, limits, blocks) {
+        double_limit(alloc, heap, limits)?;
     }
     Ok(())
 }
@@ -63,14 +73,15 @@ fn raise_in<T: Tables>(
     slot: &mut Option<GuardedOf<T>>,
     number: u32,
     limits: Limits,
+    blocks: u32,
 ) -> Result<(), AllocError> {
     match slot {
-        Some(heap) => raise_heap(alloc, heap, number, limits),
+        Some(heap) => raise_heap(alloc, heap, number, limits, blocks),
         None => Ok(()),
     }
 }
 
-/// Grants a request in a heap that has room for it.
+/// Grants a request in a heap that has room for it, and for one unit.
 pub(crate) fn grant_in<T: Tables>(slot: &mut Option<GuardedOf<T>>, size: u32, align: u32) -> Ticket {
     match slot {
         Some(heap) => {
@@ -109,9 +120,13 @@ fn grant_tight_aligned_in<T: Tables>(
     }
 }
 
-// Whether a free block of a heap holds a request. Where none does, the heap has no room for it either.
-fn holds<T: Tables>(heap: &GuardedOf<T>, size: u32, align: u32) -> bool {
-    heap.refusal_tight_aligned(size, align).is_none()
+// Whether a free block of the heap of a number holds a request. Where none does, the heap has no room for it either.
+fn holds<T: Tables>(heap: &GuardedOf<T>, number: u32, limits: Limits, size: u32, align: u32) -> bool {
+    let space = heap.allocator();
+    if !has_serial_left(heap) || nodes_left(heap, number, limits) <= align.min(2) {
+        return false;
+    }
+    offset_allocator::laws::has_block_for_counted(space, size, align, &mut Accesses::new())
 }
 
 // Frees the range of a ticket, where it is live.
@@ -130,27 +145,15 @@ fn resize_heap<T: Tables>(heap: &mut GuardedOf<T>, ticket: Ticket, how: Resize) 
     }
 }
 
-// The same, but that a range does not become smaller where few nodes are unused.
+// The same, where the number has a heap.
 fn resize_in<T: Tables>(
     slot: &mut Option<GuardedOf<T>>,
-    number: u32,
-    limits: Limits,
     ticket: Ticket,
     how: Resize,
 ) -> Option<bool> {
     match slot {
         None => None,
-        Some(heap) => {
-            // a range that shrinks might leave too few nodes
-            if how.is_less() && has_few_nodes(heap, number, limits, 4) {
-                return if heap.is_live(ticket) {
-                    Some(false)
-                } else {
-                    None
-                };
-            }
-            resize_heap(heap, ticket, how)
-        }
+        Some(heap) => resize_heap(heap, ticket, how),
     }
 }
 
@@ -192,6 +195,18 @@ fn reset_in<T: Tables>(slot: &mut Option<GuardedOf<T>>) {
         Some(heap) => heap.reset(),
         None => {}
     }
+}
+
+/// The units that a heap needs for a range of `size` units from a multiple of `align` on, which a request may not have:
+/// one at least.
+pub(crate) fn units_for(size: u32, align: u32) -> u64 {
+    let units = size as u64 + align as u64 - 1;
+    if units == 0 { 1 } else { units }
+}
+
+// Whether a heap with `full` live units may take a range of `size` units of the heap `own`, which has `live`.
+fn is_fuller(size: u32, own: u32, live: u32, number: u32, full: u32) -> bool {
+    live < full || (live == full && (size > 0 || number < own))
 }
 
 // The emptiest heap so far, and its live units, with those of one more heap.
@@ -242,16 +257,24 @@ impl<T: Tables> Slots<T> {
         self.heaps[number as usize] = heap;
     }
 
-    /// Doubles the node limit of the heap of a number, where it has to be raised before a grant.
+    /// Doubles the node limit of the heap of a number, where it has to be raised for a grant that may add so many
+    /// blocks.
     pub(crate) fn raise(
         &mut self,
         alloc: Global,
         number: u32,
         limits: Limits,
+        blocks: u32,
         count: &mut Accesses,
     ) -> Result<(), AllocError> {
         count.tick();
-        raise_in(alloc, &mut self.heaps[number as usize], number, limits)
+        raise_in(
+            alloc,
+            &mut self.heaps[number as usize],
+            number,
+            limits,
+            blocks,
+        )
     }
 
     /// Grants a request in the heap of a number, which has room for it.
@@ -279,10 +302,17 @@ impl<T: Tables> Slots<T> {
     }
 
     // Whether a free block of the heap of a number holds a request.
-    fn holds_at(&self, number: u32, size: u32, align: u32, count: &mut Accesses) -> bool {
+    fn holds_at(
+        &self,
+        number: u32,
+        limits: Limits,
+        size: u32,
+        align: u32,
+        count: &mut Accesses,
+    ) -> bool {
         match self.at(number, count) {
             None => false,
-            Some(heap) => holds(heap, size, align),
+            Some(heap) => holds(heap, number, limits, size, align),
         }
     }
 
@@ -290,12 +320,13 @@ impl<T: Tables> Slots<T> {
     pub(crate) fn first_holding(
         &self,
         numbers: u32,
+        limits: Limits,
         size: u32,
         align: u32,
         count: &mut Accesses,
     ) -> Option<u32> {
         for number in 0..numbers {
-            if self.holds_at(number, size, align, count) {
+            if self.holds_at(number, limits, size, align, count) {
                 return Some(number);
             }
         }
@@ -316,7 +347,6 @@ impl<T: Tables> Slots<T> {
     pub(crate) fn resize(
         &mut self,
         number: u32,
-        limits: Limits,
         ticket: Ticket,
         how: Resize,
         count: &mut Accesses,
@@ -325,17 +355,11 @@ impl<T: Tables> Slots<T> {
         if number as usize >= self.heaps.len() {
             return None;
         }
-        resize_in(
-            &mut self.heaps[number as usize],
-            number,
-            limits,
-            ticket,
-            how,
-        )
+        resize_in(&mut self.heaps[number as usize], ticket, how)
     }
 
-    /// Adds units at the end of the heap of a number, whose node limit is raised first where it would be for a
-    /// grant, and returns whether it did.
+    /// Adds units at the end of the heap of a number, whose node limit is raised first where they need that, and
+    /// returns whether it did.
     pub(crate) fn extend(
         &mut self,
         alloc: Global,
@@ -410,24 +434,30 @@ impl<T: Tables> Slots<T> {
         is_empty_heap(self.at(number, count))
     }
 
-    /// The units of the range of a ticket in the heap of a number, or 0, and the units that are live there.
-    pub(crate) fn units_at(&self, number: u32, ticket: Ticket, count: &mut Accesses) -> (u32, u32) {
+    /// The units of the range of a ticket in the heap of a number, where it is live, and the units that are live
+    /// there.
+    pub(crate) fn units_at(
+        &self,
+        number: u32,
+        ticket: Ticket,
+        count: &mut Accesses,
+    ) -> Option<(u32, u32)> {
         match self.at(number, count) {
-            None => (0, 0),
-            Some(heap) => (
-                heap.size_of(ticket).unwrap_or(0),
-                heap.allocator().live_units(),
-            ),
+            None => None,
+            Some(heap) => match heap.size_of(ticket) {
+                None => None,
+                Some(size) => Some((size, heap.allocator().live_units())),
+            },
         }
     }
 
-    // Whether the heap of a number takes a range of the heap `own`, which has `live` live units.
+    // Whether the heap of a number takes a range of `size` units of the heap `own`, which has `live` live units.
     fn takes(
         &self,
         number: u32,
         limits: Limits,
         own: u32,
-        units: u64,
+        size: u32,
         align: u32,
         live: u32,
         count: &mut Accesses,
@@ -435,29 +465,30 @@ impl<T: Tables> Slots<T> {
         match self.at(number, count) {
             None => false,
             Some(heap) => {
-                let room = room_at(heap, align) as u64;
+                let room = room_at(heap, number, limits, align) as u64;
                 number != own
-                    && room >= units
-                    && heap.allocator().live_units() >= live
-                    && !must_raise(heap, number, limits)
+                    && room >= units_for(size, align)
+                    && is_fuller(size, own, live, number, heap.allocator().live_units())
+                    && !must_raise(heap, number, limits, align.min(2))
             }
         }
     }
 
-    /// The first heap, from a number on, that takes a range of the heap `own`, which has `live` live units.
+    /// The first heap, from a number on, that takes a range of `size` units of the heap `own`, which has `live`
+    /// live units.
     pub(crate) fn taker(
         &self,
         from: u32,
         numbers: u32,
         limits: Limits,
         own: u32,
-        units: u64,
+        size: u32,
         align: u32,
         live: u32,
         count: &mut Accesses,
     ) -> Option<u32> {
         for number in from..numbers {
-            if self.takes(number, limits, own, units, align, live, count) {
+            if self.takes(number, limits, own, size, align, live, count) {
                 return Some(number);
             }
         }

@@ -4,6 +4,7 @@
 
 use crate::HeapsOf;
 use crate::index::rooms;
+use crate::limits::Limits;
 use offset_allocator::{Accesses, Tables};
 use offset_guarded::GuardedOf;
 
@@ -18,9 +19,9 @@ pub struct Totals {
     pub live_units: u64,
     /// The units of all free blocks.
     pub free_units: u64,
-    /// The largest `largest_free_region` of a heap, or 0 where there is none; one that has given all its
-    /// serials counts as 0 here, and in no other field. A request of at least one unit is granted by a heap
-    /// that is there exactly when it is at most this.
+    /// The largest `largest_free_region` of a heap, under its largest node limit, or 0 where there is none; one
+    /// that has given all its serials counts as 0 here, and in no other field. A request of at least one unit is
+    /// granted by a heap that is there, if memory for more nodes is given, exactly when it is at most this.
     pub largest_free_region: u32,
 }
 
@@ -31,8 +32,13 @@ fn live_free_all<T: Tables>(heap: &GuardedOf<T>) -> (u32, u32, u32) {
 }
 
 // The numbers of some heaps, with those of one more.
-fn with_heap<T: Tables>(totals: Totals, heap: Option<&GuardedOf<T>>) -> Totals {
-    let (one, _) = rooms(heap);
+fn with_heap<T: Tables>(
+    totals: Totals,
+    heap: Option<&GuardedOf<T>>,
+    number: u32,
+    limits: Limits,
+) -> Totals {
+    let (one, _) = rooms(heap, number, limits);
     let largest = totals.largest_free_region.max(one);
     match heap {
         None => Totals {
@@ -76,9 +82,10 @@ impl<T: Tables> HeapsOf<T> {
             free_units: 0,
             largest_free_region: 0,
         };
-        for number in 0..self.limits.most + self.limits.most_larger {
+        let limits = self.limits;
+        for number in 0..limits.most + limits.most_larger {
             let heap = self.slots.at(number, &mut Accesses::new());
-            totals = with_heap(totals, heap);
+            totals = with_heap(totals, heap, number, limits);
         }
         totals
     }

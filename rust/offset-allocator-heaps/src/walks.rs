@@ -76,7 +76,7 @@ impl<T: Tables> HeapsOf<T> {
     /// # Ok::<(), AllocError>(())
     /// ```
     pub fn live_before(&self, place: Place) -> Option<Place> {
-        match self.heap_of(place) {
+        match self.heap_of(&place) {
             None => None,
             Some(guarded) => self.place_at(place.heap, guarded.live_before(place.ticket)),
         }
@@ -96,7 +96,7 @@ impl<T: Tables> HeapsOf<T> {
     /// # Ok::<(), AllocError>(())
     /// ```
     pub fn live_after(&self, place: Place) -> Option<Place> {
-        match self.heap_of(place) {
+        match self.heap_of(&place) {
             None => None,
             Some(guarded) => self.place_at(place.heap, guarded.live_after(place.ticket)),
         }

@@ -9,8 +9,9 @@
 mod random;
 
 use offset_allocator::{ByField, ByNode, Tables};
-use offset_allocator_heaps::{Global, Granted, Heaps, HeapsOf, Limits, Place, Refusal};
+use offset_allocator_heaps::{Global, Granted, Heaps, HeapsOf, Limits, Place, Refusal, Ticket};
 use random::Xorshift as Numbers;
+use std::cmp::Ordering;
 use std::collections::{BTreeMap, HashMap};
 
 const REALM: u32 = 7;
@@ -43,15 +44,17 @@ fn class_value(units: u32) -> u32 {
 type Key = (u32, u32, u32, u64, u32);
 
 fn key(p: Place) -> Key {
-    (p.heap, p.realm, p.ticket.name, p.ticket.serial, p.ticket.realm)
+    (p.heap, p.realm, p.ticket.name(), p.ticket.serial(), p.ticket.realm())
 }
 
-// A heap: its units, its node limit, and its live ranges by offset. Those of one offset, all but one of no units, do not
-// occur: no request is for 0 units.
+// Live ranges in space order, by offset, whether they have units, and name: of one offset those of no units come first.
+type Ranges = BTreeMap<(u32, bool, u32), u32>;
+
+// A heap: its units, its node limit, and its live ranges.
 struct Heap {
     units: u32,
     limit: u32,
-    ranges: BTreeMap<u32, u32>,
+    ranges: Ranges,
 }
 
 struct Run<T: Tables> {
@@ -63,14 +66,14 @@ struct Run<T: Tables> {
     // the last places that were given
     given: Vec<Place>,
     made: u32,
-    counts: [u64; 15],
+    counts: [u64; 16],
     numbers: Numbers,
 }
 
 impl<T: Tables> Run<T> {
     fn new(limits: Limits, state: u64) -> Self {
         let count = (limits.most + limits.most_larger) as usize;
-        let nowhere = Place { heap: 0, realm: 0, ticket: offset_allocator_heaps::Ticket { offset: 0, name: 0, serial: 0, realm: 0 } };
+        let nowhere = Place { heap: 0, realm: 0, ticket: Ticket::from_parts(0, 0, 0, 0).unwrap() };
         Run {
             heaps: HeapsOf::with_realm(Global, limits, REALM).unwrap(),
             limits,
@@ -79,7 +82,7 @@ impl<T: Tables> Run<T> {
             places: HashMap::new(),
             given: vec![nowhere; 64],
             made: 0,
-            counts: [0; 15],
+            counts: [0; 16],
             numbers: Numbers(state),
         }
     }
@@ -94,25 +97,25 @@ impl<T: Tables> Run<T> {
         (0..number).fold(self.limits.first_size, |units, _| units.saturating_mul(2).min(self.limits.size))
     }
 
-    // What a heap's own report says of a request: its node limit does not count, but the largest that it may have.
+    // What a heap's own statistics say of a request: its node limit does not count, but the largest that it may have.
     fn fits(&self, number: usize, units: u64, align: u32) -> bool {
         let Some(heap) = self.heaps.heap(number as u32) else { return false };
         let space = heap.allocator();
         let blocks = align.min(2);
-        space.block_count() + blocks < self.most_nodes(number) && units <= space.storage_report().largest_free_region as u64
+        space.block_count() + blocks < self.most_nodes(number) && units <= space.statistics().largest_free_region as u64
     }
 
-    // Whether a heap has fewer than five unused nodes, and may have more.
-    fn must_raise(&self, number: usize) -> bool {
+    // Whether a heap has too few nodes for so many blocks more, and may have more.
+    fn must_raise(&self, number: usize, blocks: u32) -> bool {
         let (Some(heap), Some(known)) = (self.heaps.heap(number as u32), &self.model[number]) else { return false };
-        known.limit < self.most_nodes(number) && heap.allocator().block_count() + 5 > known.limit
+        known.limit < self.most_nodes(number) && heap.allocator().block_count() + blocks >= known.limit
     }
 
     // Whether a heap has nodes for a request, and free units for it in a row, from a multiple of the alignment on.
     fn holds(&self, number: usize, size: u32, align: u32) -> bool {
         let (Some(heap), Some(space)) = (&self.model[number], self.heaps.heap(number as u32)) else { return false };
-        let ends = heap.ranges.iter().map(|(&at, &units)| (at + units) as u64);
-        let starts = heap.ranges.keys().map(|&at| at as u64).chain([heap.units as u64]);
+        let ends = heap.ranges.iter().map(|(&(at, ..), &units)| (at + units) as u64);
+        let starts = heap.ranges.keys().map(|&(at, ..)| at as u64).chain([heap.units as u64]);
         let fits = std::iter::once(0).chain(ends).zip(starts).any(|(from, to)| from.next_multiple_of(align as u64) + size as u64 <= to);
         fits && space.allocator().block_count() + align.min(2) < self.most_nodes(number)
     }
@@ -147,7 +150,7 @@ impl<T: Tables> Run<T> {
             (true, _) => self.heaps.refusal_tight_aligned(size, align),
         };
         assert_eq!(foretold, expected.err());
-        let raises = expected.is_ok_and(|(number, is_new)| !is_new && self.must_raise(number));
+        let raises = expected.is_ok_and(|(number, is_new)| !is_new && self.must_raise(number, align.min(2)));
         self.counts[11] += (tight && expected.is_ok_and(|(n, is_new)| !is_new && !self.fits(n, size as u64 + align as u64 - 1, align))) as u64;
         let result = match (tight, align) {
             (false, 1) => self.heaps.allocate(size),
@@ -170,7 +173,7 @@ impl<T: Tables> Run<T> {
                     self.counts[14] += u64::from(usual && self.model[..number].iter().any(|h| h.is_none()));
                     let limit = if usual { self.limits.first_allocs } else { 4 };
                     self.model[number] = Some(Heap { units, limit, ranges: BTreeMap::new() });
-                    assert_eq!(place.ticket.realm, self.made);
+                    assert_eq!(place.ticket.realm(), self.made);
                     self.counts[1 + !usual as usize] += 1;
                 }
                 if raises {
@@ -193,13 +196,14 @@ impl<T: Tables> Run<T> {
         let offset = place.ticket.offset;
         assert!(offset as u64 + size as u64 <= heap.units as u64);
         assert_eq!(offset % align, 0);
-        if let Some((&from, &units)) = heap.ranges.range(..=offset).next_back() {
+        let own = (offset, size > 0, place.ticket.name());
+        if let Some((&(from, ..), &units)) = heap.ranges.range(..own).next_back() {
             assert!(from + units <= offset);
         }
-        if let Some((&from, _)) = heap.ranges.range(offset..).next() {
+        if let Some((&(from, ..), _)) = heap.ranges.range(own..).next() {
             assert!(offset + size <= from);
         }
-        heap.ranges.insert(offset, size);
+        assert_eq!(heap.ranges.insert(own, size), None);
         assert!(self.live.insert(key(place), (offset, size)).is_none());
         self.places.insert(key(place), place);
         let at = self.numbers.below(64) as usize;
@@ -210,18 +214,26 @@ impl<T: Tables> Run<T> {
         self.model[number].iter().flat_map(|h| h.ranges.values()).map(|&n| n as u64).sum()
     }
 
-    // The first other heap that has room, and whose limit need not be raised for it, and has at least as many live units.
+    // The first other heap that has room, and whose limit need not be raised for it, and has at least as many live units; for a
+    // range of no units it has room for one, and more live units or a lower number.
     fn relocate(&mut self, place: Place, align: u32) -> Option<Place> {
         let live = self.live.get(&key(place)).copied();
         let own = place.heap as usize;
-        let takes = |n: usize, size: u32| n != own && !self.must_raise(n) && self.fits(n, size as u64 + align as u64 - 1, align) && self.live_units(n) >= self.live_units(own);
+        let fuller = |n: usize, size: u32| match self.live_units(n).cmp(&self.live_units(own)) {
+            Ordering::Less => false,
+            Ordering::Equal => size > 0 || n < own,
+            Ordering::Greater => true,
+        };
+        let fits = |n: usize, size: u32| self.fits(n, (size as u64 + align as u64 - 1).max(1), align);
+        let takes = |n: usize, size: u32| n != own && !self.must_raise(n, align.min(2)) && fits(n, size) && fuller(n, size);
         let expected = live.and_then(|(_, size)| (0..self.model.len()).find(|&n| takes(n, size)));
         let second = if align == 1 { self.heaps.relocate(place) } else { self.heaps.relocate_aligned(place, align) };
         assert_eq!(second.map(|p| p.heap as usize), expected);
         if let (Some(second), Some((_, size))) = (second, live) {
-            assert_eq!((second.realm, second.ticket.realm <= self.made), (REALM, true));
+            assert_eq!((second.realm, second.ticket.realm() <= self.made), (REALM, true));
             self.grant(second, size, align);
             self.counts[8] += 1;
+            self.counts[15] += u64::from(size == 0);
         }
         self.ask(place);
         second
@@ -237,7 +249,7 @@ impl<T: Tables> Run<T> {
         }
         let ranges: Vec<(u32, u32)> = found.iter().map(|&p| self.live[&key(p)]).collect();
         let heap = self.model.get(number as usize).and_then(|h| h.as_ref());
-        let expected: Vec<(u32, u32)> = heap.iter().flat_map(|h| h.ranges.iter().rev()).map(|(&at, &n)| (at, n)).collect();
+        let expected: Vec<(u32, u32)> = heap.iter().flat_map(|h| h.ranges.iter().rev()).map(|(&(at, ..), &n)| (at, n)).collect();
         assert_eq!(ranges, expected);
         assert!(found.iter().all(|p| p.heap == number && p.realm == REALM && p.ticket.offset == self.live[&key(*p)].0));
         found
@@ -264,12 +276,13 @@ impl<T: Tables> Run<T> {
     fn place(&mut self) -> Place {
         let at = self.numbers.below(64) as usize;
         let mut place = self.given[at];
+        let (offset, name, serial, realm) = place.ticket.to_parts();
         match self.numbers.below(24) {
             0 => place.heap = self.numbers.below(self.model.len() as u64 + 2) as u32,
             1 => place.realm = self.numbers.below(9) as u32,
-            2 => place.ticket.name = self.numbers.below(14) as u32,
-            3 => place.ticket.serial = self.numbers.below(40),
-            4 => place.ticket.realm = self.numbers.below(self.made as u64 + 2) as u32,
+            2 => place.ticket = Ticket::from_parts(offset, self.numbers.below(14) as u32, serial, realm).unwrap(),
+            3 => place.ticket = Ticket::from_parts(offset, name, self.numbers.below(40), realm).unwrap(),
+            4 => place.ticket = Ticket::from_parts(offset, name, serial, self.numbers.below(self.made as u64 + 2) as u32).unwrap(),
             5 => place.ticket.offset = self.numbers.next() as u32,
             6 => place.heap = u32::MAX,
             _ => {}
@@ -280,25 +293,42 @@ impl<T: Tables> Run<T> {
     // A range becomes smaller or larger in place, where the free units behind it, or the nodes, allow it.
     fn resize(&mut self) {
         let place = self.place();
+        let size = self.live.get(&key(place)).map_or(1, |range| range.1);
+        let wanted = (size / 2).saturating_add(self.numbers.below(size as u64 + 2) as u32);
+        let less = self.numbers.below(2) == 0;
+        self.resize_to(place, wanted, less);
+    }
+
+    fn resize_to(&mut self, place: Place, wanted: u32, less: bool) {
         let live = self.live.get(&key(place)).copied();
         let (at, size) = live.unwrap_or((0, 1));
-        let wanted = (size / 2).saturating_add(self.numbers.below(size as u64 + 2) as u32);
+        // the units of the free block behind it, which may have none
         let behind = live.map(|_| {
-            let heap = self.model[place.heap as usize].as_ref().unwrap();
-            heap.ranges.range(at + 1..).next().map_or(heap.units, |(&next, _)| next) - at - size
+            let mut blocks = self.heaps.heap(place.heap).unwrap().allocator().blocks();
+            let mut after = None;
+            loop {
+                let block = blocks.next().unwrap();
+                if block.allocation.is_some_and(|it| it.name() == place.ticket.name()) {
+                    assert_eq!((block.offset, block.size), (at, size));
+                    break after;
+                }
+                after = block.allocation.is_none().then_some(block.size);
+            }
         });
         let space = |heaps: &HeapsOf<T>| heaps.heap(place.heap).map(|heap| (heap.allocator().block_count(), heap.allocator().max_allocs()));
         let nodes = space(&self.heaps).is_some_and(|(blocks, limit)| blocks + 1 < limit);
-        let shrinks = behind.map(|free| wanted == size || (wanted < size && (free > 0 || nodes)));
-        let grows = behind.map(|free| (size..=size + free).contains(&wanted));
-        let (expected, found) = if self.numbers.below(2) == 0 {
+        let shrinks = behind.map(|free| wanted == size || (wanted < size && (free.is_some() || nodes)));
+        let grows = behind.map(|free| (size..=size + free.unwrap_or(0)).contains(&wanted));
+        let (expected, found) = if less {
             (shrinks, self.heaps.shrink(place, wanted))
         } else {
             (grows, self.heaps.grow_in_place(place, wanted))
         };
         assert_eq!(found, expected);
         if found == Some(true) {
-            self.model[place.heap as usize].as_mut().unwrap().ranges.insert(at, wanted);
+            let ranges = &mut self.model[place.heap as usize].as_mut().unwrap().ranges;
+            assert_eq!(ranges.remove(&(at, size > 0, place.ticket.name())), Some(size));
+            ranges.insert((at, wanted > 0, place.ticket.name()), wanted);
             self.live.insert(key(place), (at, wanted));
         }
         self.ask(place);
@@ -323,8 +353,8 @@ impl<T: Tables> Run<T> {
         self.walk(number);
     }
 
-    // A heap gets more units at its end, and nodes before where it has fewer than five unused, if the units have 32 bits; where
-    // a range is at its end it needs a node.
+    // A heap gets more units at its end, if they have 32 bits; where a range is at its end it needs a node, and more nodes where
+    // it has none for it.
     fn extend(&mut self) {
         let number = self.numbers.below(self.model.len() as u64 + 2) as usize;
         let more = match self.numbers.below(4) {
@@ -335,10 +365,11 @@ impl<T: Tables> Run<T> {
         // of a heap with so many units later requests would be for no more than a few
         let more = if more < 1 << 20 || self.numbers.below(2) == 0 { more.min(self.limits.size) } else { u32::MAX };
         let known = self.model.get(number).and_then(|h| h.as_ref()).filter(|h| h.units as u64 + more as u64 <= u32::MAX as u64);
-        let full = known.is_some_and(|h| h.ranges.iter().next_back().is_some_and(|(&at, &units)| at + units == h.units));
+        let last = |number| self.heaps.heap(number).unwrap().allocator().blocks().next().unwrap();
+        let full = known.is_some() && last(number as u32).allocation.is_some();
         let nodes = known.is_some() && self.heaps.heap(number as u32).unwrap().allocator().block_count() + 1 < self.most_nodes(number);
         let expected = known.is_some() && (more == 0 || !full || nodes);
-        let raises = known.is_some() && self.must_raise(number);
+        let raises = more > 0 && full && self.must_raise(number, 1);
         assert_eq!(self.heaps.extend_heap(number as u32, more), Ok(expected));
         if !expected {
             return;
@@ -361,7 +392,7 @@ impl<T: Tables> Run<T> {
         let mut expected = vec![];
         for (number, heap) in self.model.iter().enumerate() {
             let mut to = 0;
-            for (&from, &size) in heap.iter().flat_map(|h| &h.ranges) {
+            for (&(from, ..), &size) in heap.iter().flat_map(|h| &h.ranges) {
                 if from != to {
                     expected.push((number as u32, from, to, size));
                 }
@@ -377,14 +408,17 @@ impl<T: Tables> Run<T> {
     // Ranges have moved within their heaps.
     fn moved(&mut self, moves: &[(u32, u32, u32, u32)]) {
         for &(number, from, to, size) in moves {
+            let here = |key: &Key| key.0 == number && self.heaps.offset_of(self.places[key]) == Some(to);
+            let moved = *self.live.iter().find(|&(key, range)| *range == (from, size) && here(key)).unwrap().0;
             let heap = self.model[number as usize].as_mut().unwrap();
-            assert!(to < from && heap.ranges.remove(&from) == Some(size));
-            assert!(heap.ranges.range(..from).next_back().is_none_or(|(&at, &units)| at + units <= to));
-            heap.ranges.insert(to, size);
-            let moved = *self.live.iter().find(|(key, range)| key.0 == number && range.0 == from).unwrap().0;
+            assert!(to < from && heap.ranges.remove(&(from, size > 0, moved.2)) == Some(size));
+            assert!(heap.ranges.range(..(from, false, 0)).next_back().is_none_or(|(&(at, ..), &units)| at + units <= to));
+            heap.ranges.insert((to, size > 0, moved.2), size);
             self.live.insert(moved, (to, size));
             let place = self.places[&moved];
-            self.places.insert(moved, Place { ticket: offset_allocator_heaps::Ticket { offset: to, ..place.ticket }, ..place });
+            let mut slid = place;
+            slid.ticket.offset = to;
+            self.places.insert(moved, slid);
         }
     }
 
@@ -403,7 +437,7 @@ impl<T: Tables> Run<T> {
             found.push((place.heap as usize, place.ticket.offset));
             next = self.heaps.place_after(place);
         }
-        let ranges = |(n, h): (usize, &Option<Heap>)| h.iter().flat_map(|h| h.ranges.keys()).map(|&at| (n, at)).collect::<Vec<_>>();
+        let ranges = |(n, h): (usize, &Option<Heap>)| h.iter().flat_map(|h| h.ranges.keys()).map(|&(at, ..)| (n, at)).collect::<Vec<_>>();
         assert_eq!(found, self.model.iter().enumerate().flat_map(ranges).collect::<Vec<_>>());
     }
 
@@ -411,7 +445,7 @@ impl<T: Tables> Run<T> {
     fn empty(&mut self) {
         let number = self.numbers.below(self.model.len() as u64) as u32;
         let mut places: Vec<Place> = self.live.keys().filter(|k| k.0 == number).map(|k| self.places[k]).collect();
-        places.sort_by_key(|p| p.ticket.serial);
+        places.sort_by_key(|p| p.ticket.serial());
         places.into_iter().for_each(|place| self.free_place(place));
     }
 
@@ -426,7 +460,7 @@ impl<T: Tables> Run<T> {
         assert_eq!(self.heaps.free(place), live.is_some());
         if let Some((offset, size)) = live {
             let heap = self.model[place.heap as usize].as_mut().unwrap();
-            assert_eq!(heap.ranges.remove(&offset), Some(size));
+            assert_eq!(heap.ranges.remove(&(offset, size > 0, place.ticket.name())), Some(size));
             self.counts[4] += 1;
         }
         self.ask(place);
@@ -481,8 +515,9 @@ impl<T: Tables> Run<T> {
         let units: u64 = heaps().map(|h| h.units as u64).sum();
         assert_eq!(totals.heaps as usize, heaps().count());
         assert_eq!((totals.units, totals.live_units, totals.free_units), (units, live, units - live));
-        let largest = (0..self.model.len()).filter_map(|n| self.heaps.heap(n as u32)).map(|h| h.allocator().storage_report().largest_free_region);
-        assert_eq!(totals.largest_free_region, largest.max().unwrap_or(0));
+        let rooms = (0..self.model.len()).filter(|&n| self.fits(n, 1, 1)).map(|n| self.heaps.heap(n as u32).unwrap());
+        let largest = rooms.map(|h| h.allocator().statistics().largest_free_region).max();
+        assert_eq!(totals.largest_free_region, largest.unwrap_or(0));
         for (number, heap) in self.model.iter().enumerate() {
             let there = self.heaps.heap(number as u32).map(|h| h.allocator().live_units() as u64);
             assert_eq!(there, heap.as_ref().map(|h| h.ranges.values().map(|&n| n as u64).sum()));
@@ -523,6 +558,9 @@ impl<T: Tables> Run<T> {
                 98 | 99 => {
                     let place = self.place();
                     let align = self.align(2, 6);
+                    if self.numbers.below(2) == 0 {
+                        self.resize_to(place, 0, true);
+                    }
                     self.relocate(place, align);
                     let number = self.numbers.below(self.model.len() as u64 + 2) as u32;
                     self.walk(number);
@@ -569,10 +607,11 @@ fn runs<T: Tables>(calls: u64) {
     for (limits, state) in all.into_iter().chain(raised).chain(doubling).zip(1..) {
         let mut run = Run::<T>::new(limits, 0x9E37_79B9_7F4A_7C15 + state);
         run.run(calls / 6);
-        println!("{limits:?}: {:?} refused, new, larger, granted, freed, dropped, given up, reset, relocated, emptied, raised, filled, extended, moved, passed over", run.counts);
+        println!("{limits:?}: {:?} refused, new, larger, granted, freed, dropped, given up, reset, relocated, emptied, raised, filled, extended, moved, passed over, relocated without units", run.counts);
         assert!(run.counts[0] > 0 && run.counts[3] > 0 && run.counts[4] > 0 && run.counts[6] > 0 && run.counts[7] > 0);
         assert!(run.counts[5] > 0, "an empty heap is dropped");
         assert!(run.counts[8] > 0 && run.counts[9] > 0, "a heap is emptied into others");
+        assert!(run.counts[15] > 0, "a range of no units goes to another heap");
         assert!(run.counts[11] > 0 || limits.most == 0, "a tight request is granted where no other is");
         assert!(run.counts[12] > 0 && run.counts[13] > 0, "a heap gets units, and all are compacted");
         assert_eq!(run.counts[10] > 0, limits.first_allocs < limits.max_allocs);
@@ -628,7 +667,7 @@ fn larger_heaps() {
     assert_eq!(heaps.drop_empty(0), Some(1));
     // its number is used again, and the old place is not live
     let next = heaps.allocate(2_000).unwrap();
-    assert_eq!((next.place.heap, next.place.ticket.realm), (1, 4));
+    assert_eq!((next.place.heap, next.place.ticket.realm()), (1, 4));
     assert!(!heaps.is_live(large.place));
     assert!(!heaps.free(large.place));
     assert!(heaps.is_live(next.place));

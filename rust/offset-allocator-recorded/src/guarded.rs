@@ -16,7 +16,7 @@ impl<T: Tables, W: Write> Recorded<GuardedOf<T>, W> {
 
     // The number of the grant of a ticket: 0, which no grant has, where the ticket is not live.
     fn number(&self, ticket: Ticket) -> u32 {
-        self.tape.number(self.space.is_live(ticket).then_some(ticket.name))
+        self.tape.number(self.space.is_live(ticket).then_some(ticket.name()))
     }
 
     /// The name of a live range, given after its grant, in place of one that it had: a mark. Line ends become spaces. Where the
@@ -33,7 +33,7 @@ impl<T: Tables, W: Write> Recorded<GuardedOf<T>, W> {
     pub fn name_live(&mut self, ticket: Ticket, name: &str) {
         let number = self.number(ticket);
         if number != 0 {
-            self.tape.name_live(ticket.name, number, name);
+            self.tape.name_live(ticket.name(), number, name);
         }
     }
 
@@ -57,7 +57,7 @@ impl<T: Tables, W: Write> Recorded<GuardedOf<T>, W> {
     /// ```
     pub fn name_all<V>(&mut self, beside: &Beside<V>, name: impl Fn(&V) -> &str) {
         for (ticket, value) in beside.leaks().iter().flatten() {
-            if !self.tape.is_named(ticket.name) {
+            if !self.tape.is_named(ticket.name()) {
                 self.name_live(*ticket, name(value));
             }
         }
@@ -67,7 +67,7 @@ impl<T: Tables, W: Write> Recorded<GuardedOf<T>, W> {
     pub fn allocate(&mut self, size: u32) -> Option<Ticket> {
         self.tape.write(format_args!("alloc {size}"));
         let found = self.space.allocate(size)?;
-        self.tape.grant(found.name);
+        self.tape.grant(found.name());
         Some(found)
     }
 
@@ -77,7 +77,7 @@ impl<T: Tables, W: Write> Recorded<GuardedOf<T>, W> {
         self.check(align >= 1, "the alignment must be at least 1");
         self.tape.write(format_args!("align {size} {align}"));
         let found = self.space.allocate_aligned(size, align)?;
-        self.tape.grant(found.name);
+        self.tape.grant(found.name());
         Some(found)
     }
 
@@ -85,7 +85,7 @@ impl<T: Tables, W: Write> Recorded<GuardedOf<T>, W> {
     pub fn allocate_tight(&mut self, size: u32) -> Option<Ticket> {
         self.tape.write(format_args!("tight {size}"));
         let found = self.space.allocate_tight(size)?;
-        self.tape.grant(found.name);
+        self.tape.grant(found.name());
         Some(found)
     }
 
@@ -95,7 +95,7 @@ impl<T: Tables, W: Write> Recorded<GuardedOf<T>, W> {
         self.check(align >= 1, "the alignment must be at least 1");
         self.tape.write(format_args!("tight {size} {align}"));
         let found = self.space.allocate_tight_aligned(size, align)?;
-        self.tape.grant(found.name);
+        self.tape.grant(found.name());
         Some(found)
     }
 
@@ -103,7 +103,7 @@ impl<T: Tables, W: Write> Recorded<GuardedOf<T>, W> {
     pub fn allocate_at(&mut self, offset: u32, size: u32) -> Option<Ticket> {
         self.tape.write(format_args!("at {offset} {size}"));
         let found = self.space.allocate_at(offset, size)?;
-        self.tape.grant(found.name);
+        self.tape.grant(found.name());
         Some(found)
     }
 
@@ -129,7 +129,7 @@ impl<T: Tables, W: Write> Recorded<GuardedOf<T>, W> {
     pub fn relocate(&mut self, ticket: Ticket) -> Option<Ticket> {
         self.tape.write(format_args!("relocate {}", self.number(ticket)));
         let found = self.space.relocate(ticket)?;
-        self.tape.grant(found.name);
+        self.tape.grant(found.name());
         Some(found)
     }
 
@@ -140,7 +140,7 @@ impl<T: Tables, W: Write> Recorded<GuardedOf<T>, W> {
         self.check(align >= 1, "the alignment must be at least 1");
         self.tape.write(format_args!("relocate {} {align}", self.number(ticket)));
         let found = self.space.relocate_aligned(ticket, align)?;
-        self.tape.grant(found.name);
+        self.tape.grant(found.name());
         Some(found)
     }
 

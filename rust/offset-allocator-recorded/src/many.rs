@@ -312,7 +312,7 @@ impl<T: Tables, W: Write> RecordedHeaps<T, W> {
             if names.try_reserve(1).is_err() {
                 return self.tape.fail(io::ErrorKind::OutOfMemory.into());
             }
-            names.insert(place.ticket.name, name);
+            names.insert(place.ticket.name(), name);
         }
     }
 
@@ -334,7 +334,7 @@ impl<T: Tables, W: Write> RecordedHeaps<T, W> {
     pub fn name_all<V>(&mut self, heap: u32, beside: &Beside<V>, name: impl Fn(&V) -> &str) {
         let realm = self.heaps.realm();
         for (ticket, value) in beside.leaks().iter().flatten() {
-            let is_named = self.grants.get(&heap).is_some_and(|grants| grants.1.contains_key(&ticket.name));
+            let is_named = self.grants.get(&heap).is_some_and(|grants| grants.1.contains_key(&ticket.name()));
             if !is_named {
                 self.name_live(Place { heap, realm, ticket: *ticket }, name(value));
             }
@@ -343,7 +343,7 @@ impl<T: Tables, W: Write> RecordedHeaps<T, W> {
 
     // The number of the grant of a place: 0, which no grant has, where it is not live.
     fn number(&self, place: Place) -> u32 {
-        let live = self.heaps.is_live(place).then_some(place.ticket.name);
+        let live = self.heaps.is_live(place).then_some(place.ticket.name());
         self.grants.get(&place.heap).map_or(0, |grants| grants.0.number(live))
     }
 
@@ -364,12 +364,12 @@ impl<T: Tables, W: Write> RecordedHeaps<T, W> {
         let out = |_| io::Error::from(io::ErrorKind::OutOfMemory);
         self.grants.try_reserve(1).map_err(out)?;
         let (numbers, names) = self.grants.entry(place.heap).or_default();
-        numbers.grant(place.ticket.name)?;
-        names.remove(&place.ticket.name);
+        numbers.grant(place.ticket.name())?;
+        names.remove(&place.ticket.name());
         // one of blanks alone is none
         if let Some(name) = name.filter(|name| !name.trim_ascii().is_empty()) {
             names.try_reserve(1).map_err(out)?;
-            names.insert(place.ticket.name, name);
+            names.insert(place.ticket.name(), name);
         }
         Ok(())
     }
@@ -462,7 +462,7 @@ impl<T: Tables, W: Write> RecordedHeaps<T, W> {
             (None, _) => self.tape.write(format_args!("none relocate")),
             (Some(size), None) => self.tape.write(format_args!("none relocate {size} {align}")),
             (Some(size), Some(second)) => {
-                let named = self.grants.get(&place.heap).and_then(|grants| grants.1.get(&place.ticket.name));
+                let named = self.grants.get(&place.heap).and_then(|grants| grants.1.get(&place.ticket.name()));
                 let is_named = named.is_some();
                 let of = format!("(of grant {}, heap {})", self.number(place), place.heap);
                 let name = named.map_or_else(|| of.clone(), |name| format!("{name} {of}"));
@@ -472,7 +472,7 @@ impl<T: Tables, W: Write> RecordedHeaps<T, W> {
                 }
                 // where a range comes from is no name of its own
                 if let Some((_, names)) = self.grants.get_mut(&second.heap).filter(|_| !is_named) {
-                    names.remove(&second.ticket.name);
+                    names.remove(&second.ticket.name());
                 }
             }
         }

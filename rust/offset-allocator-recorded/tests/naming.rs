@@ -96,7 +96,7 @@ fn a_space_that_there_is_has_its_names() {
     let fourth = heap.allocate(5).unwrap();
     heap.name_live(fourth, "four");
     heap.name_live(fourth, "5 and more");
-    heap.name_live(Ticket { serial: 9, ..fourth }, "none");
+    heap.name_live(Ticket::from_parts(fourth.offset, fourth.name(), 9, fourth.realm()).unwrap(), "none");
     let text = String::from_utf8(heap.finish().1.unwrap()).unwrap();
     let ranges = "at 0 10\nat 10 20\nat 30 70\nshrink 3 30\n#! begun\n";
     assert_eq!(

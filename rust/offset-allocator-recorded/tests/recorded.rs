@@ -112,7 +112,7 @@ fn tickets_that_are_not_live_have_no_number() {
     assert!(heap.free(first));
     let second = heap.allocate(10).unwrap();
     // the same name
-    assert_eq!(first.name, second.name);
+    assert_eq!(first.name(), second.name());
     assert!(!heap.free(first));
     assert_eq!(heap.shrink(first, 1), None);
     assert_eq!(heap.grow_in_place(first, 20), None);

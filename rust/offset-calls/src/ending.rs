@@ -6,13 +6,14 @@ use crate::calls::{LiveRange, Reply};
 use crate::numbers::Numbers;
 use crate::playing::resized;
 use offset_allocator::{Allocation, NodeIndex, Tables};
-use offset_script::{Answer, PlayerOf};
+use offset_script::Answer;
+use offset_script::keeper::KeeperOf;
 use crate::memory::AllocError;
 
 // The reply to `Relocate`. The handle of a grant is kept.
 #[inline(never)]
 pub(crate) fn relocate<T: Tables>(
-    player: &mut PlayerOf<T>,
+    player: &mut KeeperOf<T>,
     number: u32,
 ) -> Result<Reply, AllocError> {
     let Some(handle) = player.handle(number) else {
@@ -26,7 +27,7 @@ pub(crate) fn relocate<T: Tables>(
 // The reply to `RelocateAligned`. The handle of a grant is kept.
 #[inline(never)]
 pub(crate) fn relocate_aligned<T: Tables>(
-    player: &mut PlayerOf<T>,
+    player: &mut KeeperOf<T>,
     number: u32,
     align: u32,
 ) -> Result<Reply, AllocError> {
@@ -40,7 +41,7 @@ pub(crate) fn relocate_aligned<T: Tables>(
 
 // The reply to `Retract`.
 #[inline(never)]
-pub(crate) fn retract<T: Tables>(player: &mut PlayerOf<T>, less: u32) -> Reply {
+pub(crate) fn retract<T: Tables>(player: &mut KeeperOf<T>, less: u32) -> Reply {
     resized(player.space.retract(less))
 }
 
@@ -67,7 +68,7 @@ fn find<NI: NodeIndex>(
 // The reply to `FirstLive`.
 #[inline(never)]
 pub(crate) fn first_live<T: Tables>(
-    player: &PlayerOf<T>,
+    player: &KeeperOf<T>,
     numbers: &mut Numbers,
 ) -> Result<Reply, AllocError> {
     let found = player.space.first_live();
@@ -77,7 +78,7 @@ pub(crate) fn first_live<T: Tables>(
 // The reply to `LastLive`.
 #[inline(never)]
 pub(crate) fn last_live<T: Tables>(
-    player: &PlayerOf<T>,
+    player: &KeeperOf<T>,
     numbers: &mut Numbers,
 ) -> Result<Reply, AllocError> {
     let found = player.space.last_live();
@@ -87,7 +88,7 @@ pub(crate) fn last_live<T: Tables>(
 // The reply to `LiveBefore`.
 #[inline(never)]
 pub(crate) fn live_before<T: Tables>(
-    player: &PlayerOf<T>,
+    player: &KeeperOf<T>,
     numbers: &mut Numbers,
     number: u32,
 ) -> Result<Reply, AllocError> {
@@ -101,7 +102,7 @@ pub(crate) fn live_before<T: Tables>(
 // The reply to `LiveAfter`.
 #[inline(never)]
 pub(crate) fn live_after<T: Tables>(
-    player: &PlayerOf<T>,
+    player: &KeeperOf<T>,
     numbers: &mut Numbers,
     number: u32,
 ) -> Result<Reply, AllocError> {

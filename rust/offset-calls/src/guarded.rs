@@ -118,7 +118,7 @@ fn append<T: Tables>(
 /// # let alloc = Global;
 /// let call = TicketCall { call: Call::AllocateTight(300), ticket: None };
 /// let played = play_guarded::<offset_allocator::ByNode<u32>>(alloc, 1000, 16, 7, &[call])?;
-/// assert_eq!((played.tickets[0].realm, played.tickets[0].serial), (7, 1));
+/// assert_eq!((played.tickets[0].realm(), played.tickets[0].serial()), (7, 1));
 /// # Ok::<(), AllocError>(())
 /// ```
 #[track_caller]

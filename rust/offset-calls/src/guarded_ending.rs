@@ -51,7 +51,7 @@ fn numbered(found: Option<Ticket>) -> Reply {
     match found {
         None => Reply::Found(None),
         Some(ticket) => Reply::Found(Some(LiveRange {
-            number: ticket.serial,
+            number: ticket.serial(),
             offset: ticket.offset,
         })),
     }

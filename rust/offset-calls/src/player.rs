@@ -6,7 +6,7 @@ use crate::calls::{Call, Reply};
 use crate::numbers::Numbers;
 use crate::playing::reply;
 use offset_allocator::{Allocation, AllocatorOf, ByNode, NodeIndex, Tables};
-use offset_script::PlayerOf;
+use offset_script::keeper::KeeperOf;
 use crate::memory::{AllocError, Global};
 
 /// A player of an allocator by node.
@@ -14,7 +14,7 @@ pub type CallPlayer<NI = u32> = CallPlayerOf<ByNode<NI>>;
 
 /// An allocator that takes calls one by one, and replies as `play_calls_of` does to the whole list.
 pub struct CallPlayerOf<T: Tables> {
-    player: PlayerOf<T>,
+    player: KeeperOf<T>,
     numbers: Numbers,
 }
 
@@ -40,7 +40,7 @@ impl<T: Tables> CallPlayerOf<T> {
     pub fn start(alloc: Global, size: u32, max_allocs: u32) -> Result<Self, AllocError> {
         assert!(2 <= max_allocs, "max_allocs must be at least 2");
         assert!(max_allocs < T::Index::MAX - 1, "max_allocs must be at most NI::MAX - 2");
-        let player = PlayerOf::start(alloc, size, max_allocs)?;
+        let player = KeeperOf::start(alloc, size, max_allocs)?;
         Ok(CallPlayerOf {
             player,
             numbers: Numbers::new(alloc),

@@ -7,7 +7,8 @@ use crate::ending;
 use crate::numbers::Numbers;
 use crate::sliding::{compact, compact_by, compact_within, make_room, make_room_by};
 use offset_allocator::{AllocatorOf, ByNode, NodeIndex, Tables};
-use offset_script::{Answer, PlayerOf};
+use offset_script::Answer;
+use offset_script::keeper::KeeperOf;
 use crate::memory::Vec;
 use crate::memory::{AllocError, Global};
 
@@ -21,7 +22,7 @@ pub(crate) fn resized(done: bool) -> Reply {
 }
 
 // The reply to `Shrink`.
-fn shrink<T: Tables>(player: &mut PlayerOf<T>, number: u32, size: u32) -> Reply {
+fn shrink<T: Tables>(player: &mut KeeperOf<T>, number: u32, size: u32) -> Reply {
     match player.handle(number) {
         None => Reply::Answer(Answer::Gone),
         Some(handle) => resized(player.space.shrink(handle, size)),
@@ -29,7 +30,7 @@ fn shrink<T: Tables>(player: &mut PlayerOf<T>, number: u32, size: u32) -> Reply 
 }
 
 // The reply to `Grow`.
-fn grow<T: Tables>(player: &mut PlayerOf<T>, number: u32, size: u32) -> Reply {
+fn grow<T: Tables>(player: &mut KeeperOf<T>, number: u32, size: u32) -> Reply {
     match player.handle(number) {
         None => Reply::Answer(Answer::Gone),
         Some(handle) => resized(player.space.grow_in_place(handle, size)),
@@ -37,7 +38,7 @@ fn grow<T: Tables>(player: &mut PlayerOf<T>, number: u32, size: u32) -> Reply {
 }
 
 // The reply to `Offset`.
-fn offset<T: Tables>(player: &PlayerOf<T>, number: u32) -> Reply {
+fn offset<T: Tables>(player: &KeeperOf<T>, number: u32) -> Reply {
     match player.handle(number) {
         None => Reply::Answer(Answer::Gone),
         // it is live, so it has an offset
@@ -47,7 +48,7 @@ fn offset<T: Tables>(player: &PlayerOf<T>, number: u32) -> Reply {
 
 // The reply to `AllocateTight`.
 #[inline(never)]
-fn tight<T: Tables>(player: &mut PlayerOf<T>, size: u32) -> Result<Reply, AllocError> {
+fn tight<T: Tables>(player: &mut KeeperOf<T>, size: u32) -> Result<Reply, AllocError> {
     player.handles.reserve(1)?;
     let granted = player.space.allocate_tight(size);
     Ok(Reply::Answer(player.keep(granted)?))
@@ -56,7 +57,7 @@ fn tight<T: Tables>(player: &mut PlayerOf<T>, size: u32) -> Result<Reply, AllocE
 // The reply to `AllocateTightAligned`.
 #[inline(never)]
 fn tight_aligned<T: Tables>(
-    player: &mut PlayerOf<T>,
+    player: &mut KeeperOf<T>,
     size: u32,
     align: u32,
 ) -> Result<Reply, AllocError> {
@@ -68,7 +69,7 @@ fn tight_aligned<T: Tables>(
 // The reply to `AllocateAt`.
 #[inline(never)]
 fn allocate_at<T: Tables>(
-    player: &mut PlayerOf<T>,
+    player: &mut KeeperOf<T>,
     offset: u32,
     size: u32,
 ) -> Result<Reply, AllocError> {
@@ -98,7 +99,7 @@ pub(crate) fn room_cost_by<T: Tables>(
 #[inline(never)]
 fn other<T: Tables>(
     alloc: Global,
-    player: &mut PlayerOf<T>,
+    player: &mut KeeperOf<T>,
     numbers: &mut Numbers,
     call: Call,
 ) -> Result<Reply, AllocError> {
@@ -149,7 +150,7 @@ fn other<T: Tables>(
 // The reply to one call.
 pub(crate) fn reply<T: Tables>(
     alloc: Global,
-    player: &mut PlayerOf<T>,
+    player: &mut KeeperOf<T>,
     numbers: &mut Numbers,
     call: Call,
 ) -> Result<Reply, AllocError> {
@@ -163,7 +164,7 @@ pub(crate) fn reply<T: Tables>(
 #[inline(never)]
 fn append_other<T: Tables>(
     alloc: Global,
-    player: &mut PlayerOf<T>,
+    player: &mut KeeperOf<T>,
     numbers: &mut Numbers,
     call: &Call,
     replies: &mut Vec<Reply>,
@@ -178,7 +179,7 @@ fn append_other<T: Tables>(
 #[inline(always)]
 fn append<T: Tables>(
     alloc: Global,
-    player: &mut PlayerOf<T>,
+    player: &mut KeeperOf<T>,
     numbers: &mut Numbers,
     call: &Call,
     replies: &mut Vec<Reply>,
@@ -228,7 +229,7 @@ pub fn play_calls_of<T: Tables>(
     assert!(2 <= max_allocs, "max_allocs must be at least 2");
     assert!(max_allocs < T::Index::MAX - 1, "max_allocs must be at most NI::MAX - 2");
     assert!(calls.iter().all(|call| call.is_valid()), "each alignment must be at least 1");
-    let mut player: PlayerOf<T> = PlayerOf::start(alloc, size, max_allocs)?;
+    let mut player: KeeperOf<T> = KeeperOf::start(alloc, size, max_allocs)?;
     let mut numbers = Numbers::new(alloc);
     let mut found = Vec::with_capacity(alloc, calls.len())?;
     for call in calls {

@@ -7,7 +7,8 @@ use crate::guarded_playing::TicketPlayer;
 use crate::numbers::Numbers;
 use offset_allocator::{Allocation, AllocatorOf, Move, NodeIndex, Progress, RoomCost, Tables};
 use offset_guarded::GuardedOf;
-use offset_script::{Answer, PlayerOf};
+use offset_script::Answer;
+use offset_script::keeper::KeeperOf;
 use crate::memory::Vec;
 use crate::memory::{AllocError, Global};
 
@@ -118,7 +119,7 @@ fn numbered<NI: NodeIndex>(
 #[inline(never)]
 pub(crate) fn compact<T: Tables>(
     alloc: Global,
-    player: &mut PlayerOf<T>,
+    player: &mut KeeperOf<T>,
     numbers: &mut Numbers,
 ) -> Result<Reply, AllocError> {
     numbers.read(&player.handles, player.space.node_count())?;
@@ -143,7 +144,7 @@ fn by_steps(done: bool, moves: Vec<Moved>) -> Reply {
 #[inline(never)]
 pub(crate) fn compact_by<T: Tables>(
     alloc: Global,
-    player: &mut PlayerOf<T>,
+    player: &mut KeeperOf<T>,
     numbers: &mut Numbers,
     step: u32,
 ) -> Result<Reply, AllocError> {
@@ -160,7 +161,7 @@ pub(crate) fn compact_by<T: Tables>(
 #[inline(never)]
 pub(crate) fn make_room<T: Tables>(
     alloc: Global,
-    player: &mut PlayerOf<T>,
+    player: &mut KeeperOf<T>,
     numbers: &mut Numbers,
     size: u32,
 ) -> Result<Reply, AllocError> {
@@ -177,7 +178,7 @@ pub(crate) fn make_room<T: Tables>(
 #[inline(never)]
 pub(crate) fn make_room_by<T: Tables>(
     alloc: Global,
-    player: &mut PlayerOf<T>,
+    player: &mut KeeperOf<T>,
     numbers: &mut Numbers,
     size: u32,
     align: u32,
@@ -204,7 +205,7 @@ fn so_far(progress: Option<Progress>, moves: Vec<Moved>) -> Reply {
 #[inline(never)]
 pub(crate) fn compact_within<T: Tables>(
     alloc: Global,
-    player: &mut PlayerOf<T>,
+    player: &mut KeeperOf<T>,
     numbers: &mut Numbers,
     step: u32,
     from: u32,
@@ -294,7 +295,7 @@ fn with_serials<T: Tables>(
         // it is live, so it has a ticket
         let number = match space.ticket(handle) {
             None => 0,
-            Some(ticket) => ticket.serial,
+            Some(ticket) => ticket.serial(),
         };
         found.push(Moved { number, ..range })?;
     }

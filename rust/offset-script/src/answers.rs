@@ -57,7 +57,7 @@ pub enum Answer {
 /// # use offset_script::*;
 /// # let alloc = Global;
 /// let mut player = Player::<u32>::start(alloc, 1000, 16)?;
-/// let answer = full_answer(alloc, &player.space)?;
+/// let answer = full_answer(alloc, player.space())?;
 /// assert!(matches!(answer, Answer::Full(rows) if rows.len() == 1));
 /// # Ok::<(), RunFault>(())
 /// ```

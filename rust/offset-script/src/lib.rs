@@ -18,6 +18,8 @@ mod buffer;
 mod common_lines;
 mod devices;
 mod faults;
+#[doc(hidden)]
+pub mod keeper;
 mod lines;
 mod listening;
 mod parsing;

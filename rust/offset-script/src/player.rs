@@ -1,25 +1,30 @@
 // Printed by rust/erase from crates/offset_script/src/player.rt: change it there.
 
-//! A player: it carries out commands on an allocator, of which it keeps the handles. No other module of this
-//! crate changes a space.
+//! A player: an allocator that takes commands one by one. Nothing but a command changes its space.
 
-use crate::answers::{Answer, full_answer};
+use crate::answers::Answer;
+use crate::keeper::KeeperOf;
 use crate::scripts::Command;
 use offset_allocator::{Allocation, AllocatorOf, ByNode, NodeIndex, Tables};
-use crate::memory::Vec;
 use crate::memory::{AllocError, Global};
 
 /// A player of an allocator by node.
 pub type Player<NI = u32> = PlayerOf<ByNode<NI>>;
 
-/// An allocator, with the handles of its live grants: it takes commands one by one.
+/// An allocator, with the handles of its live grants: it takes commands one by one. Nothing else changes its
+/// space, so each handle that is kept is live, and no two have one name. What would free one, does not compile:
+///
+/// ```compile_fail
+/// let mut player = offset_script::Player::<u32>::start(offset_script::Global, 1000, 16).unwrap();
+/// player.space().free(player.handle(1).unwrap());
+/// ```
+///
+/// ```compile_fail
+/// let mut player = offset_script::Player::<u32>::start(offset_script::Global, 1000, 16).unwrap();
+/// player.keeper.handles.clear();
+/// ```
 pub struct PlayerOf<T: Tables> {
-    /// The allocator.
-    pub space: AllocatorOf<T>,
-    /// The handle of grant k is at k - 1 while the grant is live.
-    pub handles: Vec<Option<Allocation<T::Index>>>,
-    // Resets have removed the first handles, up to this number.
-    swept: usize,
+    keeper: KeeperOf<T>,
 }
 
 impl<T: Tables> PlayerOf<T> {
@@ -39,19 +44,47 @@ impl<T: Tables> PlayerOf<T> {
     /// # use offset_script::*;
     /// # let alloc = Global;
     /// let player = Player::<u16>::start(alloc, 1000, 16)?;
-    /// assert_eq!(player.space.size(), 1000);
+    /// assert_eq!(player.space().size(), 1000);
     /// # Ok::<(), RunFault>(())
     /// ```
     #[track_caller]
     pub fn start(alloc: Global, size: u32, max_allocs: u32) -> Result<Self, AllocError> {
         assert!(2 <= max_allocs, "max_allocs must be at least 2");
         assert!(max_allocs < T::Index::MAX - 1, "max_allocs must be at most NI::MAX - 2");
-        let space = AllocatorOf::with_max_allocs(alloc, size, max_allocs)?;
-        Ok(PlayerOf {
-            space,
-            handles: Vec::new(alloc),
-            swept: 0,
-        })
+        let keeper = KeeperOf::start(alloc, size, max_allocs)?;
+        Ok(PlayerOf { keeper })
+    }
+
+    /// The allocator, to read.
+    ///
+    /// ```
+    /// # use offset_allocator::ByNode;
+    /// # use offset_script::memory::Vec;
+    /// # use offset_script::*;
+    /// # let alloc = Global;
+    /// let mut player = Player::<u32>::start(alloc, 1000, 16)?;
+    /// player.call(alloc, Command::Alloc(300))?;
+    /// assert_eq!(player.space().free_units(), 700);
+    /// # Ok::<(), RunFault>(())
+    /// ```
+    pub fn space(&self) -> &AllocatorOf<T> {
+        &self.keeper.space
+    }
+
+    /// The handles of the grants so far: that of grant k is at k - 1 while the grant is live.
+    ///
+    /// ```
+    /// # use offset_allocator::ByNode;
+    /// # use offset_script::memory::Vec;
+    /// # use offset_script::*;
+    /// # let alloc = Global;
+    /// let mut player = Player::<u32>::start(alloc, 1000, 16)?;
+    /// player.call(alloc, Command::Alloc(300))?;
+    /// assert_eq!(player.handles(), [player.handle(1)]);
+    /// # Ok::<(), RunFault>(())
+    /// ```
+    pub fn handles(&self) -> &[Option<Allocation<T::Index>>] {
+        &self.keeper.handles
     }
 
     /// The handle of the grant of this number, if it is live.
@@ -67,113 +100,10 @@ impl<T: Tables> PlayerOf<T> {
     /// # Ok::<(), RunFault>(())
     /// ```
     pub fn handle(&self, number: u32) -> Option<Allocation<T::Index>> {
-        if number == 0 {
-            return None;
-        }
-        match self.handles.get(number as usize - 1) {
-            Some(handle) => *handle,
-            None => None,
-        }
-    }
-
-    /// The answer to a request with this result. The handle of a grant is kept under the next number: it has
-    /// to be live in `space`, and not kept yet.
-    ///
-    /// # Errors
-    ///
-    /// It fails only where an allocation fails, and never while `handles` has room for one more. Then the
-    /// grant is live, and not kept: to free it, or to keep it later, is left to the caller.
-    ///
-    /// ```
-    /// # use offset_allocator::ByNode;
-    /// # use offset_script::memory::Vec;
-    /// # use offset_script::*;
-    /// # let alloc = Global;
-    /// let mut player = Player::<u32>::start(alloc, 1000, 16)?;
-    /// let granted = player.space.allocate(300);
-    /// player.keep(granted)?;
-    /// assert_eq!(player.handle(1), granted);
-    /// # Ok::<(), RunFault>(())
-    /// ```
-    pub fn keep(&mut self, granted: Option<Allocation<T::Index>>) -> Result<Answer, AllocError> {
-        match granted {
-            None => Ok(Answer::Refused),
-            Some(handle) => {
-                self.handles.push(Some(handle))?;
-                Ok(Answer::Grant {
-                    number: self.handles.len() as u64,
-                    offset: handle.offset,
-                })
-            }
-        }
-    }
-
-    // Makes room for one more handle. It comes before a request, so that no grant is without a number.
-    fn reserve(&mut self) -> Result<(), AllocError> {
-        self.handles.reserve(1)
-    }
-
-    // The answer to `alloc`.
-    fn allocate(&mut self, size: u32) -> Result<Answer, AllocError> {
-        self.reserve()?;
-        let granted = self.space.allocate(size);
-        self.keep(granted)
-    }
-
-    // The answer to `free`. The grant's handle is removed.
-    fn release(&mut self, number: u32) -> Answer {
-        match self.handle(number) {
-            None => Answer::Gone,
-            Some(handle) => {
-                self.space.free(handle);
-                self.handles[number as usize - 1] = None;
-                Answer::Freed
-            }
-        }
-    }
-
-    // The answer to `size`.
-    fn size(&self, number: u32) -> Answer {
-        match self.handle(number) {
-            None => Answer::Gone,
-            Some(handle) => Answer::Size(self.space.allocation_size(handle)),
-        }
-    }
-
-    // The answer to `report`.
-    fn report(&self) -> Answer {
-        Answer::Report(self.space.storage_report())
-    }
-
-    // The answer to `reset`. All handles are removed, and numbers go on.
-    fn reset(&mut self) -> Answer {
-        self.space.reset();
-        for i in self.swept..self.handles.len() {
-            self.handles[i] = None;
-        }
-        self.swept = self.handles.len();
-        Answer::Reset
-    }
-
-    // The answer to `align`.
-    fn allocate_aligned(&mut self, size: u32, align: u32) -> Result<Answer, AllocError> {
-        self.reserve()?;
-        let granted = self.space.allocate_aligned(size, align);
-        self.keep(granted)
-    }
-
-    // The answer to `extend`.
-    fn extend(&mut self, more: u32) -> Answer {
-        if self.space.extend(more) {
-            Answer::Extended
-        } else {
-            Answer::Refused
-        }
+        self.keeper.handle(number)
     }
 
     /// Carries out one command, and returns its answer. The alignment of a request has to be at least 1.
-    /// Each handle that is kept has to be live, and no two may have one name: so it is in a player that
-    /// `start` made, and after each `call` and each `keep`.
     ///
     /// # Errors
     ///
@@ -197,15 +127,6 @@ impl<T: Tables> PlayerOf<T> {
     #[track_caller]
     pub fn call(&mut self, alloc: Global, command: Command) -> Result<Answer, AllocError> {
         assert!(!matches!(command, Command::Align(_, 0)), "an alignment must be at least 1");
-        match command {
-            Command::Alloc(size) => self.allocate(size),
-            Command::Free(number) => Ok(self.release(number)),
-            Command::Size(number) => Ok(self.size(number)),
-            Command::Report => Ok(self.report()),
-            Command::Full => full_answer(alloc, &self.space),
-            Command::Reset => Ok(self.reset()),
-            Command::Align(size, align) => self.allocate_aligned(size, align),
-            Command::Extend(more) => Ok(self.extend(more)),
-        }
+        self.keeper.call(alloc, command)
     }
 }

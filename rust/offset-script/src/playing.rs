@@ -27,11 +27,13 @@ pub(crate) fn play_to<T: Tables, L: Listener>(
     commands: &[Command],
 ) -> Result<L, AllocError> {
     let mut player: PlayerOf<T> = PlayerOf::start(alloc, size, max_allocs)?;
-    let mut listener = L::begin(alloc, &player.space, commands.len())?;
+    let fresh = player.space();
+    let mut listener = L::begin(alloc, fresh, commands.len())?;
     for command in commands {
         let asked = L::played(*command);
         let answer = player.call(alloc, asked)?;
-        listener.hear(alloc, &player.space, asked, answer)?;
+        let space = player.space();
+        listener.hear(alloc, space, asked, answer)?;
     }
     Ok(listener)
 }

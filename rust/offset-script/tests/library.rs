@@ -1,7 +1,7 @@
 //! The library's calls, and their conditions in `table.py`.
 use offset_allocator::Allocator;
 use offset_script::{
-    json_of, parse, play, run, vma_json_of, Answer, Command, FromRead, Global, IndexWidth, IntoWrite, RunFault, ScriptFault, Sink,
+    json_of, parse, play, run, vma_json_of, Answer, Command, FromRead, Global, IndexWidth, IntoWrite, Player, RunFault, ScriptFault, Sink,
 };
 
 #[test]
@@ -12,6 +12,23 @@ fn reads_and_plays() {
     let answers = play::<u32>(Global, script.size, script.max_allocs, &script.commands).unwrap();
     assert!(matches!(answers[..], [Answer::Grant { number: 1, offset: 0 }, Answer::Freed]));
     assert_eq!(parse(Global, b"space 1\n").err(), Some(ScriptFault::BadHeader(1)));
+}
+
+#[test]
+fn players_take_commands_and_are_asked() {
+    let mut player = Player::<u32>::start(Global, 100, 16).unwrap();
+    assert!(matches!(player.call(Global, Command::Alloc(10)), Ok(Answer::Grant { number: 1, offset: 0 })));
+    assert!(matches!(player.call(Global, Command::Alloc(20)), Ok(Answer::Grant { number: 2, offset: 10 })));
+    assert!(matches!(player.call(Global, Command::Free(1)), Ok(Answer::Freed)));
+    assert!(matches!(player.call(Global, Command::Free(1)), Ok(Answer::Gone)));
+    let (gone, second) = (player.handle(1), player.handle(2));
+    assert_eq!((gone, second.map(|it| it.offset), player.handle(3)), (None, Some(10), None));
+    assert_eq!(player.handles(), [gone, second]);
+    assert_eq!((player.space().live_units(), player.space().allocation_size(second.unwrap())), (20, 20));
+    // a handle is copied, but no call takes one, so what is kept stays live
+    assert!(matches!(player.call(Global, Command::Reset), Ok(Answer::Reset)));
+    assert_eq!(player.handles(), [None, None]);
+    assert!(matches!(player.call(Global, Command::Free(2)), Ok(Answer::Gone)));
 }
 
 #[test]

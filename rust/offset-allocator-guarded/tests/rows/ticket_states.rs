@@ -196,7 +196,7 @@ impl Expectation for GoesOn {
         assert_same(&read.size_of(second), &Some(8));
         assert_same(&read.offset_of(second), &Some(8));
         let third = read.allocate(8).expect("a grant");
-        assert_same(&third.serial, &3);
+        assert_same(&third.serial(), &3);
         assert_that(read.free(second) && !read.free(second));
         assert_that(read.is_live(third) && !read.is_live(first));
     }

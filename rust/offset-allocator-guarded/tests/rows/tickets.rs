@@ -29,30 +29,32 @@ fn expect_dead<T: Tables>(space: &mut GuardedOf<T>, ticket: Ticket) {
 }
 
 fn expect_altered<T: Tables>(space: &mut GuardedOf<T>, ticket: Ticket) {
-    let mut altered = ticket;
-    for serial in [0, 1, 3, u64::MAX] {
-        altered.serial = serial;
-        expect_dead(space, altered);
+    let (offset, name, serial, realm) = ticket.to_parts();
+    for altered in [0, 1, 3, u64::from(u32::MAX), 1 << 32 | serial, u64::MAX] {
+        expect_dead(space, Ticket::from_parts(offset, name, altered, realm).unwrap());
     }
-    altered = ticket;
-    for name in [1, 63, 65_535, u32::MAX] {
-        altered.name = name;
-        expect_dead(space, altered);
+    for altered in [1, 63, 65_535, u32::MAX - 1] {
+        expect_dead(space, Ticket::from_parts(offset, altered, serial, realm).unwrap());
     }
-    altered = ticket;
-    altered.realm = 8;
-    expect_dead(space, altered);
+    assert_same(&Ticket::from_parts(offset, u32::MAX, serial, realm), &None);
+    expect_dead(space, Ticket::from_parts(offset, name, serial, 8).unwrap());
     // no call reads the offset
-    altered = ticket;
-    altered.offset = 60;
+    let mut altered = Ticket::from_parts(60, name, serial, realm).unwrap();
     assert_same(&space.offset_of(altered), &Some(0));
+    altered.offset = offset;
+    assert_same(&altered, &ticket);
 }
 
 // The ticket has this offset, this serial and this realm.
 fn expect_ticket(ticket: Ticket, offset: u32, serial: u64, realm: u32) {
     assert_same(&ticket.offset, &offset);
-    assert_same(&ticket.serial, &serial);
-    assert_same(&ticket.realm, &realm);
+    assert_same(&ticket.serial(), &serial);
+    assert_same(&ticket.realm(), &realm);
+}
+
+#[test]
+fn a_ticket_takes_20_bytes() {
+    assert_eq!((size_of::<Ticket>(), size_of::<Option<Ticket>>()), (20, 20));
 }
 
 fn stale_or_altered<T: Tables>() {
@@ -64,14 +66,14 @@ fn stale_or_altered<T: Tables>() {
     let second = grant(&mut space, 8);
     expect_ticket(second, 0, 2, 7);
     // a handle of the allocator would be live again
-    assert_same(&second.name, &first.name);
+    assert_same(&second.name(), &first.name());
     expect_dead(&mut space, first);
     expect_altered(&mut space, second);
     assert_same(&space.size_of(second), &Some(8));
     space.reset();
     expect_dead(&mut space, second);
     let third = grant(&mut space, 8);
-    assert_same(&third.serial, &3);
+    assert_same(&third.serial(), &3);
     expect_dead(&mut space, second);
     assert_that(space.is_live(third));
 }

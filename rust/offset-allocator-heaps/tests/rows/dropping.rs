@@ -46,7 +46,7 @@ fn expect_drops<T: Tables>(heaps: &mut HeapsOf<T>) {
     assert_eq!(dropped(heaps, 0), [Some(0), None, None]);
     let new = granted(heaps, 50);
     assert_eq!(new.heap, 0);
-    assert_eq!(new.ticket.realm, 4);
+    assert_eq!(new.ticket.realm(), 4);
     assert!(heaps.is_live(new));
     assert!(!heaps.is_live(old));
     let other = Place { realm: 8, ..new };

@@ -47,4 +47,6 @@ fn at(place: Option<Place>) -> Option<(u32, u32)> {
 }
 
 /// A place that is live nowhere.
-const NOWHERE: Place = Place { heap: 9, realm: 0, ticket: Ticket { offset: 0, name: 0, serial: 0, realm: 0 } };
+fn nowhere() -> Place {
+    Place { heap: 9, realm: 0, ticket: Ticket::from_parts(0, 0, 0, 0).unwrap() }
+}

@@ -46,8 +46,8 @@ fn heaps_that_are_raised_grant_as_others_do() {
     in_each_layout!(expect_alike);
 }
 
-// A heap has 8 nodes, then 16, 32 and 40, each time before a grant finds fewer than five unused ones: so one of
-// 8 nodes with four blocks has its limit raised, and one with three does not.
+// A heap has 8 nodes, then 16, 32 and 40, each time before a grant that its space would refuse: so one of 8 nodes with seven
+// blocks has its limit raised, since one node stays unused, and one with six does not.
 fn expect_raises<T: Tables>() {
     let mut heaps: HeapsOf<T> = new(few());
     assert_eq!(limits_of(&heaps), [None, None, None]);
@@ -61,7 +61,7 @@ fn expect_raises<T: Tables>() {
         }
     }
     // n live ranges and the free block are n + 1 blocks
-    assert_eq!(raised, [3, 11, 27]);
+    assert_eq!(raised, [6, 14, 30]);
     assert_eq!(limits_of(&heaps), [Some(40), None, None]);
     // 38 live ranges and a free block: of 40 nodes one stays unused, and the next heap has 8 of them
     let next = heaps.allocate(1).expect("a grant");
@@ -72,30 +72,65 @@ fn expect_raises<T: Tables>() {
     assert_eq!(limits_of(&heaps), [Some(40), Some(8), Some(4)]);
 }
 
-// Heap 0 has four blocks and four unused nodes: its limit would have to be raised for a range of heap 1, and it takes
-// none, since `relocate` takes no memory. A request raises it, and then the heap takes the range.
+// Heap 0 has seven blocks: its limit would have to be raised for a range of heap 1, and it takes none, since `relocate`
+// takes no memory. A request raises it, and then the heap takes the range.
 fn expect_relocation<T: Tables>() {
     let heaps: &mut HeapsOf<T> = &mut new(few());
-    let first = granted(heaps, 60);
-    let second = granted(heaps, 60);
-    let third = granted(heaps, 60);
+    let own: Vec<Place> = (0..6).map(|_| granted(heaps, 30)).collect();
     let moved = granted(heaps, 30);
-    assert_eq!(at(Some(third)), Some((0, 120)));
+    assert_eq!(at(Some(own[5])), Some((0, 150)));
     assert_eq!(at(Some(moved)), Some((1, 0)));
-    assert!(heaps.free(second));
-    // the blocks of 60 units at 0, 60 free at 60, 60 at 120 and 20 free
+    assert!(heaps.free(own[1]));
+    // 30 units at 0, 30 free ones, 30 at 60, 90, 120 and 150, and 20 free ones
     assert_eq!(at(heaps.relocate(moved)), None);
-    assert_eq!(at(heaps.relocate_aligned(moved, 4)), None);
     assert_eq!(limits_of(heaps), [Some(8), Some(8), None]);
-    assert_eq!(at(Some(granted(heaps, 8))), Some((0, 180)));
+    assert_eq!(at(Some(granted(heaps, 20))), Some((0, 180)));
     assert_eq!(limits_of(heaps), [Some(16), Some(8), None]);
-    assert_eq!(at(heaps.relocate(moved)), Some((0, 60)));
+    assert_eq!(at(heaps.relocate(moved)), Some((0, 30)));
     assert_eq!(limits_of(heaps), [Some(16), Some(8), None]);
-    assert_eq!(heaps.size_of(first), Some(60));
+}
+
+// With six blocks it takes a range that may begin anywhere, which may add one block, and none at an alignment, which may
+// add two.
+fn expect_aligned_relocation<T: Tables>() {
+    let heaps: &mut HeapsOf<T> = &mut new(few());
+    for _ in 0..5 {
+        granted(heaps, 30);
+    }
+    // 50 units are free, which are filed as 48
+    let moved = granted(heaps, 49);
+    assert_eq!(at(Some(moved)), Some((1, 0)));
+    assert_eq!(heaps.shrink(moved, 40), Some(true));
+    assert_eq!(at(heaps.relocate_aligned(moved, 4)), None);
+    assert_eq!(at(heaps.relocate(moved)), Some((0, 150)));
+    assert_eq!(limits_of(heaps), [Some(8), Some(8), None]);
+}
+
+// A limit is raised for units at the end only where they become a further block; and none is raised for `shrink`, which is
+// refused where the space refuses it.
+fn expect_extension<T: Tables>() {
+    let heaps: &mut HeapsOf<T> = &mut new(few());
+    let own: Vec<Place> = (0..6).map(|_| granted(heaps, 30)).collect();
+    assert_eq!((heaps.extend_heap(0, 0), heaps.extend_heap(0, 10)), (Ok(true), Ok(true)));
+    assert_eq!(heaps.units_of_heap(0), Some(210));
+    // the last range takes the 30 free units: six blocks, and the last one is used
+    assert_eq!(heaps.grow_in_place(own[5], 60), Some(true));
+    assert_eq!(heaps.shrink(own[5], 60), Some(true));
+    assert_eq!(heaps.shrink(own[0], 20), Some(true));
+    // seven blocks: 20 units at 0, 10 free ones, and five ranges
+    assert_eq!(heaps.shrink(own[1], 20), Some(false));
+    assert_eq!(heaps.shrink(own[0], 15), Some(true));
+    assert_eq!(heaps.extend_heap(0, 0), Ok(true));
+    assert_eq!(limits_of(heaps), [Some(8), None, None]);
+    assert_eq!(heaps.extend_heap(0, 10), Ok(true));
+    assert_eq!(limits_of(heaps), [Some(16), None, None]);
+    assert_eq!(heaps.shrink(own[1], 20), Some(true));
 }
 
 #[test]
 fn node_limits_are_raised() {
     in_each_layout!(expect_raises);
     in_each_layout!(expect_relocation);
+    in_each_layout!(expect_aligned_relocation);
+    in_each_layout!(expect_extension);
 }

@@ -1,6 +1,6 @@
 //! Heaps that are emptied into others.
 
-use super::{at, granted, in_each_layout, limits, new, NOWHERE};
+use super::{at, granted, in_each_layout, limits, new, nowhere};
 use offset_allocator::Tables;
 use offset_allocator_heaps::{HeapsOf, Place};
 
@@ -55,7 +55,7 @@ fn expect_pass<T: Tables>() {
     let other = Place { realm: 8, ..e };
     assert_eq!(heaps.relocate(other), None);
     assert_eq!(heaps.live_before(other), None);
-    assert_eq!(heaps.relocate(NOWHERE), None);
+    assert_eq!(heaps.relocate(nowhere()), None);
 }
 
 #[test]
@@ -85,4 +85,37 @@ fn expect_aligned<T: Tables>() {
 #[test]
 fn aligned_relocation() {
     in_each_layout!(expect_aligned);
+}
+
+// Ranges of no units, which `shrink` leaves: they go to a heap with more live units or, of as many, with a lower number,
+// where one unit is free.
+fn expect_no_units<T: Tables>() {
+    let heaps: &mut HeapsOf<T> = &mut new(limits(96, 8, 8, 3, 0));
+    let first = granted(heaps, 96);
+    let second = granted(heaps, 96);
+    let third = granted(heaps, 96);
+    assert_eq!([first.heap, second.heap, third.heap], [0, 1, 2]);
+    // nothing is free in the heaps 0 and 1
+    assert_eq!(heaps.shrink(third, 0), Some(true));
+    assert_eq!(heaps.emptiest(), Some(2));
+    assert_eq!(heaps.relocate(third), None);
+    // no unit is live in the heaps 1 and 2: the range of heap 2 goes to heap 1, which has a lower number, and not back
+    assert_eq!(heaps.shrink(second, 0), Some(true));
+    assert_eq!(heaps.emptiest(), Some(2));
+    let moved = heaps.relocate(third);
+    assert_eq!((at(moved), moved.and_then(|place| heaps.size_of(place))), (Some((1, 0)), Some(0)));
+    assert!(heaps.free(third));
+    assert_eq!(heaps.relocate(second), None);
+    assert_eq!(heaps.drop_empty(0), Some(2));
+    // heap 0 has live units, and then a free one
+    assert_eq!(heaps.shrink(first, 95), Some(true));
+    let last = heaps.relocate_aligned(second, 5);
+    assert_eq!(at(last), None);
+    assert_eq!(at(heaps.relocate(second)), Some((0, 95)));
+    assert_eq!(heaps.relocate(first), None);
+}
+
+#[test]
+fn relocation_of_no_units() {
+    in_each_layout!(expect_no_units);
 }

@@ -292,7 +292,7 @@ fn expect_place<T: Tables>(heaps: &mut HeapsOf<T>, place: Place) {
     assert_eq!(heaps.totals().free_units, 40);
     let next = granted(heaps, 97);
     assert_eq!(next.heap, 1);
-    assert_eq!(next.ticket.realm, 2);
+    assert_eq!(next.ticket.realm(), 2);
     assert!(heaps.free(place));
 }
 

@@ -1,4 +1,6 @@
-use Rattle.offset_calls.proofs.Common.{◌<◌, length, subst, arith, take_all, IsWellFormed, AreInOrder}
+use Rattle.offset_calls.proofs.Common.{◌<◌, ℕ, length, subst, arith, take_all, IsWellFormed, AreInOrder}
+use Rattle.offset_calls.specs.declared.guarded.TicketCall.{TicketCall}
+use Rattle.offset_calls.specs.{Histories.renumber, Playing.IsAppended, Tickets.IsNumberOf, Tickets.TakesTicket, Tickets.passed}
 use Rattle.offset_calls.proofs.{Along.all_granted, Along.all_kept_played, Along.ends, Along.goes_on, Along.none_granted, Along.starts, Tickets.no_tickets}
 use Rattle.offset_calls.proofs.guarded.play_guarded.Goals as goal
 
@@ -11,11 +13,16 @@ loop-call-preserved g c =
     let i = c.loop-call.call-index in
     let ts = c.loop-call.player.tickets.items in
     let within : i < length cs = omega arith in
-    goes_on c.args.size c.args.max_allocs c.args.realm c.requires.low c.loop-call.player.space c.append.new.player.space ts c.append.new.player.tickets.items cs i _
+    let old = c.loop-call.player.space in
+    let now = c.append.new.player.space in
+    let us = c.append.new.player.tickets.items in
+    goes_on c.args.size c.args.max_allocs c.args.realm c.requires.low old now ts us cs i c.call-item.result
     c.loop-call.replies.items c.append.new.replies.items
     c.loop-call.invariant.all_tickets c.loop-call.invariant.few c.loop-call.invariant.played c.loop-call.invariant.realm c.loop-call.invariant.granted
     (subst IsWellFormed c.allocator-in-loop-call.ensures c.is_well_formed-in-loop-call.ensures) within
-    c.requires.valid c.in_ok-append.ensures
+    c.requires.valid
+    (subst (λ (x : TicketCall). IsAppended (λ r. (k : ℕ) → IsNumberOf k (passed ts x) old ts → TakesTicket (renumber (λ j. k) x.call) old ts now us r)
+    c.loop-call.replies.items c.append.new.replies.items) c.call-item.is c.in_ok-append.ensures)
 
 pub append-requires-clause-left : goal.append-requires-clause-left
 append-requires-clause-left g c = search (arith)

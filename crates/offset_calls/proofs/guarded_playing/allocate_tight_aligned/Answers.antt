@@ -1,4 +1,5 @@
-use Rattle.offset_calls.proofs.{Common.refl, Tickets.stored}
+use Rattle.offset_calls.proofs.{Common.refl, Tickets.stored, Tickets.stored_serials}
+use Rattle.offset_calls.specs.declared.calls.Call.TheVariants as call
 use Rattle.offset_calls.proofs.guarded_playing.allocate_tight_aligned.Goals as goal
 
 pub returns : goal.returns
@@ -6,4 +7,6 @@ returns g c =
     let s = stored c.args.size c.args.player.now.space c.allocate_tight_aligned-granted.new.self c.args.player.now.tickets.items c.keep.new.tickets.items c.allocate_tight_aligned-granted.result _
     c.requires.all_tickets
     c.allocate_tight_aligned-granted.ensures.grants c.allocate_tight_aligned-granted.ensures.same c.in_ok-keep.ensures in
-    record { takes = (_, _, c.allocate_tight_aligned-granted.ensures.step c.requires.left, s.0, refl); all_tickets = s.1; grown = s.2; realm = s.3 }
+    let cells = stored_serials c.args.size (call.AllocateTightAligned c.args.size c.args.align) c.args.player.now.space c.allocate_tight_aligned-granted.new.self c.args.player.now.tickets.items c.keep.new.tickets.items c.allocate_tight_aligned-granted.result _ (λ _ cells. refl)
+    c.allocate_tight_aligned-granted.ensures.grants c.allocate_tight_aligned-granted.ensures.serials c.in_ok-keep.ensures in
+    record { takes = (_, _, c.allocate_tight_aligned-granted.ensures.step c.requires.left, s.0, refl); all_tickets = s.1; grown = s.2; serials = cells; realm = s.3 }

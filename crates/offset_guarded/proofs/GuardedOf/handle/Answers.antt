@@ -1,3 +1,4 @@
+use Rattle.std.proofs.Common.{arith}
 use Rattle.std.proofs.lemmas.Bool.{false≢true}
 use Rattle.offset_guarded.proofs.Guards.{no_such}
 use Rattle.offset_guarded.proofs.GuardedOf.handle.Goals as goal
@@ -6,5 +7,5 @@ pub returns-in_default-clause-live : goal.returns-in_default-clause-live
 returns-in_default-clause-live g c = (
   λ e. absurd (false≢true e),
   λ h. absurd (no_such g.T.Index.NodeIndex.MAX c.args.ticket _ c.self.inside.space c.self.inside.serials c.self.inside.realm c.self.view_is c.self.invariant.admitted c.is_well_formed.ensures
-      c.in_default.ensures h),
+      (omega (arith, c.in_default.ensures, c.name-2.ensures.name)) h),
 )

@@ -2,8 +2,7 @@ use Rattle.std.proofs.Common.{refl, arith, ap, option_map}
 use Rattle.offset_allocator.specs.{Ranges.Range, View.View}
 use Rattle.offset_guarded.specs.Guard.{Guard}
 use Rattle.offset_heaps.specs.Changing.{CompactsIn}
-use Rattle.offset_heaps.proofs.Changes.{altered, compacted_blocks, kept_of_places}
-use Rattle.offset_heaps.proofs.Raising.{still_left}
+use Rattle.offset_heaps.proofs.Changes.{altered, kept_of_places}
 use Rattle.offset_heaps.proofs.{Places.shown, Sound.kind_kept, Sound.realm_kept, Sound.sound_put}
 use Rattle.offset_heaps.proofs.HeapsOf.compact_heap.Goals as goal
 
@@ -15,7 +14,6 @@ invariant_of-self-2 g c =
     let e = change.slots in
     let below = realm_kept c.self.inside.made _ change.now by.before by.after by.was by.is (ap (λ (a : Guard). a.realm) by.by.serials) (c.self.invariant.realms c.args.number) in
     let kind = kind_kept c.self.inside.limits c.args.number _ change.now by.before by.after by.was by.is (ap (λ (v : View). v.size) by.by.step.view) (ap (λ (v : View). v.max_allocs) by.by.step.view)
-    (still_left c.self.inside.limits c.args.number by.before by.after (compacted_blocks by.before.space by.after.space by.by.step) (ap (λ (v : View). v.max_allocs) by.by.step.view))
     (c.self.invariant.kinds c.args.number) in
     rw e (sound_put g.T.Index.NodeIndex.MAX c.self.inside.slots c.self.inside.limits c.self.inside.made c.self.inside.made c.self.inside.index c.note.new.self c.args.number change.now
     c.self.invariant (omega arith) below kind there (rw e at c.note.ensures.wide) (rw e at c.note.ensures.here) (rw e at c.note.ensures.others) c.note.ensures.levels)

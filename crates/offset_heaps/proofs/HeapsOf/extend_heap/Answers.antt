@@ -12,7 +12,7 @@ invariant_of-self-2 g c =
     let e = change.slots in
     let below = realm_kept c.self.inside.made _ change.now by.before by.after by.was by.is (realm_longer c.self.inside.limits c.args.number c.args.more c.in_ok-done.done by.before by.after by.by)
     (c.self.invariant.realms c.args.number) in
-    let kind = kind_longer c.self.inside.limits c.args.number c.args.more c.in_ok-done.done _ change.now by.before by.after by.was by.is c.self.invariant.limit_first by.by
+    let kind = kind_longer c.self.inside.limits c.args.number c.args.more c.in_ok-done.done _ change.now by.before by.after by.was by.is by.by
     (c.self.invariant.kinds c.args.number) in
     rw e (sound_put g.T.Index.NodeIndex.MAX c.self.inside.slots c.self.inside.limits c.self.inside.made c.self.inside.made c.self.inside.index c.note.new.self c.args.number change.now
     c.self.invariant (omega arith) below kind there (rw e at c.note.ensures.wide) (rw e at c.note.ensures.here) (rw e at c.note.ensures.others) c.note.ensures.levels)

@@ -4,7 +4,6 @@ use Rattle.offset_allocator.specs.View.{View}
 use Rattle.offset_guarded.specs.Guard.{Guard}
 use Rattle.offset_heaps.specs.Heaps.{Heaps, IsLive}
 use Rattle.offset_heaps.proofs.Places.{freed_gone, freed_others, freed_step, live_place, live_ticket, not_live_elsewhere, other_realm, same_slots, shown}
-use Rattle.offset_heaps.proofs.Raising.{freed_blocks, still_left}
 use Rattle.offset_heaps.proofs.Sound.{kind_kept, realm_kept, sound_put, wide_put}
 use Rattle.offset_heaps.proofs.HeapsOf.free.Goals as goal
 
@@ -47,7 +46,6 @@ invariant_of-self-2 g c =
     let e = change.slots in
     let below = realm_kept c.self.inside.made _ change.now by.before by.after by.was by.is (ap (λ (a : Guard). a.realm) by.serials) (c.self.invariant.realms c.args.place.heap) in
     let kind = kind_kept c.self.inside.limits c.args.place.heap _ change.now by.before by.after by.was by.is (ap (λ (v : View). v.size) by.step.view) (ap (λ (v : View). v.max_allocs) by.step.view)
-    (still_left c.self.inside.limits c.args.place.heap by.before by.after (freed_blocks c.args.place.ticket.name by.before.space by.after.space by.step) (ap (λ (v : View). v.max_allocs) by.step.view))
     (c.self.invariant.kinds c.args.place.heap) in
     rw e (sound_put g.T.Index.NodeIndex.MAX c.self.inside.slots c.self.inside.limits c.self.inside.made c.self.inside.made c.self.inside.index c.note.new.self c.args.place.heap change.now
     c.self.invariant (omega arith) below kind there (rw e at c.note.ensures.wide) (rw e at c.note.ensures.here) (rw e at c.note.ensures.others) c.note.ensures.levels)

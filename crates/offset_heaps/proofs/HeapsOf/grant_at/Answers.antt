@@ -1,30 +1,31 @@
-use Rattle.std.proofs.Common.{◌<◌, length, ap, arith, subst, sym}
-use Rattle.offset_allocator.specs.{Requests.units_needed, View.View, View.padding_to}
-use Rattle.offset_guarded.specs.Guard.{handle_in}
-use Rattle.offset_heaps.specs.Heaps.{Heaps, MustRaiseIn, slot}
-use Rattle.offset_heaps.proofs.{Finding.levels, Grants.granted_at, Raising.enough_left, Raising.must_in, Raising.split_blocks, Sound.kind_kept, Sound.realm_kept, Sound.sound_put}
+use Rattle.std.proofs.Common.{◌<◌, ◌≤◌, length, max, ap, arith, subst, sym}
+use Rattle.offset_allocator.specs.{Requests.blocks_needed, Requests.units_needed, View.View}
+use Rattle.offset_heaps.specs.Heaps.{Heaps, MustRaiseIn, room_of, slot}
+use Rattle.offset_heaps.proofs.{Finding.levels, Grants.granted_at, Rooms.room_now, Sound.kind_kept, Sound.realm_kept, Sound.sound_put}
 use Rattle.offset_heaps.proofs.HeapsOf.grant_at.Goals as goal
+
+pub grant-ticket-requires-clause-room : goal.grant-ticket-requires-clause-room
+grant-ticket-requires-clause-room g c =
+    let stays = subst (λ (h : Heaps). MustRaiseIn h.limits c.args.number (blocks_needed c.args.align) (slot c.args.number h.slots) → ⊥) (sym c.self.view_is) c.requires.stays in
+    let fits = subst (λ (h : Heaps). max 1 (units_needed c.args.size c.args.align) ≤ room_of h.limits c.args.number (blocks_needed c.args.align) (slot c.args.number h.slots)) (sym c.self.view_is) c.requires.room in
+    room_now c.self.inside.limits c.args.number (blocks_needed c.args.align) (max 1 (units_needed c.args.size c.args.align)) (slot c.args.number c.self.inside.slots) (c.self.invariant.kinds c.args.number) stays (omega arith) fits
 
 pub invariant_of-self : goal.invariant_of-self
 invariant_of-self g c =
     let there : c.args.number < length c.self.inside.slots = let l = c.requires.there in let e = ap (λ (h : Heaps). length h.slots) c.self.view_is in omega arith in
-    let stays = subst (λ (h : Heaps). MustRaiseIn h.limits c.args.number (slot c.args.number h.slots) → ⊥) (sym c.self.view_is) c.requires.stays in
     let change = c.grant-ticket.ensures.grants in
     let by = change.by in
     let e = change.slots in
     let below = realm_kept c.self.inside.made (slot c.args.number c.self.inside.slots) change.now by.before by.after by.was by.is by.grants.realm.1 (c.self.invariant.realms c.args.number) in
     let kind = kind_kept c.self.inside.limits c.args.number (slot c.args.number c.self.inside.slots) change.now by.before by.after by.was by.is
-    (ap (λ (v : View). v.size) by.step.1.view) (ap (λ (v : View). v.max_allocs) by.step.1.view)
-    (enough_left c.self.inside.limits c.args.number by.before by.after (λ must. stays (must_in c.self.inside.limits c.args.number (slot c.args.number c.self.inside.slots) by.before by.was must))
-    (split_blocks (units_needed c.args.size c.args.align) c.args.size (padding_to c.args.align) by.before.space by.after.space (handle_in c.grant-ticket.result) by.step.1)
-    (ap (λ (v : View). v.max_allocs) by.step.1.view)) (c.self.invariant.kinds c.args.number) in
+    (ap (λ (v : View). v.size) by.step.1.view) (ap (λ (v : View). v.max_allocs) by.step.1.view) (c.self.invariant.kinds c.args.number) in
     rw e (sound_put g.T.Index.NodeIndex.MAX c.self.inside.slots c.self.inside.limits c.self.inside.made c.self.inside.made c.self.inside.index c.note.new.self c.args.number change.now
     c.self.invariant (omega arith) below kind there (rw e at c.note.ensures.wide) (rw e at c.note.ensures.here) (rw e at c.note.ensures.others) c.note.ensures.levels)
 
 pub returns-clause-grants : goal.returns-clause-grants
 returns-clause-grants g c =
     let there : c.args.number < length c.self.inside.slots = let l = c.requires.there in let e = ap (λ (h : Heaps). length h.slots) c.self.view_is in omega arith in
-    let stays = subst (λ (h : Heaps). MustRaiseIn h.limits c.args.number (slot c.args.number h.slots) → ⊥) (sym c.self.view_is) c.requires.stays in
+    let stays = subst (λ (h : Heaps). MustRaiseIn h.limits c.args.number (blocks_needed c.args.align) (slot c.args.number h.slots) → ⊥) (sym c.self.view_is) c.requires.stays in
     rw (← c.self.view_is) (granted_at c.self.inside.slots c.grant-ticket.new.self c.self.inside.limits c.self.inside.made c.self.inside.realm c.self.inside.accesses c.note.new.count
     c.args.number c.args.size c.args.align c.grant-ticket.result there stays c.grant-ticket.ensures.grants)
 

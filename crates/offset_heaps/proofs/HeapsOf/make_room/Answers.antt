@@ -1,8 +1,7 @@
 use Rattle.std.proofs.Common.{refl, arith, ap, option_map}
 use Rattle.offset_allocator.specs.Ranges.{Range}
 use Rattle.offset_guarded.specs.Guard.{Guard}
-use Rattle.offset_heaps.proofs.Changes.{altered, kept_of_places, room_blocks, room_limits}
-use Rattle.offset_heaps.proofs.Raising.{still_left}
+use Rattle.offset_heaps.proofs.Changes.{altered, kept_of_places, room_limits}
 use Rattle.offset_heaps.proofs.{Places.shown, Sound.kind_kept, Sound.realm_kept, Sound.sound_put}
 use Rattle.offset_heaps.proofs.HeapsOf.make_room.Goals as goal
 
@@ -14,8 +13,7 @@ invariant_of-self-2 g c =
     let e = change.slots in
     let limits = room_limits _ _ _ _ _ by.before by.after by.by in
     let below = realm_kept c.self.inside.made _ change.now by.before by.after by.was by.is (ap (λ (a : Guard). a.realm) by.by.serials) (c.self.invariant.realms c.args.number) in
-    let kind = kind_kept c.self.inside.limits c.args.number _ change.now by.before by.after by.was by.is limits.0 limits.1
-    (still_left c.self.inside.limits c.args.number by.before by.after (room_blocks _ _ _ _ _ by.before by.after by.by) limits.1) (c.self.invariant.kinds c.args.number) in
+    let kind = kind_kept c.self.inside.limits c.args.number _ change.now by.before by.after by.was by.is limits.0 limits.1 (c.self.invariant.kinds c.args.number) in
     rw e (sound_put g.T.Index.NodeIndex.MAX c.self.inside.slots c.self.inside.limits c.self.inside.made c.self.inside.made c.self.inside.index c.note.new.self c.args.number change.now
     c.self.invariant (omega arith) below kind there (rw e at c.note.ensures.wide) (rw e at c.note.ensures.here) (rw e at c.note.ensures.others) c.note.ensures.levels)
 

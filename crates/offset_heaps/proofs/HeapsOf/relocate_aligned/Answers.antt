@@ -1,4 +1,4 @@
-use Rattle.std.proofs.Common.{ap, arith, subst, sym}
+use Rattle.std.proofs.Common.{ap, arith, refl, subst, sym}
 use Rattle.offset_heaps.specs.{Heaps.Heaps, Heaps.Grants, Heaps.numbers, Relocating.IsTaker, Relocating.granted}
 use Rattle.offset_heaps.proofs.{Grants.granted_since, Grants.not_live_before, Grants.others_kept, Grants.range_granted, Places.shown, Takers.size_here, Takers.takes_range, Takers.takes_units}
 use Rattle.offset_heaps.proofs.HeapsOf.relocate_aligned.Goals as goal
@@ -8,15 +8,15 @@ returns-in_err-number-clause-none g c =
     let old = shown c.self.inside.slots c.self.inside.limits c.self.inside.made c.self.inside.realm c.self.inside.accesses in
     rw (← c.self.view_is) (
       λ _ k t. c.in_err-number.ensures.first k
-          (takes_units c.args.place c.args.align old c.units_at-size.result.0 c.units_at-size.result.1 c.if-place-self.false c.units_at-size.ensures.units c.units_at-size.ensures.live k t),
-      λ _. c.from_residual.ensures,
+          (takes_units c.args.place c.args.align old c.in_ok-size.size c.in_ok-size.live c.if-place-self.false c.in_ok-size.ensures.units c.in_ok-size.ensures.all k t),
+      λ _. c.from_residual-in_err-number.ensures,
     )
 
 pub returns-in_err-number-clause-accesses : goal.returns-in_err-number-clause-accesses
 returns-in_err-number-clause-accesses g c bits enough =
     let all = ap numbers c.self.view_is in
     let start = ap (λ (h : Heaps). h.accesses) c.self.view_is in
-    let asked = c.units_at-size.ensures.accesses in
+    let asked = c.units_at.ensures.accesses in
     let few = c.taker.ensures.accesses bits (omega (arith, all, enough)) in
     omega (arith, all, start, asked, few)
 
@@ -26,18 +26,18 @@ returns-clause-none g c =
     rw (← c.self.view_is) (
       λ e. absurd (cc),
       λ none. absurd (none c.in_ok-number.number
-          (takes_range c.args.place c.args.align old c.units_at-size.result.0 c.units_at-size.result.1 c.if-place-self.false c.units_at-size.ensures.units c.units_at-size.ensures.live
-          c.in_ok-number.number (omega (arith, c.if-size-eq0.false)) c.in_ok-number.ensures.first.0)),
+          (takes_range c.args.place c.args.align old c.in_ok-size.size c.in_ok-size.live c.if-place-self.false c.in_ok-size.ensures.units c.in_ok-size.ensures.all
+          c.in_ok-number.number (c.in_ok-size.ensures.live.0 refl) c.in_ok-number.ensures.first.0)),
     )
 
 pub returns-clause-first : goal.returns-clause-first
 returns-clause-first g c =
     let old = shown c.self.inside.slots c.self.inside.limits c.self.inside.made c.self.inside.realm c.self.inside.accesses in
     rw (← c.self.view_is) (subst (IsTaker c.args.place c.args.align old) (sym c.grant_at.ensures.number) (
-      takes_range c.args.place c.args.align old c.units_at-size.result.0 c.units_at-size.result.1 c.if-place-self.false c.units_at-size.ensures.units c.units_at-size.ensures.live
-          c.in_ok-number.number (omega (arith, c.if-size-eq0.false)) c.in_ok-number.ensures.first.0,
+      takes_range c.args.place c.args.align old c.in_ok-size.size c.in_ok-size.live c.if-place-self.false c.in_ok-size.ensures.units c.in_ok-size.ensures.all
+          c.in_ok-number.number (c.in_ok-size.ensures.live.0 refl) c.in_ok-number.ensures.first.0,
       λ j l t. c.in_ok-number.ensures.first.1 j l
-          (takes_units c.args.place c.args.align old c.units_at-size.result.0 c.units_at-size.result.1 c.if-place-self.false c.units_at-size.ensures.units c.units_at-size.ensures.live j t),
+          (takes_units c.args.place c.args.align old c.in_ok-size.size c.in_ok-size.live c.if-place-self.false c.in_ok-size.ensures.units c.in_ok-size.ensures.all j t),
     ))
 
 pub returns-clause-grants : goal.returns-clause-grants
@@ -45,36 +45,36 @@ returns-clause-grants g c =
     let old = shown c.self.inside.slots c.self.inside.limits c.self.inside.made c.self.inside.realm c.self.inside.accesses in
     rw (← c.self.view_is)
     (subst (λ n. Grants n c.args.align old c.grant_at.new.self (granted c.grant_at.result.place))
-    (size_here c.args.place c.args.align old c.units_at-size.result.0 c.units_at-size.result.1 c.if-place-self.false c.units_at-size.ensures.units c.units_at-size.ensures.live)
-    (subst (λ b. Grants c.units_at-size.result.0 c.args.align old c.grant_at.new.self (record { place = c.grant_at.result.place; is_new = b })) c.grant_at.ensures.found
-    (granted_since c.units_at-size.result.0 c.args.align old c.taker.new.self c.grant_at.new.self c.grant_at.result c.taker.ensures.same c.grant_at.ensures.grants)))
+    (size_here c.args.place c.args.align old c.in_ok-size.size c.in_ok-size.live c.if-place-self.false c.in_ok-size.ensures.units c.in_ok-size.ensures.all)
+    (subst (λ b. Grants c.in_ok-size.size c.args.align old c.grant_at.new.self (record { place = c.grant_at.result.place; is_new = b })) c.grant_at.ensures.found
+    (granted_since c.in_ok-size.size c.args.align old c.taker.new.self c.grant_at.new.self c.grant_at.result c.taker.ensures.same c.grant_at.ensures.grants)))
 
 pub returns-clause-not_live : goal.returns-clause-not_live
 returns-clause-not_live g c =
     let old = shown c.self.inside.slots c.self.inside.limits c.self.inside.made c.self.inside.realm c.self.inside.accesses in
     rw (← c.self.view_is)
-    (not_live_before c.units_at-size.result.0 c.args.align old c.grant_at.new.self c.grant_at.result
-    (granted_since c.units_at-size.result.0 c.args.align old c.taker.new.self c.grant_at.new.self c.grant_at.result c.taker.ensures.same c.grant_at.ensures.grants))
+    (not_live_before c.in_ok-size.size c.args.align old c.grant_at.new.self c.grant_at.result
+    (granted_since c.in_ok-size.size c.args.align old c.taker.new.self c.grant_at.new.self c.grant_at.result c.taker.ensures.same c.grant_at.ensures.grants))
 
 pub returns-clause-range : goal.returns-clause-range
 returns-clause-range g c =
     let old = shown c.self.inside.slots c.self.inside.limits c.self.inside.made c.self.inside.realm c.self.inside.accesses in
-    rw (← c.self.view_is, ← size_here c.args.place c.args.align old c.units_at-size.result.0 c.units_at-size.result.1 c.if-place-self.false c.units_at-size.ensures.units c.units_at-size.ensures.live)
-    (range_granted c.units_at-size.result.0 c.args.align old c.grant_at.new.self c.grant_at.result
-    (granted_since c.units_at-size.result.0 c.args.align old c.taker.new.self c.grant_at.new.self c.grant_at.result c.taker.ensures.same c.grant_at.ensures.grants))
+    rw (← c.self.view_is, ← size_here c.args.place c.args.align old c.in_ok-size.size c.in_ok-size.live c.if-place-self.false c.in_ok-size.ensures.units c.in_ok-size.ensures.all)
+    (range_granted c.in_ok-size.size c.args.align old c.grant_at.new.self c.grant_at.result
+    (granted_since c.in_ok-size.size c.args.align old c.taker.new.self c.grant_at.new.self c.grant_at.result c.taker.ensures.same c.grant_at.ensures.grants))
 
 pub returns-clause-others : goal.returns-clause-others
 returns-clause-others g c =
     let old = shown c.self.inside.slots c.self.inside.limits c.self.inside.made c.self.inside.realm c.self.inside.accesses in
     rw (← c.self.view_is)
-    (others_kept c.units_at-size.result.0 c.args.align old c.grant_at.new.self c.grant_at.result
-    (granted_since c.units_at-size.result.0 c.args.align old c.taker.new.self c.grant_at.new.self c.grant_at.result c.taker.ensures.same c.grant_at.ensures.grants))
+    (others_kept c.in_ok-size.size c.args.align old c.grant_at.new.self c.grant_at.result
+    (granted_since c.in_ok-size.size c.args.align old c.taker.new.self c.grant_at.new.self c.grant_at.result c.taker.ensures.same c.grant_at.ensures.grants))
 
 pub returns-clause-accesses : goal.returns-clause-accesses
 returns-clause-accesses g c bits enough =
     let all = ap numbers c.self.view_is in
     let start = ap (λ (h : Heaps). h.accesses) c.self.view_is in
-    let asked = c.units_at-size.ensures.accesses in
+    let asked = c.units_at.ensures.accesses in
     let same = ap numbers c.taker.ensures.same in
     let few = c.taker.ensures.accesses bits (omega (arith, all, enough)) in
     let more = c.grant_at.ensures.accesses bits (omega (arith, all, enough, same)) in

@@ -18,7 +18,7 @@ invariant_of-self g c =
       limit_first = is.limit_first;
       size_first = is.size_first;
       realms = λ k. realm_reset c.self.inside.made (slot k c.self.inside.slots) (slot k c.reset_all.new.slots) (all.done k) (is.realms k);
-      kinds = λ k. kind_reset c.self.inside.limits k (slot k c.self.inside.slots) (slot k c.reset_all.new.slots) is.limit_first is.limit_min (all.done k) (is.kinds k);
+      kinds = λ k. kind_reset c.self.inside.limits k (slot k c.self.inside.slots) (slot k c.reset_all.new.slots) (all.done k) (is.kinds k);
     }
 
 pub returns-clause-heaps : goal.returns-clause-heaps

@@ -1,10 +1,6 @@
-use Rattle.std.proofs.Common.{◌+◌, ◌<◌, ◌≤◌, Bool, ap, arith, inl, inr, is_some, length, min, refl, subst}
-use Rattle.std.proofs.lemmas.Bool.{cases_Bool}
-use Rattle.offset_allocator.specs.View.{View}
-use Rattle.offset_heaps.specs.Changing.{CanResizeIn, Resizes, ResizesSpace, new_size}
-use Rattle.offset_heaps.specs.Heaps.{HasNodesLeft}
-use Rattle.offset_heaps.proofs.Raising.{still_left}
-use Rattle.offset_heaps.proofs.Changes.{alike, altered, kept_of_places, others_kept, resized_left, same_limits, same_space, undone_twin}
+use Rattle.std.proofs.Common.{Bool, arith, is_some, refl, subst}
+use Rattle.offset_heaps.specs.Changing.{Resizes, new_size}
+use Rattle.offset_heaps.proofs.Changes.{alike, altered, kept_of_places, others_kept, same_limits, undone_twin}
 use Rattle.offset_heaps.proofs.{Places.shown, Sound.kind_kept, Sound.realm_kept, Sound.sound_put}
 use Rattle.offset_heaps.proofs.HeapsOf.resize.Goals as goal
 
@@ -16,17 +12,7 @@ invariant_of-self-2 g c =
     let e = change.slots in
     let limits = same_limits (new_size c.args.how) c.args.place.ticket.name by.before.space by.after.space c.in_ok-done.done by.by.step in
     let below = realm_kept c.self.inside.made _ change.now by.before by.after by.was by.is by.by.serials.realm (c.self.invariant.realms c.args.place.heap) in
-    let left : c.args.place.heap < c.self.inside.limits.most → HasNodesLeft c.self.inside.limits by.before → min c.self.inside.limits.max_allocs (length by.after.space.blocks + 3) ≤ by.after.space.max_allocs =
-    elim (cases_Bool c.in_ok-done.done) [
-      | inl done ↦
-          let can = subst (CanResizeIn c.self.inside.limits c.args.place.heap (new_size c.args.how) c.args.place.ticket.name) by.was (c.in_ok-done.ensures.done.0 done) in
-          resized_left c.self.inside.limits c.args.place.heap (new_size c.args.how) by.before by.after can.1 by.by.blocks limits.1
-      | inr stays ↦
-          let same = same_space (new_size c.args.how) c.args.place.ticket.name by.before.space by.after.space
-          (subst (λ (b : Bool). ResizesSpace (new_size c.args.how) c.args.place.ticket.name by.before.space by.after.space b) stays by.by.step) in
-          still_left c.self.inside.limits c.args.place.heap by.before by.after (omega (arith, ap (λ (v : View). length v.blocks) same)) limits.1
-    ] in
-    let kind = kind_kept c.self.inside.limits c.args.place.heap _ change.now by.before by.after by.was by.is limits.0 limits.1 left (c.self.invariant.kinds c.args.place.heap) in
+    let kind = kind_kept c.self.inside.limits c.args.place.heap _ change.now by.before by.after by.was by.is limits.0 limits.1 (c.self.invariant.kinds c.args.place.heap) in
     rw e (sound_put g.T.Index.NodeIndex.MAX c.self.inside.slots c.self.inside.limits c.self.inside.made c.self.inside.made c.self.inside.index c.note.new.self c.args.place.heap change.now
     c.self.invariant (omega arith) below kind there (rw e at c.note.ensures.wide) (rw e at c.note.ensures.here) (rw e at c.note.ensures.others) c.note.ensures.levels)
 

@@ -1,5 +1,4 @@
 use Rattle.offset_script.proofs.{Common.take, Common.map, Common.answers, Common.after, Common.start, Common.Takes, Agreement.IsAtState, Simulation.IsBegun}
-use Rattle.offset_script.specs.Steps.{AreHeld}
 use Rattle.offset_script.proofs.playing.play_to.Given as goal
 
 -- the space is at the state after the commands so far, their answers are of a run that may go on, and the listener has heard them
@@ -8,8 +7,7 @@ invariant-loop-command g l =
     let s = start l.size l.max_allocs in
     let before = map g.L.Listener.played (take l.command-index l.commands) in
     record {
-      held : AreHeld l.player.space l.player.handles.items;
-      represents : IsAtState l.player.space l.player.handles.items (after before s);
-      steps : IsBegun Takes l.size l.max_allocs l.player.space l.player.handles.items before (answers before s);
+      represents : IsAtState l.player.space l.player.handles (after before s);
+      steps : IsBegun Takes l.size l.max_allocs l.player.space l.player.handles before (answers before s);
       heard : g.L.Listener.Heard l.listener s before;
     }

@@ -6,7 +6,7 @@ use Rattle.offset_heaps.proofs.slots.Slots.first_holding.Given as goal
 -- no heap so far holds it, nor has room for it
 abbrev pub invariant-loop-number : goal.invariant-loop-number
 invariant-loop-number g l = record {
-  none : (k : ℕ) → k < l.number → CanHoldIn l.size l.align (slot k l.self) → ⊥;
-  less : (k : ℕ) → k < l.number → room_of (blocks_needed l.align) (slot k l.self) < units_needed l.size l.align;
+  none : (k : ℕ) → k < l.number → CanHoldIn l.limits k l.size l.align (slot k l.self) → ⊥;
+  less : (k : ℕ) → k < l.number → room_of l.limits k (blocks_needed l.align) (slot k l.self) < units_needed l.size l.align;
   accesses : l.count ≤ l.fn.count + l.number;
 }
