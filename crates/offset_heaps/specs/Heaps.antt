@@ -102,8 +102,8 @@ IsNext size k hs = (hs.made < last_realm)
     × ((IsUsual size hs × IsSpareUsual size k hs × ((j : ℕ) → j < k → IsSpareUsual size j hs → ⊥))
     ⊎ ((IsUsual size hs → ⊥) × IsSpareLarger k hs × ((j : ℕ) → j < k → IsSpareLarger j hs → ⊥)))
 
--- the node limit of a usual heap has to be raised for a call that may add this many blocks: it is below the largest one, and
--- the space itself would refuse the call for want of nodes
+-- the node limit of a usual heap has to be raised before this many blocks are added: it is below the largest one, and has no
+-- room for them
 abbrev pub MustRaise : Limits → ℕ → ℕ → Guard → Type 0
 MustRaise limits k blocks g = (k < limits.most) × (g.space.max_allocs < limits.max_allocs) × (g.space.max_allocs ≤ length g.space.blocks + blocks)
 

@@ -17,8 +17,8 @@ pub struct Limits {
     /// The largest node limit of such a heap: at least 4, and at most `T::Index::MAX - 2`.
     pub max_allocs: u32,
     /// The node limit that such a heap begins with: `max_allocs`, and then no limit is ever raised; or at least 8
-    /// and at most `max_allocs`, and then a heap has its limit doubled as its grants need nodes, up to
-    /// `max_allocs`. It takes memory for the nodes of its limit alone: of `max_allocs: 65536` and
+    /// and at most `max_allocs`, and then a heap has its limit doubled as its grants and extensions need nodes,
+    /// up to `max_allocs`. It takes memory for the nodes of its limit alone: of `max_allocs: 65536` and
     /// `first_allocs: 64`, for what is live in it, and nobody has to guess how much that will be.
     pub first_allocs: u32,
     /// How many usual heaps there may be at a time: they have the numbers below this one.

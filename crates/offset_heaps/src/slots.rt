@@ -304,8 +304,8 @@ fn reset_in<T: Tables>(slot: &mut Option<GuardedOf<T>>)
     }
 }
 
-/// The units that a heap needs for a range of `size` units from a multiple of `align` on, which a request may not have:
-/// one at least.
+/// The units of room that a heap needs for a range of `size` units from a multiple of `align` on: one at least, also
+/// where the range has none.
 pub(crate) fn units_for(size: u32, align: u32) -> u64
     requires { 1 ≤ align }
     ensures { result ≡ max 1 (units_needed size align) }

@@ -169,8 +169,8 @@ impl<T: Tables> HeapsOf<T> {
     ///
     /// It is the first heap, by number, that has a free block which holds the request where it begins, and, under
     /// its largest node limit, unused nodes for it, and it grants what `GuardedOf::allocate_tight_aligned`
-    /// grants. So a heap that has room for the same request of `allocate_aligned` grants this one, and others may. Where none holds it,
-    /// another heap is made, exactly as by `allocate_aligned`: a usual one where the last of these has room for
+    /// grants. So a heap that has room for the same request of `allocate_aligned` grants this one, and others may.
+    /// Where none holds it, another heap is made, exactly as by `allocate_aligned`: a usual one where the last of these has room for
     /// `size` units when it is fresh, else one of exactly `size` units. The node limit of the heap is raised before,
     /// where it has to be, as there.
     ///

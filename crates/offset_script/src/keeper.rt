@@ -14,7 +14,8 @@ use crate::scripts::Command;
 use offset_allocator::{Allocation, AllocatorOf, NodeIndex, Tables};
 use std::alloc::{AllocError, Global};
 
-/// An allocator, with the handles of its live grants: what a player is made of.
+/// An allocator, with the handles of its live grants: what a player is made of. Where a handle that is kept is not
+/// live, or two have one name, a later `call` may panic: lists of calls keep both, and a program takes a `PlayerOf`.
 #[derive(Drop)]
 pub struct KeeperOf<T: Tables> {
     /// The allocator.

@@ -39,9 +39,9 @@ typedef struct oah_heaps oah_heaps;
  * has none and whose heap has room for the request.
  *
  * first_allocs: 0, and a usual heap has the node limit max_allocs; or the limit that it begins with, at least 8 and at most
- * max_allocs: it takes memory for the nodes of its limit, which is doubled, up to max_allocs, as a part of the grant that has
- * too few. Which request is granted, and where, is the same, but oah_relocate and oah_shrink take no memory: a heap that
- * would have to get nodes takes no range, and none there is shrunk that needs one. */
+ * max_allocs: it takes memory for the nodes of its limit, which is doubled, up to max_allocs, as a part of the grant, or of the
+ * extension, that has too few. Which request is granted, and where, is the same, but oah_relocate and oah_shrink take no
+ * memory: a heap that would have to get nodes takes no range, and a range is not shrunk where that needs one. */
 typedef struct oah_limits {
     uint32_t size;
     uint32_t max_allocs;
@@ -254,7 +254,8 @@ bool oah_drop_heap(oah_heaps *heaps, uint32_t number);
 /* Whether a number has a heap. */
 bool oah_has(const oah_heaps *heaps, uint32_t number);
 
-/* As oa_storage_report and oa_statistics, of the heap of a number; all 0 where it has none. */
+/* As oa_storage_report and oa_statistics, of the heap of a number; all 0 where it has none. A report of 0 and 0 may mean that
+ * the heap has reached the node limit that it has now, which a request raises: oah_totals looks at the largest limit. */
 oa_report oah_storage_report(const oah_heaps *heaps, uint32_t number);
 oa_totals oah_statistics(const oah_heaps *heaps, uint32_t number);
 

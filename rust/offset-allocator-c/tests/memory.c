@@ -130,22 +130,33 @@ int main(void) {
     CHECK_TEXT(oa_vma_json(space));
     CHECK_TEXT(oah_json(heaps));
     oah_drop(heaps);
-    /* of a heap with four unused nodes; where memory for more is refused, all is as it was */
+    /* of a heap with two unused nodes a request needs no memory; with one it does, and where that is refused, all is as it was */
     oah_heaps *growing = oah_with_realm((oah_limits){.size = 200, .max_allocs = 100, .most = 1, .first_allocs = 8}, 1);
-    for (int i = 0; i < 3; i++) oah_allocate(growing, 10);
-    for (left = 0, raised = 0; oah_totals(growing).live_units == 30; raised++) {
+    for (int i = 0; i < 5; i++) oah_allocate(growing, 10);
+    left = 0;
+    if (oah_allocate(growing, 10).refusal != OAH_GRANTED) return printf("memory was asked for that no request needs\n"), 1;
+    left = -1;
+    for (left = 0, raised = 0; oah_totals(growing).live_units == 60; raised++) {
         long before = held, next = left;
         oah_reason found = oah_allocate(growing, 10).refusal;
-        if (found != OAH_GRANTED && (found != OAH_MEMORY || held != before || oah_statistics(growing, 0).unused_nodes != 4)) return printf("a heap that grows keeps memory\n"), 1;
+        if (found != OAH_GRANTED && (found != OAH_MEMORY || held != before || oah_statistics(growing, 0).unused_nodes != 1)) return printf("a heap that grows keeps memory\n"), 1;
         left = found == OAH_GRANTED ? -1 : next + 1;
     }
-    if (raised < 3 || oah_statistics(growing, 0).unused_nodes != 11) return printf("no heap grew\n"), 1;
+    if (raised < 3 || oah_statistics(growing, 0).unused_nodes != 8) return printf("no heap grew\n"), 1;
     oah_drop(growing);
-    /* units are added to a heap of few nodes, whose last block is free or not: it says so, or nothing has changed */
+    /* units are added to a heap of few nodes, whose last block is free, or live behind six others, so that the units need a
+     * node more: it says so, or nothing has changed */
     int unextended = 0;
     for (int i = 0; i < 2; i++) {
-        growing = oah_with_realm((oah_limits){.size = i ? 7 : 200, .max_allocs = 100, .most = 1, .first_allocs = 8}, 1);
-        for (int k = 0; k < 3; k++) oah_allocate(growing, i ? 1 : 10);
+        growing = oah_with_realm((oah_limits){.size = i ? 8 : 200, .max_allocs = 100, .most = 1, .first_allocs = 8}, 1);
+        oah_place front = oah_allocate(growing, i ? 2 : 10).place;
+        for (int k = 0; k < (i ? 4 : 2); k++) oah_allocate(growing, i ? 1 : 10);
+        if (i) {
+            oah_allocate(growing, 2);
+            oah_free(growing, front);
+            oah_allocate(growing, 1);
+            if (oah_statistics(growing, 0).unused_nodes != 1) return printf("the heap has other blocks\n"), 1;
+        }
         for (int k = 0; k < 20; k++) {
             bool done = false;
             for (left = 0; !done; unextended += !done) {

@@ -185,7 +185,7 @@ impl<T: Tables> HeapsOf<T> {
     /// number says, and at most `size`; else a larger heap of exactly `size` units, all of which are granted,
     /// with the first number from `most` on that no heap has, and with the node limit 4: it never has more than
     /// two live ranges. A usual heap begins with the node limit `first_allocs`, and has room exactly where it
-    /// would have room under `max_allocs`: see the law `room_is_that_of_the_largest_limit` of the proved sources. Where its own limit is
+    /// would have room under `max_allocs`: see the law `room_is_granted` of the proved sources. Where its own limit is
     /// lower, and its space would refuse the request for want of nodes, the limit is first doubled, as
     /// `GuardedOf::raised` does it, to `max_allocs` at most: that is always enough. Only for a new heap and for
     /// more nodes memory is requested, and never where the request is granted without them.

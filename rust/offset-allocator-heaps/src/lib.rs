@@ -205,7 +205,8 @@ impl<T: Tables> HeapsOf<T> {
     }
 
     /// The heap of a number, to read: its reports, its statistics, its blocks. `None` is returned where the
-    /// number has no heap.
+    /// number has no heap. It speaks of the node limit that it has now: where that is reached, its report is 0 and
+    /// 0, though the heaps grant a request there and raise the limit. `totals` looks at the largest limit.
     ///
     /// ```
     /// # use offset_allocator_heaps::*;

@@ -43,10 +43,11 @@ impl<T: Tables> HeapsOf<T> {
     /// The heap is the first one, by number, that has room, other than the place's own, and in which at least
     /// as many units are live. A range of no units, which `shrink` may leave, needs room for one; since it adds
     /// no live unit, it goes to a heap with more live units, or with as many and a lower number: so each range
-    /// of the `emptiest` heap may go to any other one in which a unit is live. Calls of `relocate`, each followed by the
-    /// release of its old range before the next one, come to an end, since the sum of the squares of the
-    /// heaps' live units grows at each range that has units: see the law `relocations_end` of the proved sources. With later releases a
-    /// range may go to and fro: make one pass, free what it left, then begin the next. No heap is made, and no
+    /// of the `emptiest` heap may go to any other one that has room, and in which a unit is live. Calls of
+    /// `relocate`, each followed by the release of its old range before the next one, come to an end, since the
+    /// sum of the squares of the heaps' live units grows at each range that has units: see
+    /// the law `relocations_end` of the proved sources. With later releases a range may go to and fro: make one pass, free what it left,
+    /// then begin the next. No heap is made, and no
     /// memory is taken: a heap whose node limit would have to be raised for it, as `Limits::first_allocs` says,
     /// takes no range. The range is what `GuardedOf::allocate` grants there: for one at an alignment see
     /// `relocate_aligned`.

@@ -10,7 +10,8 @@ use offset_allocator::{Allocation, AllocatorOf, NodeIndex, Tables};
 use crate::memory::Vec;
 use crate::memory::{AllocError, Global};
 
-/// An allocator, with the handles of its live grants: what a player is made of.
+/// An allocator, with the handles of its live grants: what a player is made of. Where a handle that is kept is not
+/// live, or two have one name, a later `call` may panic: lists of calls keep both, and a program takes a `PlayerOf`.
 pub struct KeeperOf<T: Tables> {
     /// The allocator.
     pub space: AllocatorOf<T>,

@@ -12,14 +12,15 @@ use crate::memory::{AllocError, Global};
 pub type Player<NI = u32> = PlayerOf<ByNode<NI>>;
 
 /// An allocator, with the handles of its live grants: it takes commands one by one. Nothing else changes its
-/// space, so each handle that is kept is live, and no two have one name. What would free one, does not compile:
+/// space, so each handle that is kept is live, and no two have one name. What would free one does not compile:
 ///
-/// ```compile_fail
+/// ```compile_fail,E0596
 /// let mut player = offset_script::Player::<u32>::start(offset_script::Global, 1000, 16).unwrap();
-/// player.space().free(player.handle(1).unwrap());
+/// let range = player.handle(1).unwrap();
+/// player.space().free(range);
 /// ```
 ///
-/// ```compile_fail
+/// ```compile_fail,E0616
 /// let mut player = offset_script::Player::<u32>::start(offset_script::Global, 1000, 16).unwrap();
 /// player.keeper.handles.clear();
 /// ```

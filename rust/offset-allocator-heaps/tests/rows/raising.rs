@@ -42,6 +42,11 @@ fn expect_alike<T: Tables>() {
 }
 
 #[test]
+fn a_place_takes_28_bytes() {
+    assert_eq!((size_of::<Place>(), size_of::<Option<Place>>()), (28, 28));
+}
+
+#[test]
 fn heaps_that_are_raised_grant_as_others_do() {
     in_each_layout!(expect_alike);
 }
