@@ -49,16 +49,8 @@ impl Plain {
     }
 }
 
-/// The ticket of four numbers.
-pub(crate) fn ticket_of(offset: u32, name: u32, serial: u64, realm: u32) -> Ticket {
-    match Ticket::from_parts(offset, name, serial, realm) {
-        None => unreachable!(),
-        Some(ticket) => ticket,
-    }
-}
-
 // A ticket: one of those given, stale or live, as it is or altered, or random numbers.
-fn any_ticket(random: &mut Random, given: &[Ticket]) -> Ticket {
+fn any_ticket(rt: &impl Abort, random: &mut Random, given: &[Ticket]) -> Ticket {
     let mut offset = random.advance();
     let mut name = random.advance() % 80;
     let mut serial = u64::from(random.advance() % 2_000);
@@ -79,21 +71,21 @@ fn any_ticket(random: &mut Random, given: &[Ticket]) -> Ticket {
             offset = known.offset;
         }
     }
-    ticket_of(offset, name, serial, realm)
+    Ticket::from_parts(offset, name, serial, realm).expect(rt, "a name")
 }
 
 // The last tickets are more often live.
-fn recent_ticket(random: &mut Random, plain: &Plain) -> Ticket {
+fn recent_ticket(rt: &impl Abort, random: &mut Random, plain: &Plain) -> Ticket {
     let first = plain.given.len().saturating_sub(64);
     match plain.given.get(first..) {
-        None => any_ticket(random, &plain.given),
-        Some(last) => any_ticket(random, last),
+        None => any_ticket(rt, random, &plain.given),
+        Some(last) => any_ticket(rt, random, last),
     }
 }
 
 // Any ticket, also one of the first.
-fn old_ticket(random: &mut Random, plain: &Plain) -> Ticket {
-    any_ticket(random, &plain.given)
+fn old_ticket(rt: &impl Abort, random: &mut Random, plain: &Plain) -> Ticket {
+    any_ticket(rt, random, &plain.given)
 }
 
 fn keep(rt: &impl Abort, plain: &mut Plain, granted: Option<Ticket>, size: u32) {
@@ -175,15 +167,15 @@ fn step<T: Tables>(
         0..=9 => keep(rt, plain, allocate(space, size), size),
         10 => keep(rt, plain, allocate_aligned(space, size), size),
         11..=24 => {
-            let ticket = recent_ticket(random, plain);
+            let ticket = recent_ticket(rt, random, plain);
             free(rt, space, plain, ticket)
         }
         25..=28 => {
-            let ticket = recent_ticket(random, plain);
+            let ticket = recent_ticket(rt, random, plain);
             resize(rt, space, plain, ticket, size)
         }
         29 => {
-            let ticket = old_ticket(random, plain);
+            let ticket = old_ticket(rt, random, plain);
             free(rt, space, plain, ticket)
         }
         30 => extend(space, number / 32 % 4),
@@ -223,7 +215,7 @@ fn expect_step<T: Tables>(
     random: &mut Random,
 ) {
     step(rt, space, plain, random);
-    let ticket = any_ticket(random, &plain.given);
+    let ticket = any_ticket(rt, random, &plain.given);
     assert_same(rt, &space.size_of(ticket), &plain.size_of(ticket));
     expect_same(rt, space, plain);
 }

@@ -123,9 +123,11 @@ impl<NI: NodeIndex> Space for Guarded<NI> {
                 } else {
                     None
                 };
-                *slot = granted;
                 match granted {
-                    Some(grant) => u64::from(grant.offset),
+                    Some(grant) => {
+                        *slot = Some(grant);
+                        u64::from(grant.offset)
+                    }
                     None => self.why(size),
                 }
             }
