@@ -288,8 +288,8 @@ impl Check<'_> {
         let what = format!("{found:?}, {requested:?}, not {wanted:?}");
         self.must(is_right, call, header, what);
         self.fail_each_as_by_node(HEAPS_CALLS, layout, header, 0);
-        self.heaps_grown(HEAPS_GROW.on(layout), layout, header, nodes, bits);
-        self.heaps_grown(HEAPS_EXTEND.on(layout), layout, header, nodes, bits);
+        self.heaps_grown(HEAPS_GROW.on(layout), layout, header, nodes, bits, 0);
+        self.heaps_grown(HEAPS_EXTEND.on(layout), layout, header, nodes, bits, size);
         self.heaps_stored(layout, header, nodes, bits);
         self.heaps_dumped(layout, header);
         self.many_numbers(layout, header);
@@ -297,14 +297,14 @@ impl Check<'_> {
 
     /// A heap that begins with 8 nodes, under doubled limits up to its largest, for grants or for a unit more before
     /// each: room for seven heaps, and then what a guarded allocator requests under each limit. The numbers are its
-    /// limit, and how often one unit was granted.
-    fn heaps_grown(&mut self, call: Call, layout: Layout, header: &str, nodes: usize, bits: usize) {
+    /// limit and its live units: those of a range that fills it first, and one for each grant of one unit.
+    fn heaps_grown(&mut self, call: Call, layout: Layout, header: &str, nodes: usize, bits: usize, filled: u64) {
         let (_, room) = self.with_ample_memory(HEAPS.on(layout), header);
         let doubled = std::iter::successors(Some(8), |it| (*it < nodes).then(|| nodes.min(2 * it)));
         let grown = doubled.flat_map(|limit| guarded_requests(layout, limit, bits));
         let wanted: Vec<usize> = room.into_iter().chain(grown).collect();
         self.expect_requests(call, header, &wanted);
-        let numbers = [nodes as u64, nodes as u64 - 4];
+        let numbers = [nodes as u64, filled + nodes as u64 - 4];
         self.fail_each(call, header, 0, &Outcome::new(ANSWERED, &numbers));
     }
 
@@ -399,7 +399,7 @@ fn parts(bits: usize, most: usize) -> Vec<Part> {
         // beyond the first growth of each table
         all.push(part(move |it| {
             let header = format!("space 2000 nodes 1000 index {bits}");
-            it.heaps_grown(HEAPS_GROW.on(layout), layout, &header, 1000, bits)
+            it.heaps_grown(HEAPS_GROW.on(layout), layout, &header, 1000, bits, 0)
         }));
     }
     let header = format!("space 100 nodes 4 index {bits}");
