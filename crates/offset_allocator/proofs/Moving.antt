@@ -1,5 +1,6 @@
 -- Live ranges that slide, what that costs and copies, and what empties the end of a space.
 pub mod Begins
+pub mod Compacted
 pub mod Compacting
 pub mod DecidedBudget
 pub mod DecidedRooms
@@ -7,8 +8,10 @@ pub mod DecidedRoomsBySteps
 pub mod DecidedSteps
 pub mod Done
 pub mod Gaps
+pub mod Gathered
 pub mod InPieces
 pub mod Nearest
+pub mod OneStep
 pub mod PassDone
 pub mod Packed
 pub mod Passes
@@ -24,4 +27,4 @@ pub mod Starts
 pub mod Budgeted
 pub mod Stepped
 pub mod Stepping
-pub mod Stretches
+pub mod Unbounded

@@ -28,7 +28,7 @@ ghost use Rattle.offset_allocator.specs.declared.reports.statistics.Statistics.{
 ghost use Rattle.offset_allocator.specs.declared.reports.Refusal.{Refusal};
 ghost use Rattle.offset_allocator.specs.declared.reports.Refusal.TheVariants.{TooLarge, Space, Fragmented};
 ghost use Rattle.offset_allocator.specs.declared.moves.room.RoomCost.{RoomCost};
-ghost use Rattle.offset_allocator.specs.declared.moves.budget.Progress.{Progress};
+ghost use Rattle.offset_allocator.specs.declared.moves.over_frames.Progress.{Progress};
 ghost use Rattle.offset_allocator.specs.Moving.Budget.{CompactsWithin, SlidesWithin, first_from};
 ghost use Rattle.offset_allocator.specs.Moving.BySteps.{CompactsBy, given_up, moves_by, run_by};
 ghost use Rattle.offset_allocator.specs.Moving.Room.{IsLeastCost, MakesRoom, ranges_of};

@@ -1,13 +1,13 @@
 //! Live ranges that slide, what that costs and copies, and what empties the end of a space.
 
-pub(crate) mod budget;
-pub(crate) mod by_steps;
 pub(crate) mod compact;
 pub(crate) mod gap;
 pub(crate) mod make_room;
 pub(crate) mod one_move;
+pub(crate) mod over_frames;
 pub(crate) mod pieces;
 pub(crate) mod relocate;
 pub(crate) mod retract;
 pub(crate) mod room;
 pub(crate) mod room_by_steps;
+pub(crate) mod slide;

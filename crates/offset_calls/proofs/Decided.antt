@@ -20,7 +20,7 @@ use Rattle.offset_allocator.proofs.AtOffset.{at_decided}
 use Rattle.offset_calls.specs.Steps.{TakesAt}
 use Rattle.offset_allocator.specs.Moving.Budget.{CompactsWithin}
 use Rattle.offset_allocator.specs.Moving.RoomBySteps.{MakesRoomBy, names_short}
-use Rattle.offset_allocator.specs.declared.moves.budget.Progress.{Progress}
+use Rattle.offset_allocator.specs.declared.moves.over_frames.Progress.{Progress}
 use Rattle.offset_allocator.proofs.Moving.Budgeted as budget
 use Rattle.offset_allocator.proofs.Moving.DecidedBudget.{within_decided}
 use Rattle.offset_allocator.proofs.Moving.DecidedRoomsBySteps.{least_by_decided, noted_by_decided}

@@ -4,7 +4,8 @@ use Rattle.offset_calls.proofs.Common.{length-map, map-append, if◌then◌else�
 use Rattle.offset_calls.proofs.{Common.meant, Common.AreInOrder, Common.IsGrown, Common.AreAllTickets, Common.TakesTicket, Decided.takes_decided, Kept.either, Tickets.kept_serial, Tickets.same_ledger}
 use Rattle.offset_calls.proofs.Common.{slice_set}
 use Rattle.offset_guarded.specs.Guard.{covering, nodes}
-use Rattle.offset_calls.specs.Tickets.{AreSerials, serials_kept}
+use Rattle.offset_calls.specs.Tickets.{AreSerials, IsJoinedBy, IsStepAfter, serials_kept}
+use Rattle.offset_guarded.proofs.Divisors.{one_joined}
 use Rattle.std.proofs.lemmas.List.{length-set}
 use Rattle.offset_allocator.specs.Relations.{SameState}
 use Rattle.offset_allocator.proofs.Decided.{last_same}
@@ -89,12 +90,24 @@ pub named_apart : (g : Guard) (ts : List Ticket) → AreAllTickets g ts → AreN
 named_apart g ts is j k x d e = sym (kept_serial g ts j x is d) ∙ kept_serial g ts k x is e
 
 -- ---- one step
+same_joined : (r : Reply) (align s t u : ℕ) → IsJoinedBy r align s t → IsJoinedBy r align s u → t ≡ u
+same_joined (Answer (machine.Grant k o)) align s t u p q = one_joined s align t u p q
+same_joined other align s t u p q = p ∙ sym q
+
+-- a call with one reply leaves one step
+same_step : (c : Call) (r : Reply) (s t u : ℕ) → IsStepAfter c r s t → IsStepAfter c r s u → t ≡ u
+same_step (call.Command (command.Align n align)) r s t u p q = same_joined r align s t u p q
+same_step (call.AllocateTightAligned n align) r s t u p q = same_joined r align s t u p q
+same_step (call.RelocateAligned k align) r s t u p q = same_joined r align s t u p q
+same_step other r s t u p q = p ∙ sym q
+
 -- two guarded allocators alike, whose spaces are so in this way: the tickets of all grants are the same
 pub record AreTwins (R : View → View → Type 0) (g g' : Guard) (ts : List Ticket) : Type 0 where
   pub state : R g.space g'.space
   pub handles : handles_of g ts ≡ handles_of g' ts
   pub serials : g.serials ≡ g'.serials
   pub realm : g.realm ≡ g'.realm
+  pub step : g.step ≡ g'.step
   pub all_tickets : AreAllTickets g ts
   pub all_others : AreAllTickets g' ts
 
@@ -150,6 +163,7 @@ module _ (R : View → View → Type 0) (counted : (v w : View) → R v w → no
           handles = step.2 ∙ ap (handles_of h') (sym same);
           serials = same_serials same s.serials t.serials;
           realm = s.realm ∙ twins.realm ∙ sym t.realm;
+          step = same_step c r g.step h.step h'.step s.step (subst₂ (λ (x : Reply) (n : ℕ). IsStepAfter c x n h'.step) (sym step.0) (sym twins.step) t.step);
           all_tickets = s.all_tickets;
           all_others = subst (AreAllTickets h') (sym same) t.all_tickets;
         },
@@ -167,6 +181,7 @@ twins_same : (g g' : Guard) (ts : List Ticket) → AreTwins SameState g g' ts �
 twins_same g g' ts t =
     let space : g'.space ≡ record g.space { accesses = g'.space.accesses } = t.state in
     ap₂ (λ (v : View) (l : List ℕ). let u : Guard = record g' { space = v; serials = l } in u) space (sym t.serials)
+    ∙ ap (λ (s : ℕ). let u : Guard = record g' { space = record g.space { accesses = g'.space.accesses }; serials = g.serials; step = s } in u) (sym t.step)
     ∙ ap₂ (λ (n m : ℕ). let u : Guard = record g { space = record g.space { accesses = g'.space.accesses }; given = n; realm = m } in u) (sym (same_given SameState g g' ts t)) (sym t.realm)
 
 -- ---- runs
@@ -192,6 +207,7 @@ guarded_decided g g' h h' ts us us' cs rs rs' known same is s t = served_alike c
       handles = sym (ap (λ (z : Guard). handles_of z ts) same);
       serials = sym (ap (λ (z : Guard). z.serials) same);
       realm = sym (ap (λ (z : Guard). z.realm) same);
+      step = sym (ap (λ (z : Guard). z.step) same);
       all_tickets = is;
       all_others = same_ledger g g' ts is (ap (λ (z : Guard). z.realm) same) (ap (λ (z : Guard). z.given) same);
     })

@@ -15,6 +15,7 @@ twins_under : (limit : ℕ) (g g' : Guard) (ts : List Ticket) → AreTwins (Same
 twins_under limit g g' ts t =
     let space : g'.space ≡ record g.space { max_allocs = limit; accesses = g'.space.accesses } = t.state in
     ap₂ (λ (v : View) (l : List ℕ). let u : Guard = record g' { space = v; serials = l } in u) space (sym t.serials)
+    ∙ ap (λ (s : ℕ). let u : Guard = record g' { space = record g.space { max_allocs = limit; accesses = g'.space.accesses }; serials = g.serials; step = s } in u) (sym t.step)
     ∙ ap₂ (λ (n m : ℕ). let u : Guard = record g { space = record g.space { max_allocs = limit; accesses = g'.space.accesses }; given = n; realm = m } in u)
     (sym (same_given (SameUnder limit) g g' ts t)) (sym t.realm)
 
@@ -41,6 +42,7 @@ guarded_raised limit g g' h h' ts us us' cs rs rs' known l same is s t = served_
       handles = sym (ap (λ (z : Guard). handles_of z ts) same);
       serials = sym (ap (λ (z : Guard). z.serials) same);
       realm = sym (ap (λ (z : Guard). z.realm) same);
+      step = sym (ap (λ (z : Guard). z.step) same);
       all_tickets = is;
       all_others = same_ledger g g' ts is (ap (λ (z : Guard). z.realm) same) (ap (λ (z : Guard). z.given) same);
     })

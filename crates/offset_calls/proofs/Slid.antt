@@ -11,7 +11,7 @@ use Rattle.offset_allocator.specs.Moving.BySteps.{CompactsBy, moves_by}
 use Rattle.offset_allocator.specs.Moving.RoomBySteps.{IsLeastCostBy, MakesRoomBy, names_short}
 use Rattle.offset_allocator.specs.Moving.Budget.{CompactsWithin}
 use Rattle.offset_allocator.specs.Requests.{blocks_needed, units_needed}
-use Rattle.offset_allocator.specs.declared.moves.budget.Progress.{Progress}
+use Rattle.offset_allocator.specs.declared.moves.over_frames.Progress.{Progress}
 use Rattle.offset_allocator.specs.Moving.BySteps as by
 use Rattle.offset_script.specs.Machine as machine
 use Rattle.offset_calls.specs.declared.calls.Moved.{Moved}

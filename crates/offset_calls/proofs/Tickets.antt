@@ -5,8 +5,9 @@ use Rattle.offset_calls.proofs.Common.{AreAlike, Grants, IsLive, IsSame, KeepsAl
 use Rattle.offset_calls.proofs.Common.{kept_name, IsKept, Call, Answer, Reply, Takes, renumber, AreInOrder, IsGrown, AreAllTickets, IsStored, TakesTicket, IsNumberOf}
 use Rattle.offset_calls.proofs.Common.{true, false, handle_of, handles_of, live_name, ticket_of}
 use Rattle.offset_calls.specs.Calls as plain
-use Rattle.offset_calls.specs.Tickets.{AreSerials, is_gone, serials_kept}
+use Rattle.offset_calls.specs.Tickets.{AreSerials, IsJoinedBy, IsStepAfter, is_gone, serials_kept}
 use Rattle.offset_guarded.specs.Guard.{CoversNodes, covering, nodes}
+use Rattle.offset_guarded.specs.Step.{IsJoined}
 use Rattle.offset_allocator.specs.Resizing.{Grows, Shrinks}
 use Rattle.offset_allocator.specs.{View.free_sizes, Reporting.FreeSizes.rows_below}
 use Rattle.offset_guarded.proofs.Guards.{live_fits}
@@ -135,6 +136,12 @@ pub stored_serials : (n : ℕ) (c : Call) (g h : Guard) (ts us : List Ticket) (r
 stored_serials n c g h ts us None a quiet some none f = inl (f.0, ap (λ (g : Guard). g.serials) (none refl) ∙ sym (quiet (nodes h.space) g.serials))
 stored_serials n c g h ts us (Some t) a quiet some none f = inr (t, f.0, some.serials)
 
+-- the step after a request for an alignment
+pub stored_step : (align : ℕ) (g h : Guard) (ts us : List Ticket) (r : Option Ticket) (a : machine.Answer) → IfSome r (λ _. IsJoined g.step align h.step) → (r ≡ None → h ≡ record g { space = h.space })
+    → IsStored r ts us a → IsJoinedBy (Answer a) align g.step h.step
+stored_step align g h ts us None a some none f = subst (λ (a : machine.Answer). IsJoinedBy (Answer a) align g.step h.step) (sym f.1) (ap (λ (g : Guard). g.step) (none refl))
+stored_step align g h ts us (Some t) a some none f = subst (λ (a : machine.Answer). IsJoinedBy (Answer a) align g.step h.step) (sym f.1) some
+
 -- and after a call that gives none
 pub kept_serials : (c : Call) (g h : Guard) (ts : List Ticket) (r : Reply) → IsQuiet c r → h ≡ record g { space = h.space } → AreSerials c g ts h ts r
 kept_serials c g h ts r quiet same = inl (refl, ap (λ (g : Guard). g.serials) same ∙ sym (quiet (nodes h.space) g.serials))
@@ -160,10 +167,11 @@ freed g h ts t k is is_number live frees others gone same =
       grown = inl refl;
       serials = kept_serials (call.Command (command.Free k)) g h ts (Answer machine.Freed) (λ _ l. refl) same;
       realm = ap (λ (g : Guard). g.realm) same;
+      step = ap (λ (g : Guard). g.step) same;
     }
 
 -- a reset
-pub emptied : (g h : Guard) (ts : List Ticket) → AreAllTickets g ts → Resets g.space h.space → ((t : Ticket) → range_of t h ≡ None) → h ≡ record g { space = h.space }
+pub emptied : (g h : Guard) (ts : List Ticket) → AreAllTickets g ts → Resets g.space h.space → ((t : Ticket) → range_of t h ≡ None) → h ≡ record g { space = h.space; step = 1 }
     → TakesTicket (call.Command command.Reset) g ts h ts (Answer machine.Reset)
 emptied g h ts is resets gone same =
     let takes : Takes (call.Command command.Reset) g.space (handles_of g ts) h.space (handles_of h ts) (Answer machine.Reset) = search (arith, length-map, kept_of, option_map, is_some) in
@@ -171,8 +179,9 @@ emptied g h ts is resets gone same =
       takes = takes;
       all_tickets = same_ledger g h ts is (ap (λ (g : Guard). g.realm) same) (ap (λ (g : Guard). g.given) same);
       grown = inl refl;
-      serials = kept_serials (call.Command command.Reset) g h ts (Answer machine.Reset) (λ _ l. refl) same;
+      serials = inl (refl, ap (λ (g : Guard). g.serials) same);
       realm = ap (λ (g : Guard). g.realm) same;
+      step = ap (λ (g : Guard). g.step) same;
     }
 
 -- the serials after a call that makes a cell for each node
@@ -189,6 +198,7 @@ extended more g h ts done a is extends keeps same covers e = record {
   grown = inl refl;
   serials = covered_serials (call.Command (command.Extend more)) g h ts (Answer a) (λ m l. refl) covers;
   realm = same.realm;
+  step = same.step;
 }
 
 -- a range that may have another size
@@ -205,6 +215,7 @@ module _ (n : ℕ) (g h : Guard) (ts : List Ticket) (t : Ticket) (k : ℕ) (done
     grown = inl refl;
     serials = covered_serials (call.Shrink k n) g h ts r (λ m l. ap (λ (b : Bool). if b then l else covering m l) (not_gone done r e)) cells;
     realm = same.realm;
+    step = same.step;
   }
 
   pub grow_serves : Grows t.name n g.space h.space done → TakesTicket (call.Grow k n) g ts h ts r
@@ -214,6 +225,7 @@ module _ (n : ℕ) (g h : Guard) (ts : List Ticket) (t : Ticket) (k : ℕ) (done
     grown = inl refl;
     serials = covered_serials (call.Grow k n) g h ts r (λ m l. ap (λ (b : Bool). if b then l else covering m l) (not_gone done r e)) cells;
     realm = same.realm;
+    step = same.step;
   }
 
 -- where sizes stay, tickets do
@@ -221,14 +233,15 @@ pub sizes_live : (g h : Guard) → KeepsSizes g h → KeepsLive g h
 sizes_live g h same t = search (arith, is_some, option_map)
 
 -- a call that gives no ticket, and leaves serials, sizes and handles
-pub slid_serves : (c : Call) (g h : Guard) (ts : List Ticket) (r : Reply) → IsQuiet c r → AreAllTickets g ts → KeepsSizes g h → h ≡ record g { space = h.space }
+pub slid_serves : (c : Call) (g h : Guard) (ts : List Ticket) (r : Reply) → IsQuiet c r → ((s : ℕ) → IsStepAfter c r s s) → AreAllTickets g ts → KeepsSizes g h → h ≡ record g { space = h.space }
     → Takes c g.space (handles_of g ts) h.space (handles_of g ts) r → TakesTicket c g ts h ts r
-slid_serves c g h ts r quiet is sizes serials t = record {
+slid_serves c g h ts r quiet still is sizes serials t = record {
   takes = subst (λ l. Takes c g.space (handles_of g ts) h.space l r) (sym (same_handles g h ts (sizes_live g h sizes))) t;
   all_tickets = same_ledger g h ts is (ap (λ (g : Guard). g.realm) serials) (ap (λ (g : Guard). g.given) serials);
   grown = inl refl;
   serials = kept_serials c g h ts r quiet serials;
   realm = ap (λ (g : Guard). g.realm) serials;
+  step = subst (λ (t : ℕ). IsStepAfter c r g.step t) (sym (ap (λ (g : Guard). g.step) serials)) (still g.step);
 }
 
 -- after it the number of a name is its serial, and the name is live
@@ -240,14 +253,14 @@ module _ (g h : Guard) (ts : List Ticket) (is : AreAllTickets g ts) (sizes : Kee
   slid_live = kept_live h ts k x (ap (λ l. kept_name l k) (same_handles g h ts (sizes_live g h sizes)) ∙ e)
 
 -- a question
-pub asked_serves : (c : Call) (g : Guard) (ts : List Ticket) (r : Reply) → IsQuiet c r → AreAllTickets g ts → Takes c g.space (handles_of g ts) g.space (handles_of g ts) r → TakesTicket c g ts g ts r
-asked_serves c g ts r quiet is t = slid_serves c g g ts r quiet is (λ t. refl) refl t
+pub asked_serves : (c : Call) (g : Guard) (ts : List Ticket) (r : Reply) → IsQuiet c r → ((s : ℕ) → IsStepAfter c r s s) → AreAllTickets g ts → Takes c g.space (handles_of g ts) g.space (handles_of g ts) r → TakesTicket c g ts g ts r
+asked_serves c g ts r quiet still is t = slid_serves c g g ts r quiet still is (λ t. refl) refl t
 
 -- one that the allocator answers, with no ticket
-pub question_serves : (q c : Call) (g : Guard) (ts : List Ticket) (k : ℕ) (v : View) (r : Reply) → IsQuiet q r → AreAllTickets g ts → c ≡ q → renumber (λ j. k) q ≡ q → v ≡ g.space
+pub question_serves : (q c : Call) (g : Guard) (ts : List Ticket) (k : ℕ) (v : View) (r : Reply) → IsQuiet q r → ((s : ℕ) → IsStepAfter q r s s) → AreAllTickets g ts → c ≡ q → renumber (λ j. k) q ≡ q → v ≡ g.space
     → ((hs : List (Option Handle)) → Takes q v hs v hs r) → TakesTicket (renumber (λ j. k) c) g ts g ts r
-question_serves q c g ts k v r quiet is e same f t = subst (λ c. TakesTicket c g ts g ts r) (sym (ap (renumber (λ j. k)) e ∙ same))
-    (asked_serves q g ts r quiet is (subst (λ v. Takes q v (handles_of g ts) v (handles_of g ts) r) f (t (handles_of g ts))))
+question_serves q c g ts k v r quiet still is e same f t = subst (λ c. TakesTicket c g ts g ts r) (sym (ap (renumber (λ j. k)) e ∙ same))
+    (asked_serves q g ts r quiet still is (subst (λ v. Takes q v (handles_of g ts) v (handles_of g ts) r) f (t (handles_of g ts))))
 
 -- a full report
 pub full_serves : (g : Guard) (ts : List Ticket) (c : Command) (k : ℕ) (v : View) (a : machine.Answer) → AreAllTickets g ts → c ≡ command.Full → v ≡ g.space

@@ -5,7 +5,7 @@ use Rattle.offset_calls.proofs.Common.{refl, sym, ap, ap₂, subst, subst₂, �
 use Rattle.offset_calls.proofs.Common.{State, is_free, total, units, count_named, one, Move, AreNumbered, Reply, Answer, Outcome, replies_only}
 use Rattle.std.proofs.lemmas.Bool.Decides.{nat_tests}
 use Rattle.std.proofs.lemmas.List.Elements.{filter-append}
-use Rattle.offset_allocator.specs.declared.moves.budget.Progress.{Progress}
+use Rattle.offset_allocator.specs.declared.moves.over_frames.Progress.{Progress}
 use Rattle.offset_allocator.specs.declared.moves.room.RoomCost.{RoomCost}
 use Rattle.offset_allocator.specs.Moving.BySteps.{CanFollow}
 use Rattle.offset_allocator.specs.Moving.BySteps as by

@@ -1,7 +1,7 @@
 -- The ranges that slide where room is made, or a budget is used: as the allocator reports them, and with the numbers of their grants.
 use Rattle.std.specs.Prelude.{◌≡◌, ℕ, List, [], ◌∷◌, ◌++◌, Option}
 use Rattle.offset_allocator.specs.declared.moves.room.RoomCost.{RoomCost}
-use Rattle.offset_allocator.specs.declared.moves.budget.Progress.{Progress}
+use Rattle.offset_allocator.specs.declared.moves.over_frames.Progress.{Progress}
 use Rattle.offset_allocator.specs.Moving.Budget.{CompactsWithin}
 use Rattle.offset_allocator.specs.Moving.Room.{MakesRoom}
 use Rattle.offset_allocator.specs.Moving.RoomBySteps.{MakesRoomBy}

@@ -13,7 +13,7 @@ use Rattle.offset_allocator.specs.declared.moves.room.RoomCost.{RoomCost}
 use Rattle.offset_allocator.specs.Classes.{value, up}
 use Rattle.offset_allocator.specs.Moving.Room.{IsLeastCost}
 use Rattle.offset_allocator.specs.Moving.RoomBySteps.{IsLeastCostBy, names_short}
-use Rattle.offset_allocator.specs.declared.moves.budget.Progress.{Progress}
+use Rattle.offset_allocator.specs.declared.moves.over_frames.Progress.{Progress}
 use Rattle.offset_allocator.specs.Reporting.Walking as named_beside
 use Rattle.offset_allocator.specs.Moving.Relocating.{Relocates, RelocatesAligned, WouldBegin}
 use Rattle.offset_allocator.specs.Moving.Retracting.{Retracts}

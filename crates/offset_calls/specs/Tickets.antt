@@ -5,6 +5,7 @@ use Rattle.std.specs.List.{Contains}
 use Rattle.std.specs.Option.{option_map_or, option_or}
 use Rattle.offset_allocator.specs.View.{Handle, IsWellFormed}
 use Rattle.offset_guarded.specs.Guard.{Guard, Ticket, covering, handle_in, nodes, range_of}
+use Rattle.offset_guarded.specs.Step.{IsJoined}
 use Rattle.offset_script.specs.declared.scripts.Command.{Command}
 use Rattle.offset_script.specs.declared.scripts.Command.TheVariants as command
 use Rattle.offset_script.specs.Steps.{kept_name}
@@ -112,6 +113,19 @@ abbrev pub AreSerials : Call → Guard → List Ticket → Guard → List Ticket
 AreSerials c g ts h us r = ((us ≡ ts) × (h.serials ≡ serials_kept c r (nodes h.space) g.serials))
     ⊎ ((t : Ticket) × (us ≡ ts ++ t ∷ []) × (h.serials ≡ slice_set (covering (nodes h.space) g.serials) t.name t.serial))
 
+-- a grant takes its alignment into the step; nothing else changes it
+abbrev pub IsJoinedBy : Reply → ℕ → ℕ → ℕ → Type 0
+IsJoinedBy (Answer (machine.Grant k o)) align s t = IsJoined s align t
+IsJoinedBy other align s t = t ≡ s
+
+-- the number t that a call with this reply leaves as the step, where it was s
+abbrev pub IsStepAfter : Call → Reply → ℕ → ℕ → Type 0
+IsStepAfter (call.Command command.Reset) r s t = t ≡ 1
+IsStepAfter (call.Command (command.Align n align)) r s t = IsJoinedBy r align s t
+IsStepAfter (call.AllocateTightAligned n align) r s t = IsJoinedBy r align s t
+IsStepAfter (call.RelocateAligned k align) r s t = IsJoinedBy r align s t
+IsStepAfter other r s t = t ≡ s
+
 -- the step of a call from one guarded allocator to the next, with this reply: before it the tickets of the grants so
 -- far are those in `ts`, and after it those in `us`; the realm stays
 pub record TakesTicket (c : Call) (g : Guard) (ts : List Ticket) (h : Guard) (us : List Ticket) (r : Reply) : Type 0 where
@@ -120,6 +134,7 @@ pub record TakesTicket (c : Call) (g : Guard) (ts : List Ticket) (h : Guard) (us
   pub grown : IsGrown ts us r
   pub serials : AreSerials c g ts h us r
   pub realm : h.realm ≡ g.realm
+  pub step : IsStepAfter c r g.step h.step
 
 -- calls with these replies, one step after the other: they begin at g, where the tickets of the grants so far are those
 -- in `ts`, and leave h and the tickets in `us`

@@ -16,8 +16,8 @@ use Rattle.offset_guarded.specs.declared.refusal.Refusal.{Refusal}
 use Rattle.offset_guarded.specs.Guard.{Guard, Table, Grants, AreAlike, IsGuarded, IsLive, KeepsOthers, Ticket, last_serial, cell, covering, fits, for_space, nodes, of_space, serial_of}
 
 -- what the fields show
-abbrev pub guard : View → Table → ℕ → Guard
-guard v t realm = record { space = v; serials = t.cells; given = t.given; realm = realm }
+abbrev pub guard : View → Table → ℕ → ℕ → Guard
+guard v t realm step = record { space = v; serials = t.cells; given = t.given; realm = realm; step = step }
 
 -- a range, where a test holds
 abbrev range_if : Bool → Option Range → Option Range
@@ -65,9 +65,9 @@ pub is_named : (x : ℕ) (v : View) → named.IsLive x v → 1 ≤ count_named x
 is_named x v h = elim (cases_eq (count_named x v.blocks) 0) [ inl e ↦ absurd (no_range x v e h) | inr n ↦ omega arith ]
 
 -- no ticket with a name above the largest is live
-pub no_such : (max : ℕ) (ticket : Ticket) (g : Guard) (v : View) (t : Table) (realm : ℕ) → guard v t realm ≡ g → v.max_allocs < max → IsWellFormed v
+pub no_such : (max : ℕ) (ticket : Ticket) (g : Guard) (v : View) (t : Table) (realm step : ℕ) → guard v t realm step ≡ g → v.max_allocs < max → IsWellFormed v
     → max ≤ ticket.name → IsLive ticket g → ⊥
-no_such max ticket g v t realm shows admitted w above h = no_range ticket.name v (w.below ticket.name (omega arith)) (live_name ticket (guard v t realm) (subst (IsLive ticket) (sym shows) h))
+no_such max ticket g v t realm step shows admitted w above h = no_range ticket.name v (w.below ticket.name (omega arith)) (live_name ticket (guard v t realm step) (subst (IsLive ticket) (sym shows) h))
 
 -- the serials after one more
 pub cell_set : (cells : List ℕ) (name s x : ℕ) → name < length cells → cell x (slice_set cells name s) ≡ (if nat_eq x name then s else cell x cells)
@@ -129,20 +129,22 @@ module _ (max n realm : ℕ) (v w : View) (t u : Table) (h : Handle) (is : IsGua
   abbrev ticket : Ticket
   ticket = record { offset = h.offset; name = h.name; serial = t.given + 1; realm = realm }
 
-  no_other : (z : Ticket) → (AreAlike z ticket → ⊥) → z.name ≡ h.name → fits z (guard w u realm) ≡ false
-  no_other z d e = search (arith, cases_eq, no_serial, here, no_realm)
+  no_other : (now : ℕ) (z : Ticket) → (AreAlike z ticket → ⊥) → z.name ≡ h.name → fits z (guard w u realm now) ≡ false
+  no_other now z d e = search (arith, cases_eq, no_serial, here, no_realm)
 
-  pub others : KeepsOthers ticket (guard v t realm) (guard w u realm)
-  others z d = search (arith, cases_eq, no_other, none_if, nat_eq, there)
+  pub others : (step now : ℕ) → KeepsOthers ticket (guard v t realm step) (guard w u realm now)
+  others step now z d = search (arith, cases_eq, no_other, none_if, nat_eq, there)
 
-  fit : fits ticket (guard w u realm) ≡ true
-  fit = ap₂ (λ a b. a && b) (eq-eqb realm realm refl) (eq-eqb (t.given + 1) (cell h.name u.cells) (sym (here h.name refl)))
+  fit : (now : ℕ) → fits ticket (guard w u realm now) ≡ true
+  fit now = ap₂ (λ a b. a && b) (eq-eqb realm realm refl) (eq-eqb (t.given + 1) (cell h.name u.cells) (sym (here h.name refl)))
 
-  pub granted : u.cells ≡ slice_set (covering (nodes w) t.cells) h.name (t.given + 1) → Grants n (guard v t realm) (guard w u realm) ticket
-  granted table = search (arith, none_if, fit, others)
+  pub granted : u.cells ≡ slice_set (covering (nodes w) t.cells) h.name (t.given + 1) → (step now : ℕ) → Grants n (guard v t realm step) (guard w u realm now) ticket
+  granted table step now = search (arith, none_if, fit, others)
 
-  pub granted_as : u.cells ≡ slice_set (covering (nodes w) t.cells) h.name (t.given + 1) → (g : Guard) (z : Ticket) → guard v t realm ≡ g → z ≡ ticket → Grants n g (guard w u realm) z
-  granted_as table g z shows same = subst (λ g. Grants n g (guard w u realm) z) shows (subst (λ z. Grants n (guard v t realm) (guard w u realm) z) (sym same) (granted table))
+  pub granted_as : u.cells ≡ slice_set (covering (nodes w) t.cells) h.name (t.given + 1) → (step now : ℕ) (g : Guard) (z : Ticket) → guard v t realm step ≡ g → z ≡ ticket
+      → Grants n g (guard w u realm now) z
+  granted_as table step now g z shows same =
+      subst (λ g. Grants n g (guard w u realm now) z) shows (subst (λ z. Grants n (guard v t realm step) (guard w u realm now) z) (sym same) (granted table step now))
 
 -- what holds of a name in the space of the fields holds of it in what they show
 pub shown : (P : ℕ → View → Type 0) (x y : ℕ) (g h : Guard) → g ≡ h → x ≡ y → P x g.space → P y h.space
@@ -181,8 +183,9 @@ raised {max} {limit} {v} {w} {t} {u} h e cells given room small = record {
 }
 
 -- what the fields show is well formed
-pub formed : {max : ℕ} {v : View} {t : Table} → IsWellFormed v → AreNames v → IsGuarded max v t → (realm : ℕ) → realm ≤ 4294967295 → state.IsWellFormed (guard v t realm)
-formed {max} {v} {t} w names is realm small = record { space = w; names = names; live = is.live; given = is.given; realm = small }
+pub formed : {max : ℕ} {v : View} {t : Table} → IsWellFormed v → AreNames v → IsGuarded max v t → (realm step : ℕ) → realm ≤ 4294967295 → step ≤ 4294967295
+    → state.IsWellFormed (guard v t realm step)
+formed {max} {v} {t} w names is realm step small few = record { space = w; names = names; live = is.live; given = is.given; realm = small; step = few }
 
 -- ---- reasons
 -- what is so of a reason of the allocator is so of the reason that is made of it

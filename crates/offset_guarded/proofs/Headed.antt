@@ -7,6 +7,7 @@ pub headed : {bytes : List ℕ} {h : Header} → IsHeader bytes h → IsHeaded b
 headed {bytes} hd = record {
   form = (omega (arith, hd.long), hd.form, hd.version);
   long = omega (arith, hd.long, hd.count);
-  realm = omega (arith, hd.realm, hd.fits);
-  sum = subst (λ n. checksum_from 0 (numbers (5 + n) bytes) ≡ number_at bytes (5 + n)) (sym hd.count) hd.sum;
+  realm = omega (arith, hd.realm, hd.fits.0);
+  step = omega (arith, hd.step, hd.fits.1);
+  sum = subst (λ n. checksum_from 0 (numbers (6 + n) bytes) ≡ number_at bytes (6 + n)) (sym hd.count) hd.sum;
 }

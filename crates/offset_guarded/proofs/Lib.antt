@@ -1,4 +1,5 @@
 pub mod Bytes
+pub mod Divisors
 pub mod Entries
 pub mod FaultPlaces
 pub mod Guards

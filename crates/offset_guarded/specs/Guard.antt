@@ -38,6 +38,9 @@ pub record Guard : Type 0 where
   -- the grants so far: their serials are 1, 2, ..
   pub given : ℕ
   pub realm : ℕ
+  -- the least common multiple of the alignments of the grants so far, or 0 where it has more than 32 bits; 1 at first and
+  -- after a reset
+  pub step : ℕ
 
 -- the serial in the cell of a name
 abbrev pub cell : ℕ → List ℕ → ℕ
@@ -96,11 +99,12 @@ KeepsSizes g h = (t : Ticket) → option_map (λ (r : Range). r.size) (range_of 
 abbrev pub HasUnits : Ticket → ℕ → Guard → Guard → Type 0
 HasUnits t n g h = (r : Range) → range_of t g ≡ Some r → range_of t h ≡ Some (record r { size = n })
 
--- no name has another serial, and none is given
+-- no name has another serial, none is given, and the step is as it was
 pub record KeepsSerials (g h : Guard) : Type 0 where
   pub cells : (x : ℕ) → serial_of x h ≡ serial_of x g
   pub given : h.given ≡ g.given
   pub realm : h.realm ≡ g.realm
+  pub step : h.step ≡ g.step
 
 -- all is as it was, however many accesses are counted
 abbrev pub IsSame : Guard → Guard → Type 0

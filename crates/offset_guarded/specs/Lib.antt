@@ -3,4 +3,5 @@ pub mod Guard
 pub mod Numbers
 pub mod State
 pub mod StateFaults
+pub mod Step
 pub mod Values

@@ -13,10 +13,12 @@ ghost use Rattle.offset_allocator.specs.AtOffset.{AllocatesAt, CanGrantAt};
 ghost use Rattle.offset_allocator.specs.Tight.{AlignsTight, CanHold, listed_from};
 ghost use Rattle.offset_guarded.specs.Guard.{Grants, IsLive, IsSame, IsWhy, IsWhyTight, cell, handle_in};
 ghost use Rattle.offset_guarded.specs.Guard.{HasSerialLeft, covering, last_serial, nodes};
+ghost use Rattle.offset_guarded.specs.Step.{IsJoined};
 
 use crate::GuardedOf;
 use crate::refusal::Refusal;
 use crate::serials::Serials;
+use crate::step::joined;
 use crate::ticket::Ticket;
 use offset_allocator::{Accesses, Allocation, AllocatorOf, Tables};
 
@@ -100,6 +102,7 @@ impl<T: Tables> GuardedOf<T> {
         // The step of the allocator, where a serial is left.
         ensures step { HasSerialLeft self.old
             → Allocates size self.old.space self.new.space (option_map handle_in result) }
+        ensures same_step { self.new.step ≡ self.old.step }
         ensures accesses_max { self.new.space.accesses ≤ self.old.space.accesses + 64 }
     {
         if self.serials.is_spent() {
@@ -132,6 +135,8 @@ impl<T: Tables> GuardedOf<T> {
         ensures serials { result ≡ None → self.new ≡ record self.old { space = self.new.space } }
         ensures step { HasSerialLeft self.old
             → Aligns size align self.old.space self.new.space (option_map handle_in result) }
+        // A grant takes the alignment into the step.
+        ensures joined { IfSome result (λ _. IsJoined self.old.step align self.new.step) }
         ensures accesses_max { self.new.space.accesses ≤ self.old.space.accesses + 128 }
     {
         if self.serials.is_spent() {
@@ -139,7 +144,10 @@ impl<T: Tables> GuardedOf<T> {
         }
         match self.space.allocate_aligned(size, align) {
             None => None,
-            Some(handle) => Some(ticket_for(&self.space, &mut self.serials, self.realm, handle)),
+            Some(handle) => {
+                self.step = joined(self.step, align);
+                Some(ticket_for(&self.space, &mut self.serials, self.realm, handle))
+            }
         }
     }
 
@@ -163,6 +171,7 @@ impl<T: Tables> GuardedOf<T> {
         ensures serials { result ≡ None → self.new ≡ record self.old { space = self.new.space } }
         ensures step { HasSerialLeft self.old
             → AlignsTight size 1 self.old.space self.new.space (option_map handle_in result) }
+        ensures same_step { self.new.step ≡ self.old.step }
         ensures accesses_max { self.new.space.accesses
             ≤ self.old.space.accesses + 140 + 6 * length (bin_at self.old.space.bins (down size)) }
     {
@@ -195,6 +204,8 @@ impl<T: Tables> GuardedOf<T> {
         ensures serials { result ≡ None → self.new ≡ record self.old { space = self.new.space } }
         ensures step { HasSerialLeft self.old
             → AlignsTight size align self.old.space self.new.space (option_map handle_in result) }
+        // A grant takes the alignment into the step.
+        ensures joined { IfSome result (λ _. IsJoined self.old.step align self.new.step) }
         ensures accesses_max { self.new.space.accesses
             ≤ self.old.space.accesses + 140 + 6 * length (listed_from (down size) self.old.space.bins) }
     {
@@ -203,7 +214,10 @@ impl<T: Tables> GuardedOf<T> {
         }
         match self.space.allocate_tight_aligned(size, align) {
             None => None,
-            Some(handle) => Some(ticket_for(&self.space, &mut self.serials, self.realm, handle)),
+            Some(handle) => {
+                self.step = joined(self.step, align);
+                Some(ticket_for(&self.space, &mut self.serials, self.realm, handle))
+            }
         }
     }
 
@@ -227,6 +241,7 @@ impl<T: Tables> GuardedOf<T> {
         ensures serials { result ≡ None → self.new ≡ record self.old { space = self.new.space } }
         ensures step { HasSerialLeft self.old
             → AllocatesAt offset size self.old.space self.new.space (option_map handle_in result) }
+        ensures same_step { self.new.step ≡ self.old.step }
         ensures accesses_max { self.new.space.accesses
             ≤ self.old.space.accesses + 80 + 3 * length self.old.space.blocks }
     {
@@ -267,6 +282,7 @@ impl<T: Tables> GuardedOf<T> {
         // The step of the allocator, where the ticket is live and a serial is left.
         ensures step { IsLive ticket self.old → HasSerialLeft self.old
             → Relocates ticket.name self.old.space self.new.space (option_map handle_in result) }
+        ensures same_step { self.new.step ≡ self.old.step }
         // It counts the accesses of the step, without those of the test whether the ticket is live, at most 8.
         ensures accesses_max { self.new.space.accesses ≤ self.old.space.accesses + 67 }
     {
@@ -312,6 +328,8 @@ impl<T: Tables> GuardedOf<T> {
         // The step of the allocator, where the ticket is live and a serial is left.
         ensures step { IsLive ticket self.old → HasSerialLeft self.old
             → RelocatesAligned ticket.name align self.old.space self.new.space (option_map handle_in result) }
+        // A grant takes the alignment into the step.
+        ensures joined { IfSome result (λ _. IsJoined self.old.step align self.new.step) }
         // It counts the accesses of the step, without those of the test whether the ticket is live, at most 8.
         ensures accesses_max { self.new.space.accesses ≤ self.old.space.accesses + 67 }
     {
@@ -321,7 +339,10 @@ impl<T: Tables> GuardedOf<T> {
         }
         match self.space.relocate_aligned(handle, align) {
             None => None,
-            Some(second) => Some(ticket_for(&self.space, &mut self.serials, self.realm, second)),
+            Some(second) => {
+                self.step = joined(self.step, align);
+                Some(ticket_for(&self.space, &mut self.serials, self.realm, second))
+            }
         }
     }
 

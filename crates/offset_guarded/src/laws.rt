@@ -13,7 +13,7 @@ use offset_allocator::{Tables, laws};
 /// Bytes are those of a state of one guarded allocator at most, however many accesses were counted; it has
 /// one list of bytes; and those of this one are refused by no `read_state` that admits its node limit. So
 /// `read_state` of what `write_state` returned is the same guarded allocator: with the same space, the same
-/// realm and serials, and so with the same live tickets.
+/// realm, serials and step, and so with the same live tickets.
 pub fn a_state_is_read_back<T: Tables>(guarded: &GuardedOf<T>)
     ensures one { (g h : Guard) (bytes : List ℕ) → IsWellFormed g → IsWellFormed h
         → IsStateOf g bytes → IsStateOf h bytes → SameGuard g h }
@@ -23,6 +23,7 @@ pub fn a_state_is_read_back<T: Tables>(guarded: &GuardedOf<T>)
     ensures admitted { guarded.now.space.max_allocs + 1 < T.Index.MAX }
 {
     laws::a_state_is_read_back(&guarded.space);
-    // what is read recalls the invariant, and that a realm has 32 bits
+    // what is read recalls the invariant, and that a realm and a step have 32 bits
     let _ = guarded.realm();
+    let _ = guarded.step_number();
 }

@@ -34,6 +34,7 @@ mod restore;
 mod save;
 mod serials;
 mod state;
+mod step;
 mod ticket;
 mod values;
 mod walks;
@@ -64,6 +65,8 @@ pub struct GuardedOf<T: Tables> {
     space: AllocatorOf<T>,
     serials: Serials,
     realm: u32,
+    // what `step` says, or 0 where there is none
+    step: u32,
 }
 
 impl<T: Tables> Model for GuardedOf<T> {
@@ -76,6 +79,7 @@ impl<T: Tables> Model for GuardedOf<T> {
       serials = a.serials.cells;
       given = a.serials.given;
       realm = a.realm;
+      step = a.step;
     } };
 
     ghost invariant = { λ a. IsGuarded T.Index.MAX a.space a.serials };
@@ -108,6 +112,7 @@ impl<T: Tables> GuardedOf<T> {
         requires limit_max { max_allocs + 1 < T.Index.MAX }
         ensures space { IfOk result (λ g. IsFresh size max_allocs g.space) }
         ensures serials { IfOk result (λ g. (g.given ≡ 0) × (g.serials ≡ []) × (g.realm ≡ realm)) }
+        ensures first_step { IfOk result (λ g. g.step ≡ 1) }
     {
         // before the space, which requests all its memory at once: so both are known to fit together
         let serials = Serials::with_room(alloc, max_allocs)?;
@@ -116,11 +121,12 @@ impl<T: Tables> GuardedOf<T> {
             space,
             serials,
             realm,
+            step: 1,
         })
     }
 
-    /// A copy, with memory of its own, as `Allocator::try_clone` makes it, with the same realm and serials:
-    /// each ticket that is live here is live there. Serials go on from the same number in both, so a later
+    /// A copy, with memory of its own, as `Allocator::try_clone` makes it, with the same realm, serials
+    /// and step: each ticket that is live here is live there. Serials go on from the same number in both, so a later
     /// grant of one may have a ticket that is live in the other, for another range: use one copy in place of
     /// the other, as a snapshot, and not beside it.
     ///
@@ -143,11 +149,12 @@ impl<T: Tables> GuardedOf<T> {
             space,
             serials,
             realm: self.realm,
+            step: self.step,
         })
     }
 
     /// The same under another node limit, at least as large, as `Allocator::raised` makes it: a copy with the
-    /// same realm and serials, and with `max_allocs` in place of the limit. Put it in place of this one, and
+    /// same realm, serials and step, and with `max_allocs` in place of the limit. Put it in place of this one, and
     /// all tickets go on.
     ///
     /// The limit is at most `T::Index::MAX - 2`. It reserves what `with_realm` does for that limit,
@@ -175,6 +182,7 @@ impl<T: Tables> GuardedOf<T> {
             space,
             serials,
             realm: self.realm,
+            step: self.step,
         })
     }
 
@@ -216,10 +224,10 @@ impl<T: Tables> GuardedOf<T> {
         self.serials.is_spent()
     }
 
-    // The handle of a live ticket.
+    // The handle of a ticket that has the realm, and the serial that its name was last granted with.
     #[inline(always)]
-    fn handle(&self, ticket: Ticket) -> Option<Allocation<T::Index>>
-        ensures live { IsSome result ↔ IsLive ticket self.now }
+    fn handle_fitting(&self, ticket: Ticket) -> Option<Allocation<T::Index>>
+        ensures live { IsLive ticket self.now → IsSome result }
         ensures range { IfSome result (λ h. (h.name ≡ ticket.name)
             × (range_of ticket self.now ≡ named.range_of ticket.name self.now.space)) }
     {
@@ -231,6 +239,17 @@ impl<T: Tables> GuardedOf<T> {
             is_well_formed(&self.space);
             return None;
         };
+        Some(handle)
+    }
+
+    // The handle of a live ticket.
+    #[inline(always)]
+    fn handle(&self, ticket: Ticket) -> Option<Allocation<T::Index>>
+        ensures live { IsSome result ↔ IsLive ticket self.now }
+        ensures range { IfSome result (λ h. (h.name ≡ ticket.name)
+            × (range_of ticket self.now ≡ named.range_of ticket.name self.now.space)) }
+    {
+        let handle = self.handle_fitting(ticket)?;
         if self.space.is_live(handle) {
             Some(handle)
         } else {
@@ -343,17 +362,14 @@ impl<T: Tables> GuardedOf<T> {
         // out: `is_live_counted` of the allocator's `laws` has them.
         ensures accesses_max { self.new.space.accesses ≤ self.old.space.accesses + 128 }
     {
-        match self.handle(ticket) {
+        match self.handle_fitting(ticket) {
             None => false,
-            Some(handle) => {
-                self.space.free(handle);
-                true
-            }
+            Some(handle) => self.space.free_if_live(handle),
         }
     }
 
     /// Makes the whole space one free block again, as `Allocator::reset` does. No earlier ticket is ever live
-    /// again.
+    /// again. The step is 1.
     ///
     /// ```
     /// let mesh = guarded.allocate(300).unwrap();
@@ -365,11 +381,12 @@ impl<T: Tables> GuardedOf<T> {
         ensures size { self.new.space.size ≡ self.old.space.size }
         // The step of the allocator. All serials stay, so that none is given again.
         ensures step { Resets self.old.space self.new.space }
-        ensures serials { self.new ≡ record self.old { space = self.new.space } }
+        ensures serials { self.new ≡ record self.old { space = self.new.space; step = 1 } }
         ensures accesses_max { self.new.space.accesses
             ≤ self.old.space.accesses + min (130 * count_used self.old.space.blocks + 2) 270 }
     {
         self.space.reset();
+        self.step = 1;
     }
 }
 

@@ -22,6 +22,7 @@ pub(crate) struct Header {
     pub(crate) count: usize,
     pub(crate) given: u64,
     pub(crate) realm: u32,
+    pub(crate) step: u32,
 }
 
 // The header of these bytes, where all numbers of tickets are there and their checksum is right.
@@ -30,7 +31,7 @@ fn header_of(bytes: &[u8]) -> Result<Header, StateFault>
     ensures fault { (max most : ℕ) → IfErr result (λ f. IsFaultOf max most bytes.now f.at f.kind) }
     ensures wrong { IsErr result → (g : Guard) → IsWellFormed g → IsStateOf g bytes.now → ⊥ }
 {
-    if bytes.len() < 48 {
+    if bytes.len() < 56 {
         return Err(StateFault {
             at: bytes.len(),
             kind: StateFaultKind::Length,
@@ -43,7 +44,7 @@ fn header_of(bytes: &[u8]) -> Result<Header, StateFault>
         });
     }
     let stored = number(bytes, 2);
-    if stored > (bytes.len() as u64 - 48) / 8 {
+    if stored > (bytes.len() as u64 - 56) / 8 {
         return Err(StateFault {
             at: bytes.len(),
             kind: StateFaultKind::Length,
@@ -58,9 +59,16 @@ fn header_of(bytes: &[u8]) -> Result<Header, StateFault>
             kind: StateFaultKind::Realm,
         });
     }
-    if checksum(bytes, 5 + count) != number(bytes, 5 + count) {
+    let step = number(bytes, 5);
+    if step > u32::MAX as u64 {
         return Err(StateFault {
-            at: 40 + 8 * count,
+            at: 40,
+            kind: StateFaultKind::Step,
+        });
+    }
+    if checksum(bytes, 6 + count) != number(bytes, 6 + count) {
+        return Err(StateFault {
+            at: 48 + 8 * count,
             kind: StateFaultKind::Checksum,
         });
     }
@@ -68,6 +76,7 @@ fn header_of(bytes: &[u8]) -> Result<Header, StateFault>
         count,
         given,
         realm: realm as u32,
+        step: step as u32,
     })
 }
 
@@ -108,15 +117,15 @@ fn serial_fault<T: Tables>(space: &AllocatorOf<T>, serials: &Serials) -> Option<
     };
     let is_stored = name < serials.cells().len();
     Some(StateFault {
-        at: if is_stored { 40 + 8 * name } else { 16 },
+        at: if is_stored { 48 + 8 * name } else { 16 },
         kind: StateFaultKind::Serial,
     })
 }
 
 impl<T: Tables> GuardedOf<T> {
     /// The guarded allocator of these bytes, which `write_state` has made, or what is wrong with them, and
-    /// where: any bytes are taken. It has the same space, the same serials and the same realm as the one that
-    /// was written: so each ticket that was live there is live here, with its range, and no other is.
+    /// where: any bytes are taken. It has the same space, the same serials, the same realm and the same step as
+    /// the one that was written: so each ticket that was live there is live here, with its range, and no other is.
     ///
     /// Serials go on from the number that was stored, as they do in the one that was written, and in every
     /// other that is read from the same bytes: so a later grant of one may have a ticket that is live in the
@@ -157,7 +166,7 @@ impl<T: Tables> GuardedOf<T> {
             Err(fault) => return Err(ReadError::Fault(fault)),
             Ok(header) => header,
         };
-        let end = 48 + 8 * header.count;
+        let end = 56 + 8 * header.count;
         let space = match AllocatorOf::read_state(alloc, &bytes[end..], most_allocs) {
             Err(ReadError::Memory) => return Err(ReadError::Memory),
             Err(ReadError::Fault(fault)) => {
@@ -172,7 +181,7 @@ impl<T: Tables> GuardedOf<T> {
         a_state_is_read_back(&space);
         let serials = Serials::of_bytes(
             alloc,
-            &bytes[40..end - 8],
+            &bytes[48..end - 8],
             header.given,
             space.max_allocs(),
         )?;
@@ -183,6 +192,7 @@ impl<T: Tables> GuardedOf<T> {
             space,
             serials,
             realm: header.realm,
+            step: header.step,
         })
     }
 }

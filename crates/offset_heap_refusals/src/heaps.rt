@@ -102,13 +102,14 @@ fn request<T: Tables>(
     };
     match answer {
         Ok(granted) => {
-            *kept = Some(granted.place);
-            if granted.is_new && granted.place.heap < limits.most {
+            let (place, offset, is_new) = (granted.place, granted.offset, granted.is_new);
+            *kept = Some(place);
+            if is_new && place.heap < limits.most {
                 made.usual = made.usual.wrapping_add(1);
-            } else if granted.is_new {
+            } else if is_new {
                 made.larger = made.larger.wrapping_add(1);
             }
-            Ok(u64::from(granted.place.ticket.offset))
+            Ok(u64::from(offset))
         }
         Err(Refusal::Memory) => Err(Failure::OutOfMemory),
         Err(why) => Ok(u64::from(why as u8)),
@@ -121,7 +122,7 @@ fn call<T: Tables>(heaps: &mut HeapsOf<T>, place: Place, kind: u32, number: u32)
         0..=8 => u64::from(heaps.free(place)),
         9 => match heaps.relocate(place) {
             None => 9,
-            Some(second) => u64::from(heaps.free(second)),
+            Some(second) => u64::from(heaps.free(second.place)),
         },
         10 => u64::from(heaps.drop_heap(place.heap)),
         11 => u64::from(heaps.drop_empty(1).unwrap_or(9)),
@@ -137,22 +138,6 @@ fn call<T: Tables>(heaps: &mut HeapsOf<T>, place: Place, kind: u32, number: u32)
     }
 }
 
-// A place, for two calls.
-fn twice(place: Place) -> (Place, Place) {
-    let (heap, realm, ticket) = (place.heap, place.realm, place.ticket);
-    let again = Place {
-        heap,
-        realm,
-        ticket,
-    };
-    let place = Place {
-        heap,
-        realm,
-        ticket,
-    };
-    (place, again)
-}
-
 // Makes 1,000 calls of every kind, and returns a checksum of their results.
 fn checksum<T: Tables>(heaps: &mut HeapsOf<T>, made: &mut Counts) -> Result<u64, Failure> {
     let mut kept: [Option<Place>; 16] = [None; 16];
@@ -166,11 +151,10 @@ fn checksum<T: Tables>(heaps: &mut HeapsOf<T>, made: &mut Counts) -> Result<u64,
             let answer = match *kept {
                 None => request(heaps, kept, made, kind, size)?,
                 Some(place) => {
-                    let (place, again) = twice(place);
                     if !heaps.is_live(place) || kind == 15 {
                         *kept = None;
                     }
-                    call(heaps, again, kind, size)
+                    call(heaps, place, kind, size)
                 }
             };
             sum = sum.wrapping_mul(31).wrapping_add(answer);

@@ -15,7 +15,7 @@ use Rattle.offset_allocator.specs.{Ranges.size_of, View.IsWellFormed, View.free_
 use Rattle.offset_allocator.proofs.{Holding.place_there, Reading.size_at, Reading.size_is}
 use Rattle.offset_guarded.specs.Guard.{Guard, Ticket}
 use Rattle.offset_guarded.specs.Guard as guarded
-use Rattle.offset_heaps.specs.declared.place.Place.{Place}
+use Rattle.offset_heaps.specs.Places.{Place, ticket_of}
 use Rattle.offset_heaps.specs.Changing.{NewSize, Shrunk, Grown, Alters, AltersIn, MakesRoomAt, MakesRoomIn, Resizes, ResizesSpace}
 use Rattle.offset_heaps.specs.Calls.{Notes}
 use Rattle.offset_heaps.specs.Heaps.{Heaps, KeepsOthers, Puts, heap_at, range_in, range_of, slot}
@@ -55,9 +55,9 @@ module _ (k : ℕ) (P : Guard → Guard → Type 0) (hs ks : Heaps) (there : k <
     | inl here ↦ elim (cases_eq p.realm hs.realm) [
       | inr other ↦ ap f (other_realm p ks (λ e. other (e ∙ altered_realm)) ∙ sym (other_realm p hs other))
       | inl own ↦
-          ap f (same_realm p ks (own ∙ sym altered_realm) ∙ ap (λ j. range_in p.ticket (heap_at j ks)) here ∙ ap (range_in p.ticket) now)
-          ∙ same p.ticket
-          ∙ ap f (sym (same_realm p hs own ∙ ap (λ j. range_in p.ticket (heap_at j hs)) here ∙ ap (range_in p.ticket) a.heap))
+          ap f (same_realm p ks (own ∙ sym altered_realm) ∙ ap (λ j. range_in (ticket_of p) (heap_at j ks)) here ∙ ap (range_in (ticket_of p)) now)
+          ∙ same (ticket_of p)
+          ∙ ap f (sym (same_realm p hs own ∙ ap (λ j. range_in (ticket_of p) (heap_at j hs)) here ∙ ap (range_in (ticket_of p)) a.heap))
     ]
   ]
 
@@ -99,7 +99,7 @@ same_limits how x v w false s = (ap (λ (z : View). z.size) s, ap (λ (z : View)
 
 -- every other place has the range that it had
 pub others_kept : (p : Place) (P : Guard → Guard → Type 0) (hs ks : Heaps) → p.heap < length hs.slots → (a : Alters p.heap P hs ks) → p.realm ≡ hs.realm
-    → guarded.KeepsOthers p.ticket a.before a.after → KeepsOthers p hs ks
+    → guarded.KeepsOthers (ticket_of p) a.before a.after → KeepsOthers p hs ks
 others_kept p P hs ks there a own kept = put_keeps hs ks p.heap (Some a.after) (altered_slots p.heap P hs ks there a) (altered_realm p.heap P hs ks there a) there p refl own
     (λ u apart. kept u apart ∙ sym (ap (range_in u) a.heap))
 

@@ -6,6 +6,7 @@ use Rattle.offset_allocator.specs.{Moving.Compacting.Move, Ranges.Range, View.Vi
 use Rattle.offset_guarded.specs.Guard.{Guard, Ticket}
 use Rattle.offset_heaps.specs.declared.limits.Limits.{Limits}
 use Rattle.offset_heaps.specs.Changing.{CompactsAll, CompactsSlot, KeepsSizes, moves_from, moves_in, numbered}
+use Rattle.offset_heaps.specs.Places.{ticket_of}
 use Rattle.offset_heaps.specs.Heaps.{Heaps, IsOfKind, heap_at, range_in, slot}
 use Rattle.offset_heaps.proofs.Sound.{kind_kept}
 
@@ -34,9 +35,9 @@ sized_in t (Some g) new r = ap (λ q. units_in (range_in t q)) r.1 ∙ r.2.sizes
 
 pub sizes_compacted : (hs ks : Heaps) → CompactsAll hs ks → KeepsSizes hs ks
 sizes_compacted hs ks all p =
-    ap (λ r. units_in (if nat_eq p.realm r then range_in p.ticket (heap_at p.heap ks) else None)) (ap (λ (h : Heaps). h.realm) all.rest)
-    ∙ sized_if (nat_eq p.realm hs.realm) (range_in p.ticket (heap_at p.heap ks)) (range_in p.ticket (heap_at p.heap hs))
-    (sized_in p.ticket (heap_at p.heap hs) (heap_at p.heap ks) (all.heaps p.heap))
+    ap (λ r. units_in (if nat_eq p.realm r then range_in (ticket_of p) (heap_at p.heap ks) else None)) (ap (λ (h : Heaps). h.realm) all.rest)
+    ∙ sized_if (nat_eq p.realm hs.realm) (range_in (ticket_of p) (heap_at p.heap ks)) (range_in (ticket_of p) (heap_at p.heap hs))
+    (sized_in (ticket_of p) (heap_at p.heap hs) (heap_at p.heap ks) (all.heaps p.heap))
 
 -- ---- the moves
 -- those of the heap of a number, and of those behind it

@@ -7,10 +7,10 @@ use Rattle.offset_allocator.proofs.{Decided.aligns_decided, Decided.tight_decide
 use Rattle.offset_guarded.specs.Guard.{Guard, Ticket, handle_in}
 use Rattle.offset_heaps.specs.declared.limits.Limits.{Limits}
 use Rattle.offset_heaps.specs.declared.place.Granted.{Granted}
-use Rattle.offset_heaps.specs.declared.place.Place.{Place}
 use Rattle.offset_heaps.specs.declared.refusal.Refusal.{Refusal}
 use Rattle.offset_heaps.specs.declared.refusal.Refusal.TheVariants.{Empty, TooLarge, Full, Memory}
-use Rattle.offset_heaps.specs.Heaps.{Heaps, Grants, IsBefore, IsFirstFit, IsRaisedAsNeeded, IsRaisedWhere, IsNew, IsNext, IsSame, IsSpareLarger, IsSpareUsual, IsUsual, IsWhy, MayEverFit, MustRaise, MustRaiseIn, NoneFits, Puts, raised_limit, heap_at, larger_limit, room_of, slot, usual_room, usual_size}
+use Rattle.offset_heaps.specs.Heaps.{Heaps, Grants, IsBefore, IsFirstFit, IsRaisedAsNeeded, IsRaisedWhere, IsNew, IsNext, IsSame, IsSpareLarger, IsSpareUsual, IsUsual, IsWhy, MayEverFit, MustRaise, MustRaiseIn, NoneFits, Puts, raised_limit, heap_at, larger_limit, room_of, slot, ticket_in, usual_room, usual_size}
+use Rattle.offset_heaps.specs.Places.{place_of}
 use Rattle.offset_heaps.specs.State as state
 use Rattle.offset_heaps.specs.Twins.{AreTwins, IsTwin, IsTwinIn}
 use Rattle.offset_heaps.proofs.Doubling.{size_low}
@@ -140,6 +140,7 @@ one_new size max number g h a b =
     ∙ ap (λ x. let v : View = record h.space { size = size; max_allocs = max; blocks = free_block x size ∷ []; bins = push_all (free_block x size ∷ []) (replicate 256 []); unused = []; accesses = 0 } in v) (a.space.first ∙ sym b.space.first)
     ∙ sym b.space.view in
     ap₂ (λ (v : View) (l : List ℕ). record g { space = v; serials = l }) space (a.serials.1 ∙ sym b.serials.1)
+    ∙ ap (λ (s : ℕ). record g { space = h.space; serials = h.serials; step = s }) (a.step ∙ sym b.step)
     ∙ ap₂ (λ (n r : ℕ). record h { given = n; realm = r }) (a.serials.0 ∙ sym b.serials.0) (a.realm ∙ sym b.realm)
 
 new_formed : (size max number : ℕ) (g : Guard) → IsNew size max number g → 2 ≤ max → size ≤ 4294967295 → IsWellFormed g.space
@@ -162,6 +163,16 @@ pub known_at : (hs : Heaps) → IsKnown hs → (k : ℕ) (g : Guard) → heap_at
 known_at hs is k g e = subst (λ o. IfSome o (λ (g : Guard). IsWellFormed g.space)) e (is.heaps k)
 
 -- ---- grants
+-- the grant of a ticket
+abbrev grant_of : ℕ → ℕ → Ticket → Bool → Granted
+grant_of number realm ticket new = record { place = place_of number realm ticket; offset = ticket.offset; is_new = new }
+
+-- two grants are the same where their numbers, realms and tickets are, and both or none are new
+pub same_grants : (g h : Granted) → g.place.heap ≡ h.place.heap → g.is_new ≡ h.is_new → g.place.realm ≡ h.place.realm → ticket_in g ≡ ticket_in h → g ≡ h
+same_grants g h number new realm ticket =
+    ap₂ (λ (k r : ℕ). grant_of k r (ticket_in g) g.is_new) number realm
+    ∙ ap₂ (λ (t : Ticket) (b : Bool). grant_of h.place.heap h.place.realm t b) ticket new
+
 module _ (size align : ℕ) (hs hs' ks ks' : Heaps) (grant grant' : Granted) (small : grant.is_new ≡ true → size ≤ 4294967295) (is : IsKnown hs) (t : AreTwins hs hs') (number : grant.place.heap ≡ grant'.place.heap)
     (new : grant.is_new ≡ grant'.is_new) (s : Grants size align hs ks grant) (s' : Grants size align hs' ks' grant') where
   -- the two kinds of new heaps
@@ -208,34 +219,26 @@ module _ (size align : ℕ) (hs hs' ks ks' : Heaps) (grant grant' : Granted) (sm
   before : IsTwin s.before s'.before × IsWellFormed s.before.space
   before = befores s.before s'.before s.heap s'.heap
 
-  step : (Some (handle_in grant.place.ticket) ≡ Some (handle_in grant'.place.ticket)) × SameState s.after.space s'.after.space
+  step : (Some (handle_in (ticket_in grant)) ≡ Some (handle_in (ticket_in grant'))) × SameState s.after.space s'.after.space
   step = elim s.step [
     | inl a ↦ elim s'.step [
       | inl b ↦ aligns_decided size (if grant.is_new then 1 else align) s.before.space s'.before.space s.after.space s'.after.space before.1 before.0.space
-          (Some (handle_in grant.place.ticket)) (Some (handle_in grant'.place.ticket)) a.1
-          (subst (λ (b : Bool). Aligns size (if b then 1 else align) s'.before.space s'.after.space (Some (handle_in grant'.place.ticket))) (sym new) b.1)
+          (Some (handle_in (ticket_in grant))) (Some (handle_in (ticket_in grant'))) a.1
+          (subst (λ (b : Bool). Aligns size (if b then 1 else align) s'.before.space s'.after.space (Some (handle_in (ticket_in grant')))) (sym new) b.1)
       | inr b ↦ absurd (b.1 (usual_twins hs hs' t size (a.0 (new ∙ b.0))))
     ]
     | inr a ↦ elim s'.step [
       | inl b ↦ absurd (a.1 (usual_twins hs' hs (twins_sym hs hs' t) size (b.0 (sym new ∙ a.0))))
-      | inr b ↦ tight_decided size 1 s.before.space s'.before.space s.after.space s'.after.space before.1 before.0.space (Some (handle_in grant.place.ticket))
-          (Some (handle_in grant'.place.ticket)) a.2 b.2
+      | inr b ↦ tight_decided size 1 s.before.space s'.before.space s.after.space s'.after.space before.1 before.0.space (Some (handle_in (ticket_in grant)))
+          (Some (handle_in (ticket_in grant'))) a.2 b.2
     ]
   ]
 
-  ticket : grant.place.ticket ≡ grant'.place.ticket
-  ticket = same_ticket size s.before s'.before s.after s'.after grant.place.ticket grant'.place.ticket before.0 s.grants s'.grants step
+  ticket : ticket_in grant ≡ ticket_in grant'
+  ticket = same_ticket size s.before s'.before s.after s'.after (ticket_in grant) (ticket_in grant') before.0 s.grants s'.grants step
 
   after : IsTwin s.after s'.after
-  after = grant_twins size s.before s'.before s.after s'.after grant.place.ticket grant'.place.ticket before.0 s.grants s'.grants step
-
-  same_place : grant.place ≡ grant'.place
-  same_place =
-      ap₂ (λ (k : ℕ) (u : Ticket). let p : Place = record grant.place { heap = k; ticket = u } in p) number ticket
-      ∙ ap (λ (r : ℕ). let p : Place = record grant'.place { realm = r } in p) (s.realm ∙ sym t.realm ∙ sym s'.realm)
-
-  same_grant : grant ≡ grant'
-  same_grant = ap₂ (λ (p : Place) (b : Bool). let g : Granted = record { place = p; is_new = b } in g) same_place new
+  after = grant_twins size s.before s'.before s.after s'.after (ticket_in grant) (ticket_in grant') before.0 s.grants s'.grants step
 
   there : grant.place.heap < length hs'.slots
   there = subst (λ k. k < length hs'.slots) (sym number) s'.number
@@ -245,7 +248,7 @@ module _ (size align : ℕ) (hs hs' ks ks' : Heaps) (grant grant' : Granted) (sm
 
   pub grants_decided : (grant ≡ grant') × AreTwins ks ks'
   grants_decided = (
-    same_grant,
+    same_grants grant grant' number new (s.realm ∙ sym t.realm ∙ sym s'.realm) ticket,
     record {
       limits = ap (λ (h : Heaps). h.limits) s'.heaps ∙ t.limits ∙ sym (ap (λ (h : Heaps). h.limits) s.heaps);
       made = ap (λ (h : Heaps). h.made) s'.heaps ∙ ap₂ (λ (b : Bool) (m : ℕ). if b then m + 1 else m) (sym new) t.made ∙ sym (ap (λ (h : Heaps). h.made) s.heaps);

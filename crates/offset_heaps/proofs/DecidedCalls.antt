@@ -9,7 +9,6 @@ use Rattle.offset_guarded.specs.Guard.{Guard, serial_of}
 use Rattle.std.specs.declared.alloc.AllocError.{AllocError}
 use Rattle.offset_heaps.specs.declared.limits.Limits.{Limits}
 use Rattle.offset_heaps.specs.declared.place.Granted.{Granted}
-use Rattle.offset_heaps.specs.declared.place.Place.{Place}
 use Rattle.offset_heaps.specs.declared.refusal.Refusal.{Refusal}
 use Rattle.offset_heaps.specs.declared.refusal.Refusal.TheVariants.{Memory}
 use Rattle.offset_heaps.specs.Changing.{CanResizeAt, CanResizeIn, ResizesAt, NewSize, Shrunk, Grown, Alters, CompactsAll, CompactsIn, CompactsSlot, MakesRoomIn, Resizes, ResizesSpace}
@@ -17,7 +16,8 @@ use Rattle.offset_heaps.specs.Extending.{CanExtendIn, ExtendsIf, MustExtend}
 use Rattle.offset_heaps.specs.Heaps.{Heaps, Grants, IsFirstFit, IsRaisedWhere, IsNext, IsWhy, NoneFits, Puts, heap_at, is_empty, empties, live_units_of, numbers, part, slot, AreTotals, free_of, largest_room}
 use Rattle.offset_heaps.specs.{Heaps.room_of, Heaps.total, Heaps.units_of_heap, Histories.ResetsAll, State.quiet, Twins.AreTwins, Twins.IsTwin, Twins.IsTwinIn}
 use Rattle.offset_heaps.specs.declared.totals.Totals.{Totals}
-use Rattle.offset_heaps.specs.Relocating.{HasLive, IsEmptiest, NoneLive, TakesRange, granted, live_units_at, units_in, size_of}
+use Rattle.offset_heaps.specs.Places.{Place, ticket_of}
+use Rattle.offset_heaps.specs.Relocating.{HasLive, IsEmptiest, NoneLive, TakesRange, live_units_at, units_in, size_of}
 use Rattle.offset_heaps.specs.State as state
 use Rattle.offset_heaps.proofs.{States.slot_quiet, Empties.empty_there, Grants.memory_alone, Grants.none_found, Grants.one_reason, Numbers.slot_there}
 use Rattle.offset_heaps.specs.Calls.{Allocates, TakesAll, Call, Allocate, Allocate_tight, Free, Relocate, Drop_empty, Drop_heap, Give_up, Reset, Resize, Extend_heap, Compact_heap, Compact_all, Make_room, Drops, DropsEmpty, Frees, GivesUp, IsStarved, ExtendsOne, Relocates, Reply, Requested, Second, Dropped, Was_done, Resized, Extended, Room_made, Takes, MakesRoomOne, TakesSize, CompactsOne, Notes}
@@ -82,7 +82,7 @@ free_decided p hs hs' ks ks' is t true true x y =
     let f = x.step refl in
     let k = y.step refl in
     let before = some_twin f.before k.before (heap_at p.heap hs) (heap_at p.heap hs') f.heap k.heap (t.heaps p.heap) in
-    let after = free_twins p.ticket.name f.before k.before f.after k.after (known_at hs (known hs is) p.heap f.before f.heap) before f.step k.step f.serials k.serials in (
+    let after = free_twins p.name f.before k.before f.after k.after (known_at hs (known hs is) p.heap f.before f.heap) before f.step k.step f.serials k.serials in (
       refl,
       puts_twins p.heap (Some f.after) (Some k.after) hs hs' ks ks' t (slot_there hs.slots p.heap (ap is_some f.heap)) (slot_there hs'.slots p.heap (ap is_some k.heap))
           (k.after, refl, after) f.heaps k.heaps,
@@ -108,18 +108,18 @@ space_decided how x v v' w w' known same false s s' =
 can_at : (how : NewSize) (p : Place) (hs ks : Heaps) → AreTwins hs ks → CanResizeAt how p hs → CanResizeAt how p ks
 can_at how p hs ks t can = go how (heap_at p.heap hs) (heap_at p.heap ks) (t.heaps p.heap) can
   where
-    go : (how : NewSize) (o q : Option Guard) → IsTwinIn o q → CanResizeIn how p.ticket.name o → CanResizeIn how p.ticket.name q
+    go : (how : NewSize) (o q : Option Guard) → IsTwinIn o q → CanResizeIn how p.name o → CanResizeIn how p.name q
     go how None q u can = absurd can
     go (Shrunk n) (Some g) q u can =
-        subst (CanResizeIn (Shrunk n) p.ticket.name) (sym u.1) (subst (λ (z : Guard). CanResizeIn (Shrunk n) p.ticket.name (Some z)) (sym (as_twin g u.0 u.2)) can)
+        subst (CanResizeIn (Shrunk n) p.name) (sym u.1) (subst (λ (z : Guard). CanResizeIn (Shrunk n) p.name (Some z)) (sym (as_twin g u.0 u.2)) can)
     go (Grown n) (Some g) q u can =
-        subst (CanResizeIn (Grown n) p.ticket.name) (sym u.1) (subst (λ (z : Guard). CanResizeIn (Grown n) p.ticket.name (Some z)) (sym (as_twin g u.0 u.2)) can)
+        subst (CanResizeIn (Grown n) p.name) (sym u.1) (subst (λ (z : Guard). CanResizeIn (Grown n) p.name (Some z)) (sym (as_twin g u.0 u.2)) can)
 
 size_same : (how : NewSize) (p : Place) (d : Bool) (hs hs' ks ks' : Heaps) → state.IsWellFormed hs → AreTwins hs hs' → ResizesAt how p hs ks d → ResizesAt how p hs' ks' d → AreTwins ks ks'
 size_same how p d hs hs' ks ks' is t a b =
-    let P = Resizes how p.ticket d in
+    let P = Resizes how (ticket_of p) d in
     let before = before_twins p.heap P P hs hs' ks ks' t a b in
-    let one = space_decided how p.ticket.name a.before.space b.before.space a.after.space b.after.space (known_at hs (known hs is) p.heap a.before a.heap) before.space d a.by.step b.by.step in
+    let one = space_decided how p.name a.before.space b.before.space a.after.space b.after.space (known_at hs (known hs is) p.heap a.before a.heap) before.space d a.by.step b.by.step in
     alters_twins p.heap P P hs hs' ks ks' t a b (kept_twins a.before b.before a.after b.after before a.by.serials b.by.serials a.by.kept one)
 
 pub size_decided : (how : NewSize) (p : Place) (hs hs' ks ks' : Heaps) → state.IsWellFormed hs → AreTwins hs hs' → (r r' : Option Bool) → TakesSize how p hs ks r → TakesSize how p hs' ks' r' → (r ≡ r') × AreTwins ks ks'
@@ -234,16 +234,16 @@ module _ (p : Place) (hs ks : Heaps) (t : AreTwins hs ks) where
     },
   )
 
-pub relocates_decided : (p : Place) (align : ℕ) (hs hs' ks ks' : Heaps) → state.IsWellFormed hs → AreTwins hs hs' → (r r' : Option Place) → Relocates p align hs ks r → Relocates p align hs' ks' r' → (r ≡ r') × AreTwins ks ks'
+pub relocates_decided : (p : Place) (align : ℕ) (hs hs' ks ks' : Heaps) → state.IsWellFormed hs → AreTwins hs hs' → (r r' : Option Granted) → Relocates p align hs ks r → Relocates p align hs' ks' r' → (r ≡ r') × AreTwins ks ks'
 relocates_decided p align hs hs' ks ks' is t None None x y = (refl, same_twins hs hs' ks ks' t (x.same refl) (y.same refl))
-relocates_decided p align hs hs' ks ks' is t None (Some q) x y = absurd (x.none.0 refl q.heap (takes_twins p hs' hs (twins_sym hs hs' t) align q.heap y.first.0))
-relocates_decided p align hs hs' ks ks' is t (Some q) None x y = absurd (y.none.0 refl q.heap (takes_twins p hs hs' t align q.heap x.first.0))
-relocates_decided p align hs hs' ks ks' is t (Some q) (Some q') x y =
+relocates_decided p align hs hs' ks ks' is t None (Some h) x y = absurd (x.none.0 refl h.place.heap (takes_twins p hs' hs (twins_sym hs hs' t) align h.place.heap y.first.0))
+relocates_decided p align hs hs' ks ks' is t (Some g) None x y = absurd (y.none.0 refl g.place.heap (takes_twins p hs hs' t align g.place.heap x.first.0))
+relocates_decided p align hs hs' ks ks' is t (Some g) (Some h) x y =
     let s = twins_sym hs hs' t in
-    let number = one_first (TakesRange p align hs) q.heap q'.heap x.first.0 x.first.1 (takes_twins p hs' hs s align q'.heap y.first.0) (λ i l u. y.first.1 i l (takes_twins p hs hs' t align i u)) in
-    let all = grants_decided (size_of p hs) align hs hs' ks ks' (granted q) (granted q') (λ e. absurd (cc)) (known hs is) t number refl x.grants
-    (subst (λ n. Grants n align hs' ks' (granted q')) (size_twins p hs hs' t) y.grants) in
-    (ap Some (ap (λ (g : Granted). g.place) all.0), all.1)
+    let number = one_first (TakesRange p align hs) g.place.heap h.place.heap x.first.0 x.first.1 (takes_twins p hs' hs s align h.place.heap y.first.0) (λ i l u. y.first.1 i l (takes_twins p hs hs' t align i u)) in
+    let all = grants_decided (size_of p hs) align hs hs' ks ks' g h (λ e. absurd (let new : false ≡ true = sym x.found ∙ e in cc)) (known hs is) t number (x.found ∙ sym y.found) x.grants
+    (subst (λ n. Grants n align hs' ks' h) (size_twins p hs hs' t) y.grants) in
+    (ap Some all.0, all.1)
 
 -- ---- heaps that are dropped
 empty_twins : (hs ks : Heaps) → AreTwins hs ks → (k : ℕ) → is_empty (heap_at k ks) ≡ is_empty (heap_at k hs)
@@ -312,7 +312,7 @@ not_fewer hs hs' n k j t x y l =
     let s = twins_sym hs hs' t in
     let later = x.last j l y.before (lives_twins hs' hs s j y.live) in
     let fewest = y.fewest k x.before (lives_twins hs hs' t k x.live) in
-    let p : Place = record { heap = 0; realm = 0; ticket = record { offset = 0; name = 0; serial = 0; realm = 0 } } in
+    let p : Place = record { heap = 0; realm = 0; name = 0; serial = 0; heap_realm = 0 } in
     omega (arith, later, fewest, live_twins p hs hs' t k, live_twins p hs hs' t j)
 
 pub emptiest_decided : (hs hs' : Heaps) → AreTwins hs hs' → (r r' : Option ℕ) → MatchOption r (NoneLive (numbers hs) hs.slots) (IsEmptiest (numbers hs) hs.slots)

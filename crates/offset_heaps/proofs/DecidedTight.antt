@@ -3,16 +3,16 @@ use Rattle.std.proofs.Common.{◌≡◌, ℕ, ◌≤◌, Bool, true, false, Opti
 use Rattle.std.proofs.lemmas.Bool.{cases_Bool}
 use Rattle.offset_allocator.specs.{Relations.SameState, Requests.blocks_needed}
 use Rattle.offset_allocator.proofs.Decided.{tight_decided}
-use Rattle.offset_guarded.specs.Guard.{Guard, Ticket, handle_in}
+use Rattle.offset_guarded.specs.Guard.{Guard, handle_in}
 use Rattle.offset_heaps.specs.declared.limits.Limits.{Limits}
 use Rattle.offset_heaps.specs.declared.place.Granted.{Granted}
-use Rattle.offset_heaps.specs.declared.place.Place.{Place}
 use Rattle.offset_heaps.specs.declared.refusal.Refusal.{Refusal}
 use Rattle.offset_heaps.specs.declared.refusal.Refusal.TheVariants.{Empty, TooLarge, Full, Memory}
 use Rattle.offset_heaps.specs.Calls.{AllocatesTight}
-use Rattle.offset_heaps.specs.Heaps.{Heaps, IsNext, IsRaisedAsNeeded, Puts, heap_at}
+use Rattle.offset_heaps.specs.Heaps.{Heaps, IsNext, IsRaisedAsNeeded, Puts, heap_at, ticket_in}
+use Rattle.offset_heaps.specs.Places.{Place}
 use Rattle.offset_heaps.specs.{Slots.CanHoldIn, State.IsWellFormed, Tight.GrantsTight, Tight.IsFirstHolding, Tight.IsWhyTight, Tight.NoneHolds, Twins.AreTwins, Twins.IsTwin, Twins.IsTwinIn}
-use Rattle.offset_heaps.proofs.Decided.{grants_decided, known, known_at, may_twins, must_in_twins, next_twins, one_first, one_next, puts_twins, raised_twins, same_twins}
+use Rattle.offset_heaps.proofs.Decided.{grants_decided, same_grants, known, known_at, may_twins, must_in_twins, next_twins, one_first, one_next, puts_twins, raised_twins, same_twins}
 use Rattle.offset_heaps.proofs.{Holders.one_reason_tight, Holders.tight_refused, Numbers.slot_there, Raising.raised_formed, Twins.as_twin, Twins.grant_twins, Twins.same_ticket, Twins.some_twin, Twins.twin_sym, Twins.twins_sym}
 
 -- ---- what a request finds
@@ -50,8 +50,11 @@ one_held : (size align k j : ℕ) (hs : Heaps) → IsFirstHolding size align k h
 one_held size align k j hs a b = one_first (λ i. CanHoldIn hs.limits i size align (heap_at i hs)) k j a.0 a.1 b.0 b.1
 
 -- ---- grants
-module _ (size align : ℕ) (hs hs' ks ks' : Heaps) (p p' : Place) (is : IsWellFormed hs) (t : AreTwins hs hs') (number : p.heap ≡ p'.heap) (s : GrantsTight size align hs ks p)
-    (s' : GrantsTight size align hs' ks' p') where
+module _ (size align : ℕ) (hs hs' ks ks' : Heaps) (grant grant' : Granted) (is : IsWellFormed hs) (t : AreTwins hs hs') (number : grant.place.heap ≡ grant'.place.heap) (new : grant.is_new ≡ grant'.is_new)
+    (s : GrantsTight size align hs ks grant) (s' : GrantsTight size align hs' ks' grant') where
+  abbrev p : Place
+  p = grant.place
+
   there : heap_at p.heap hs' ≡ Some s'.was
   there = ap (λ k. heap_at k hs') number ∙ s'.heap
 
@@ -62,21 +65,20 @@ module _ (size align : ℕ) (hs hs' ks ks' : Heaps) (p p' : Place) (is : IsWellF
   before = raised_twins hs.limits p.heap (blocks_needed align) s.was s'.was s.before s'.before was (twin_sym s.was s'.was was) s.raised
       (subst₂ (λ (l : Limits) (j : ℕ). IsRaisedAsNeeded l j (blocks_needed align) s'.was s'.before) t.limits (sym number) s'.raised)
 
-  step : (Some (handle_in p.ticket) ≡ Some (handle_in p'.ticket)) × SameState s.after.space s'.after.space
+  step : (Some (handle_in (ticket_in grant)) ≡ Some (handle_in (ticket_in grant'))) × SameState s.after.space s'.after.space
   step = tight_decided size align s.before.space s'.before.space s.after.space s'.after.space
       (raised_formed hs.limits p.heap (blocks_needed align) s.was s.before s.raised (known_at hs (known hs is) p.heap s.was s.heap)) before.space
-      (Some (handle_in p.ticket)) (Some (handle_in p'.ticket)) s.step s'.step
+      (Some (handle_in (ticket_in grant))) (Some (handle_in (ticket_in grant'))) s.step s'.step
 
-  ticket : p.ticket ≡ p'.ticket
-  ticket = same_ticket size s.before s'.before s.after s'.after p.ticket p'.ticket before s.grants s'.grants step
+  ticket : ticket_in grant ≡ ticket_in grant'
+  ticket = same_ticket size s.before s'.before s.after s'.after (ticket_in grant) (ticket_in grant') before s.grants s'.grants step
 
   after : IsTwin s.after s'.after
-  after = grant_twins size s.before s'.before s.after s'.after p.ticket p'.ticket before s.grants s'.grants step
+  after = grant_twins size s.before s'.before s.after s'.after (ticket_in grant) (ticket_in grant') before s.grants s'.grants step
 
-  filled_decided : (p ≡ p') × AreTwins ks ks'
+  filled_decided : (grant ≡ grant') × AreTwins ks ks'
   filled_decided = (
-    ap₂ (λ (k : ℕ) (u : Ticket). let q : Place = record p { heap = k; ticket = u } in q) number ticket
-        ∙ ap (λ (r : ℕ). let q : Place = record p' { realm = r } in q) (s.realm ∙ sym t.realm ∙ sym s'.realm),
+    same_grants grant grant' number new (s.realm ∙ sym t.realm ∙ sym s'.realm) ticket,
     puts_twins p.heap (Some s.after) (Some s'.after) hs hs' ks ks' t (slot_there hs.slots p.heap (ap is_some s.heap)) (slot_there hs'.slots p.heap (ap is_some there))
         (s'.after, refl, after) s.heaps (subst (λ k. Puts k (Some s'.after) hs' ks') (sym number) s'.heaps),
   )
@@ -116,6 +118,6 @@ tights_decided size align hs hs' ks ks' small is t (Ok g) (Ok h) x y m n =
           let all = grants_decided size align hs hs' ks ks' g h (λ e. small) (known hs is) t one.0 one.1 (x.grants e) (y.grants (sym one.1 ∙ e)) in
           (ap Ok all.0, all.1)
       | inr e ↦
-          let all = filled_decided size align hs hs' ks ks' g.place h.place is t one.0 (x.fills e) (y.fills (sym one.1 ∙ e)) in
-          (ap Ok (ap₂ (λ (q : Place) (b : Bool). let z : Granted = record { place = q; is_new = b } in z) all.0 one.1), all.1)
+          let all = filled_decided size align hs hs' ks ks' g h is t one.0 one.1 (x.fills e) (y.fills (sym one.1 ∙ e)) in
+          (ap Ok all.0, all.1)
     ]

@@ -9,7 +9,7 @@ use Rattle.offset_allocator.specs.Ranges as named
 use Rattle.offset_allocator.proofs.{Reporting.AlongLive.all_met, Reporting.AlongLive.backward, Tallies.hit_cases, Tallies.tally_append}
 use Rattle.offset_guarded.proofs.Guards.{live_name}
 use Rattle.offset_guarded.specs.Guard.{Guard, Ticket}
-use Rattle.offset_heaps.specs.declared.place.Place.{Place}
+use Rattle.offset_heaps.specs.Places.{Place, ticket_of}
 use Rattle.offset_heaps.specs.{Heaps.Heaps, Heaps.IsLive, Heaps.heap_at, Heaps.range_in, Relocating.last_live_in, Relocating.live_before_in, Relocating.place_in, Twins.AreTwins, Twins.IsTwin}
 use Rattle.offset_heaps.specs.Twins.{IsTwinIn}
 use Rattle.offset_heaps.specs.State as state
@@ -72,7 +72,7 @@ module _ (v : View) (w : IsWellFormed v) where
 placed_twin : (k realm : ℕ) (g h : Guard) → IsTwin g h → (o : Option Handle) → IfSome o (IsLiveHandle g.space) → option_map (place_in k realm h) o ≡ option_map (place_in k realm g) o
 placed_twin k realm g h t None live = refl
 placed_twin k realm g h t (Some a) live =
-    ap₂ (λ (s m : ℕ). let p : Option Place = Some (record { heap = k; realm = realm; ticket = record { offset = a.offset; name = a.name; serial = s; realm = m } }) in p)
+    ap₂ (λ (s m : ℕ). let p : Option Place = Some (record { heap = k; realm = realm; name = a.name; serial = s; heap_realm = m }) in p)
     (t.serials a.name live) t.realm
 
 last_in : (k realm : ℕ) (o p : Option Guard) → IfSome o (λ g. IsWellFormed g.space) → IsTwinIn o p → last_live_in k realm p ≡ last_live_in k realm o
@@ -97,8 +97,8 @@ only_if true o h = h
 only_if false o h = cc
 
 pub before_decided : (p : Place) (hs hs' : Heaps) → state.IsWellFormed hs → AreTwins hs hs' → IsLive p hs
-    → live_before_in p.heap hs'.realm p.ticket (heap_at p.heap hs') ≡ live_before_in p.heap hs.realm p.ticket (heap_at p.heap hs)
+    → live_before_in p.heap hs'.realm (ticket_of p) (heap_at p.heap hs') ≡ live_before_in p.heap hs.realm (ticket_of p) (heap_at p.heap hs)
 before_decided p hs hs' is t live =
-    ap (λ r. live_before_in p.heap r p.ticket (heap_at p.heap hs')) t.realm
-    ∙ before_in p.heap hs.realm p.ticket (heap_at p.heap hs) (heap_at p.heap hs') ((known hs is).heaps p.heap)
-    (only_if (nat_eq p.realm hs.realm) (range_in p.ticket (heap_at p.heap hs)) live) (t.heaps p.heap)
+    ap (λ r. live_before_in p.heap r (ticket_of p) (heap_at p.heap hs')) t.realm
+    ∙ before_in p.heap hs.realm (ticket_of p) (heap_at p.heap hs) (heap_at p.heap hs') ((known hs is).heaps p.heap)
+    (only_if (nat_eq p.realm hs.realm) (range_in (ticket_of p) (heap_at p.heap hs)) live) (t.heaps p.heap)

@@ -10,7 +10,7 @@ use Rattle.offset_allocator.specs.{Ranges.Range, View.Handle, View.IsWellFormed,
 use Rattle.offset_allocator.specs.Ranges as named
 use Rattle.offset_allocator.proofs.{Reporting.AlongLive.all_met as handles_met, Reporting.AlongLive.forward, Tallies.tally_append}
 use Rattle.offset_guarded.specs.Guard.{Guard, serial_of}
-use Rattle.offset_heaps.specs.declared.place.Place.{Place}
+use Rattle.offset_heaps.specs.Places.{Place, ticket_of}
 use Rattle.offset_heaps.specs.Heaps.{Heaps, heap_at, range_in, slot}
 use Rattle.offset_heaps.specs.Numbering.{AreOfLive, MeetsPlaces, first_from, first_live_in, is_alike, live_places, next_place, places_from, places_in}
 use Rattle.offset_heaps.specs.Relocating.{place_in}
@@ -87,26 +87,26 @@ module _ (p : Place) where
   hits q = one (is_alike p q)
 
   abbrev fits_in : ℕ → ℕ → Guard → Bool
-  fits_in k realm g = nat_eq p.heap k && (nat_eq p.realm realm && (nat_eq p.ticket.realm g.realm && nat_eq p.ticket.serial (serial_of p.ticket.name g)))
+  fits_in k realm g = nat_eq p.heap k && (nat_eq p.realm realm && (nat_eq p.heap_realm g.realm && nat_eq p.serial (serial_of p.name g)))
 
   names_met : (k realm : ℕ) (g : Guard) (xs : List Handle) → tally hits (map (place_in k realm g) xs)
-      ≡ (if fits_in k realm g then tally (λ (h : Handle). one (nat_eq p.ticket.name h.name)) xs else 0)
+      ≡ (if fits_in k realm g then tally (λ (h : Handle). one (nat_eq p.name h.name)) xs else 0)
   names_met k realm g [] = sym (none_if (fits_in k realm g))
   names_met k realm g (x ∷ xs) =
       let rest = names_met k realm g xs in
-      let n = tally (λ (h : Handle). one (nat_eq p.ticket.name h.name)) xs in
-      elim (cases_eq p.ticket.name x.name) [
+      let n = tally (λ (h : Handle). one (nat_eq p.name h.name)) xs in
+      elim (cases_eq p.name x.name) [
         | inl e ↦
             ap₂ (λ (a b : ℕ). a + b)
-            (ap₂ (λ (s : ℕ) (t : Bool). one (nat_eq p.heap k && (nat_eq p.realm realm && (nat_eq p.ticket.realm g.realm && (nat_eq p.ticket.serial s && t))))) (ap (λ y. serial_of y g) (sym e)) (eq-eqb p.ticket.name x.name e)) rest
-            ∙ joined (nat_eq p.heap k) (nat_eq p.realm realm) (nat_eq p.ticket.realm g.realm) (nat_eq p.ticket.serial (serial_of p.ticket.name g)) n
-            ∙ ap (λ (t : Bool). if fits_in k realm g then one t + n else 0) (sym (eq-eqb p.ticket.name x.name e))
+            (ap₂ (λ (s : ℕ) (t : Bool). one (nat_eq p.heap k && (nat_eq p.realm realm && (nat_eq p.heap_realm g.realm && (nat_eq p.serial s && t))))) (ap (λ y. serial_of y g) (sym e)) (eq-eqb p.name x.name e)) rest
+            ∙ joined (nat_eq p.heap k) (nat_eq p.realm realm) (nat_eq p.heap_realm g.realm) (nat_eq p.serial (serial_of p.name g)) n
+            ∙ ap (λ (t : Bool). if fits_in k realm g then one t + n else 0) (sym (eq-eqb p.name x.name e))
         | inr d ↦
             ap₂ (λ (a b : ℕ). a + b)
-            (ap (λ (t : Bool). one (nat_eq p.heap k && (nat_eq p.realm realm && (nat_eq p.ticket.realm g.realm && (nat_eq p.ticket.serial (serial_of x.name g) && t))))) (ne_eqb p.ticket.name x.name d)
-            ∙ apart (nat_eq p.heap k) (nat_eq p.realm realm) (nat_eq p.ticket.realm g.realm) (nat_eq p.ticket.serial (serial_of x.name g))) rest
+            (ap (λ (t : Bool). one (nat_eq p.heap k && (nat_eq p.realm realm && (nat_eq p.heap_realm g.realm && (nat_eq p.serial (serial_of x.name g) && t))))) (ne_eqb p.name x.name d)
+            ∙ apart (nat_eq p.heap k) (nat_eq p.realm realm) (nat_eq p.heap_realm g.realm) (nat_eq p.serial (serial_of x.name g))) rest
             ∙ skipped (fits_in k realm g) n
-            ∙ ap (λ (t : Bool). if fits_in k realm g then one t + n else 0) (sym (ne_eqb p.ticket.name x.name d))
+            ∙ ap (λ (t : Bool). if fits_in k realm g then one t + n else 0) (sym (ne_eqb p.name x.name d))
       ]
 
   -- the range of a place, where its heap has this number
@@ -121,7 +121,7 @@ module _ (p : Place) where
   live_one false c r s o = refl
 
   heap_once : (k realm : ℕ) (o : Option Guard) → IfSome o (λ g. IsWellFormed g.space) → tally hits (places_in k realm o)
-      ≡ one (nat_eq p.heap k && is_some (range_if (nat_eq p.realm realm) (range_in p.ticket o)))
+      ≡ one (nat_eq p.heap k && is_some (range_if (nat_eq p.realm realm) (range_in (ticket_of p) o)))
   heap_once k realm None known = sym (none (nat_eq p.heap k) (nat_eq p.realm realm))
     where
       none : (b c : Bool) → one (b && is_some (range_if c None)) ≡ 0
@@ -130,33 +130,33 @@ module _ (p : Place) where
       none false c = refl
   heap_once k realm (Some g) known =
       names_met k realm g (live_handles g.space)
-      ∙ ap (λ (n : ℕ). if fits_in k realm g then n else 0) ((handles_met g.space known).once p.ticket.name)
-      ∙ live_one (nat_eq p.heap k) (nat_eq p.realm realm) (nat_eq p.ticket.realm g.realm) (nat_eq p.ticket.serial (serial_of p.ticket.name g)) (named.range_of p.ticket.name g.space)
+      ∙ ap (λ (n : ℕ). if fits_in k realm g then n else 0) ((handles_met g.space known).once p.name)
+      ∙ live_one (nat_eq p.heap k) (nat_eq p.realm realm) (nat_eq p.heap_realm g.realm) (nat_eq p.serial (serial_of p.name g)) (named.range_of p.name g.space)
 
   -- none behind its heap
   none_behind : (k realm : ℕ) (slots : List (Option Guard)) → ((j : ℕ) → IfSome (slot j slots) (λ g. IsWellFormed g.space)) → p.heap < k → tally hits (places_from k realm slots) ≡ 0
   none_behind k realm [] known l = refl
   none_behind k realm (o ∷ slots) known l =
       let here : tally hits (places_in k realm o) ≡ 0 =
-      heap_once k realm o (known 0) ∙ ap (λ (b : Bool). one (b && is_some (range_if (nat_eq p.realm realm) (range_in p.ticket o)))) (ne_eqb p.heap k (λ e. omega arith)) in
+      heap_once k realm o (known 0) ∙ ap (λ (b : Bool). one (b && is_some (range_if (nat_eq p.realm realm) (range_in (ticket_of p) o)))) (ne_eqb p.heap k (λ e. omega arith)) in
       let rest = none_behind (k + 1) realm slots (λ j. known (suc j)) (omega arith) in
       tally_append hits (places_in k realm o) (places_from (k + 1) realm slots) ∙ omega (arith, here, rest)
 
   place_once : (j k realm : ℕ) (slots : List (Option Guard)) → ((j : ℕ) → IfSome (slot j slots) (λ g. IsWellFormed g.space)) → p.heap ≡ k + j
-      → tally hits (places_from k realm slots) ≡ one (is_some (range_if (nat_eq p.realm realm) (range_in p.ticket (slot j slots))))
+      → tally hits (places_from k realm slots) ≡ one (is_some (range_if (nat_eq p.realm realm) (range_in (ticket_of p) (slot j slots))))
   place_once j k realm [] known e = sym (none (nat_eq p.realm realm))
     where
       none : (c : Bool) → one (is_some (range_if c None)) ≡ 0
       none true = refl
       none false = refl
   place_once zero k realm (o ∷ slots) known e =
-      let here : tally hits (places_in k realm o) ≡ one (is_some (range_if (nat_eq p.realm realm) (range_in p.ticket o))) =
-      heap_once k realm o (known 0) ∙ ap (λ (b : Bool). one (b && is_some (range_if (nat_eq p.realm realm) (range_in p.ticket o)))) (eq-eqb p.heap k (omega (arith, e))) in
+      let here : tally hits (places_in k realm o) ≡ one (is_some (range_if (nat_eq p.realm realm) (range_in (ticket_of p) o))) =
+      heap_once k realm o (known 0) ∙ ap (λ (b : Bool). one (b && is_some (range_if (nat_eq p.realm realm) (range_in (ticket_of p) o)))) (eq-eqb p.heap k (omega (arith, e))) in
       let rest = none_behind (k + 1) realm slots (λ j. known (suc j)) (omega (arith, e)) in
       tally_append hits (places_in k realm o) (places_from (k + 1) realm slots) ∙ omega (arith, here, rest)
   place_once (suc j) k realm (o ∷ slots) known e =
       let here : tally hits (places_in k realm o) ≡ 0 =
-      heap_once k realm o (known 0) ∙ ap (λ (b : Bool). one (b && is_some (range_if (nat_eq p.realm realm) (range_in p.ticket o)))) (ne_eqb p.heap k (λ f. omega (arith, e, f))) in
+      heap_once k realm o (known 0) ∙ ap (λ (b : Bool). one (b && is_some (range_if (nat_eq p.realm realm) (range_in (ticket_of p) o)))) (ne_eqb p.heap k (λ f. omega (arith, e, f))) in
       let rest = place_once j (k + 1) realm slots (λ i. known (suc i)) (omega (arith, e)) in
       tally_append hits (places_in k realm o) (places_from (k + 1) realm slots) ∙ omega (arith, here, rest)
 

@@ -6,7 +6,7 @@ use Rattle.offset_heaps.specs.declared.place.Granted.{Granted}
 use Rattle.offset_heaps.specs.declared.refusal.Refusal.{Refusal}
 use Rattle.offset_heaps.specs.declared.refusal.Refusal.TheVariants.{Memory}
 use Rattle.offset_heaps.specs.{Asking.IsRefusedFor, Asking.IsServed, Calls.Allocates, Calls.AllocatesTight, Tight.IsRefusedForTight, Tight.IsServedTight}
-use Rattle.offset_heaps.specs.Heaps.{Heaps, Grants, IsBefore, IsUsual, heap_at, units_of_heap, slot, usual_size}
+use Rattle.offset_heaps.specs.Heaps.{Heaps, Grants, IsBefore, IsUsual, heap_at, ticket_in, units_of_heap, slot, usual_size}
 use Rattle.offset_heaps.proofs.{DecidedCalls.refused, Grants.memory_alone, Grants.none_found, Grants.one_reason, Holders.holds_memory, Holders.next_memory, Holders.one_reason_tight, Holders.tight_refused, Numbers.slot_same, Shapes.size_tight}
 
 pub foretold : (size align : ℕ) (hs ks : Heaps) (why : Option Refusal) (r : Result Granted Refusal) → MatchOption why (IsServed size align hs) (IsRefusedFor size align hs)
@@ -39,7 +39,7 @@ module _ (size align : ℕ) (hs ks : Heaps) (grant : Granted) (g : Grants size a
   same : g.after.space.size ≡ g.before.space.size
   same = elim g.step [
     | inl a ↦ ap (λ (v : View). v.size) a.1.1.view
-    | inr a ↦ size_tight size 1 g.before.space g.after.space (handle_in grant.place.ticket) a.2
+    | inr a ↦ size_tight size 1 g.before.space g.after.space (handle_in (ticket_in grant)) a.2
   ]
 
   pub usual_units : IsUsual size hs → option_map units_of_heap (heap_at grant.place.heap ks) ≡ Some (usual_size hs.limits grant.place.heap)

@@ -10,13 +10,14 @@ use Rattle.offset_heaps.specs.declared.place.Granted.{Granted}
 use Rattle.offset_heaps.specs.declared.refusal.Refusal.{Refusal}
 use Rattle.offset_heaps.specs.declared.refusal.Refusal.TheVariants.{Empty, TooLarge, Full, Memory}
 use Rattle.offset_heaps.specs.Heaps.{Heaps, Adds, Grants, IsBefore, IsFirstFit, IsForRoom, IsNext, IsWhy, MayEverFit, NoneFits, IsNew, IsSame, IsSpareLarger, IsSpareUsual, IsUsual, KeepsOthers, IsRaisedAsNeeded, MustRaiseIn, heap_at, usual_size}
+use Rattle.offset_heaps.specs.Places.{place_of, ticket_of}
 use Rattle.offset_heaps.specs.{Heaps.larger_limit, Heaps.last_realm, Heaps.range_in, Heaps.range_of, Heaps.slot, Slots.Changes, Slots.KeepsOthersIn, Slots.RaisesIn, Slots.GrantsIn, Slots.GrantsTightIn}
 use Rattle.offset_heaps.proofs.{Raising.must_in, Raising.raised_range, Raising.set_twice}
 use Rattle.offset_heaps.proofs.{Numbers.slot_same, Places.none_if, Places.put_keeps, Places.same_realm, Places.shown, Rooms.fresh_none, Rooms.some_same}
 
 -- a grant at a number
 abbrev pub grant_at : ℕ → ℕ → Ticket → Granted
-grant_at number realm ticket = record { place = record { heap = number; realm = realm; ticket = ticket }; is_new = false }
+grant_at number realm ticket = record { place = place_of number realm ticket; offset = ticket.offset; is_new = false }
 
 pub granted_at : (slots now : List (Option Guard)) (limits : Limits) (made realm before after number size align : ℕ) (ticket : Ticket) → number < length slots
     → (MustRaiseIn limits number (blocks_needed align) (slot number slots) → ⊥) → Changes number (λ o p. GrantsIn size align o p ticket) slots now
@@ -37,7 +38,7 @@ granted_at slots now limits made realm before after number size align ticket the
 module _ (hs ks : Heaps) (number size align : ℕ) (o : Option Guard) (ticket : Ticket) (there : number < length hs.slots) (adds : Adds number o hs ks) where
   -- a grant of a new heap
   abbrev grant : Granted
-  grant = record { place = record { heap = number; realm = hs.realm; ticket = ticket }; is_new = true }
+  grant = record { place = place_of number hs.realm ticket; offset = ticket.offset; is_new = true }
 
   pub granted_usual : (g : Guard) → IsSpareUsual size number hs → IsUsual size hs → IsNew (usual_size hs.limits number) hs.limits.first_allocs (hs.made + 1) g
       → GrantsIn size 1 (Some g) o ticket → Grants size align hs ks grant
@@ -147,17 +148,17 @@ module _ (size align : ℕ) (hs ks : Heaps) (grant : Granted) (g : Grants size a
   realms : ks.realm ≡ hs.realm
   realms = ap (λ (h : Heaps). h.realm) g.heaps
 
-  pub range_granted : range_of grant.place ks ≡ Some (record { offset = grant.place.ticket.offset; size = size })
+  pub range_granted : range_of grant.place ks ≡ Some (record { offset = grant.offset; size = size })
   range_granted = same_realm grant.place ks (g.realm ∙ sym realms)
-      ∙ ap (range_in grant.place.ticket) (ap (slot grant.place.heap) slots ∙ slot_same hs.slots grant.place.heap (Some g.after) g.number)
+      ∙ ap (range_in (ticket_of grant.place)) (ap (slot grant.place.heap) slots ∙ slot_same hs.slots grant.place.heap (Some g.after) g.number)
       ∙ g.grants.range
 
   pub not_live_before : range_of grant.place hs ≡ None
-  not_live_before = none_if (nat_eq grant.place.realm hs.realm) (range_in grant.place.ticket (heap_at grant.place.heap hs)) (none g.heap)
+  not_live_before = none_if (nat_eq grant.place.realm hs.realm) (range_in (ticket_of grant.place) (heap_at grant.place.heap hs)) (none g.heap)
     where
-      none : IsBefore size align hs grant g.before → range_in grant.place.ticket (heap_at grant.place.heap hs) ≡ None
-      none (inl old) = ap (range_in grant.place.ticket) old.1.1 ∙ sym (raised_range hs.limits grant.place.heap (blocks_needed align) grant.place.ticket old.1.0 g.before old.1.2) ∙ g.grants.not_live
-      none (inr new) = ap (range_in grant.place.ticket) new.1
+      none : IsBefore size align hs grant g.before → range_in (ticket_of grant.place) (heap_at grant.place.heap hs) ≡ None
+      none (inl old) = ap (range_in (ticket_of grant.place)) old.1.1 ∙ sym (raised_range hs.limits grant.place.heap (blocks_needed align) (ticket_of grant.place) old.1.0 g.before old.1.2) ∙ g.grants.not_live
+      none (inr new) = ap (range_in (ticket_of grant.place)) new.1
 
   pub others_kept : KeepsOthers grant.place hs ks
   others_kept = put_keeps hs ks grant.place.heap (Some g.after) slots realms g.number grant.place refl g.realm (kept g.heap)
@@ -167,7 +168,7 @@ module _ (size align : ℕ) (hs ks : Heaps) (grant : Granted) (g : Grants size a
       fresh t (inl usual) = fresh_none (usual_size hs.limits grant.place.heap) hs.limits.first_allocs (hs.made + 1) g.before t usual.1
       fresh t (inr larger) = fresh_none size larger_limit (hs.made + 1) g.before t larger.1
 
-      kept : IsBefore size align hs grant g.before → KeepsOthersIn grant.place.ticket (slot grant.place.heap hs.slots) (Some g.after)
+      kept : IsBefore size align hs grant g.before → KeepsOthersIn (ticket_of grant.place) (slot grant.place.heap hs.slots) (Some g.after)
       kept (inl old) u apart = g.grants.others u apart ∙ raised_range hs.limits grant.place.heap (blocks_needed align) u old.1.0 g.before old.1.2 ∙ sym (ap (range_in u) old.1.1)
       kept (inr new) u apart = g.grants.others u apart ∙ fresh u new.2 ∙ sym (ap (range_in u) new.1)
 

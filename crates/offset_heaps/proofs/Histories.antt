@@ -6,7 +6,7 @@ use Rattle.offset_allocator.specs.Ranges as named
 use Rattle.offset_allocator.specs.Requests.{blocks_needed}
 use Rattle.offset_guarded.specs.Guard.{Guard}
 use Rattle.offset_heaps.specs.declared.place.Granted.{Granted}
-use Rattle.offset_heaps.specs.declared.place.Place.{Place}
+use Rattle.offset_heaps.specs.Places.{Place, ticket_of}
 use Rattle.offset_heaps.specs.Heaps.{Heaps, FreesIn, Grants, IsBefore, IsLive, IsSame, Puts, heap_at, range_in, range_of, slot}
 use Rattle.offset_heaps.specs.{Changing.CompactsAll, Changing.CompactsSlot, Histories.AreSteps, Histories.IsGone, Histories.IsStep, Histories.Keeps, Histories.ResetsAll, Slots.ResetsIn}
 use Rattle.offset_heaps.proofs.Raising.{raised_realm}
@@ -38,17 +38,17 @@ same_realm r o before after was is lacks e = subst (Lacks r) was lacks (e ∙ is
 
 grant_keeps : (p : Place) (size align : ℕ) (hs ks : Heaps) (grant : Granted) → Grants size align hs ks grant → IsGone p hs → IsGone p ks
 grant_keeps p size align hs ks grant g gone = record {
-  made = subst (λ n. p.ticket.realm ≤ n) (sym (ap (λ (h : Heaps). h.made) g.heaps)) (more grant.is_new gone.made);
-  other = subst (λ s. Lacks p.ticket.realm (slot p.heap s)) (sym (ap (λ (h : Heaps). h.slots) g.heaps))
-      (put_lacks p.ticket.realm grant.place.heap p.heap hs.slots (Some g.after) g.number gone.other (λ e. lacks e g.heap));
+  made = subst (λ n. p.heap_realm ≤ n) (sym (ap (λ (h : Heaps). h.made) g.heaps)) (more grant.is_new gone.made);
+  other = subst (λ s. Lacks p.heap_realm (slot p.heap s)) (sym (ap (λ (h : Heaps). h.slots) g.heaps))
+      (put_lacks p.heap_realm grant.place.heap p.heap hs.slots (Some g.after) g.number gone.other (λ e. lacks e g.heap));
 }
   where
-    more : (b : Bool) → p.ticket.realm ≤ hs.made → p.ticket.realm ≤ (if b then hs.made + 1 else hs.made)
+    more : (b : Bool) → p.heap_realm ≤ hs.made → p.heap_realm ≤ (if b then hs.made + 1 else hs.made)
     more true l = omega (arith, l)
     more false l = l
 
-    lacks : p.heap ≡ grant.place.heap → IsBefore size align hs grant g.before → Lacks p.ticket.realm (Some g.after)
-    lacks e (inl old) = same_realm p.ticket.realm (heap_at p.heap hs) old.1.0 g.after (ap (λ k. heap_at k hs) e ∙ old.1.1)
+    lacks : p.heap ≡ grant.place.heap → IsBefore size align hs grant g.before → Lacks p.heap_realm (Some g.after)
+    lacks e (inl old) = same_realm p.heap_realm (heap_at p.heap hs) old.1.0 g.after (ap (λ k. heap_at k hs) e ∙ old.1.1)
         (g.grants.realm.1 ∙ raised_realm hs.limits grant.place.heap (blocks_needed align) old.1.0 g.before old.1.2) gone.other
     lacks e (inr new) = λ r. elim new.2 [
       | inl usual ↦ absurd (omega (arith, usual.1.realm, g.grants.realm.1, r, gone.made))
@@ -57,55 +57,55 @@ grant_keeps p size align hs ks grant g gone = record {
 
 free_keeps : (p q : Place) (hs ks : Heaps) → FreesIn q hs ks → IsGone p hs → IsGone p ks
 free_keeps p q hs ks f gone = record {
-  made = subst (λ n. p.ticket.realm ≤ n) (sym (ap (λ (h : Heaps). h.made) f.heaps)) gone.made;
-  other = subst (λ s. Lacks p.ticket.realm (slot p.heap s)) (sym (ap (λ (h : Heaps). h.slots) f.heaps)) (elim (cases_lt q.heap (length hs.slots)) [
-    | inl there ↦ put_lacks p.ticket.realm q.heap p.heap hs.slots (Some f.after) there gone.other
-        (λ e. same_realm p.ticket.realm (heap_at p.heap hs) f.before f.after (ap (λ k. heap_at k hs) e ∙ f.heap) (ap (λ (g : Guard). g.realm) f.serials) gone.other)
+  made = subst (λ n. p.heap_realm ≤ n) (sym (ap (λ (h : Heaps). h.made) f.heaps)) gone.made;
+  other = subst (λ s. Lacks p.heap_realm (slot p.heap s)) (sym (ap (λ (h : Heaps). h.slots) f.heaps)) (elim (cases_lt q.heap (length hs.slots)) [
+    | inl there ↦ put_lacks p.heap_realm q.heap p.heap hs.slots (Some f.after) there gone.other
+        (λ e. same_realm p.heap_realm (heap_at p.heap hs) f.before f.after (ap (λ k. heap_at k hs) e ∙ f.heap) (ap (λ (g : Guard). g.realm) f.serials) gone.other)
     | inr past ↦ absurd (let none : slot q.heap hs.slots ≡ None = slot_past hs.slots q.heap past in let some = f.heap in cc)
   ]);
 }
 
 alter_keeps : (p : Place) (k : ℕ) (hs ks : Heaps) → Keeps k hs ks → IsGone p hs → IsGone p ks
 alter_keeps p k hs ks f gone = record {
-  made = subst (λ n. p.ticket.realm ≤ n) (sym (ap (λ (h : Heaps). h.made) f.heaps)) gone.made;
-  other = subst (λ s. Lacks p.ticket.realm (slot p.heap s)) (sym (ap (λ (h : Heaps). h.slots) f.heaps)) (elim (cases_lt k (length hs.slots)) [
-    | inl there ↦ put_lacks p.ticket.realm k p.heap hs.slots (Some f.after) there gone.other
-        (λ e. same_realm p.ticket.realm (heap_at p.heap hs) f.before f.after (ap (λ k. heap_at k hs) e ∙ f.heap) f.by gone.other)
+  made = subst (λ n. p.heap_realm ≤ n) (sym (ap (λ (h : Heaps). h.made) f.heaps)) gone.made;
+  other = subst (λ s. Lacks p.heap_realm (slot p.heap s)) (sym (ap (λ (h : Heaps). h.slots) f.heaps)) (elim (cases_lt k (length hs.slots)) [
+    | inl there ↦ put_lacks p.heap_realm k p.heap hs.slots (Some f.after) there gone.other
+        (λ e. same_realm p.heap_realm (heap_at p.heap hs) f.before f.after (ap (λ k. heap_at k hs) e ∙ f.heap) f.by gone.other)
     | inr past ↦ absurd (let none : slot k hs.slots ≡ None = slot_past hs.slots k past in let some = f.heap in cc)
   ]);
 }
 
 drop_keeps : (p : Place) (k : ℕ) (hs ks : Heaps) → Puts k None hs ks → IsGone p hs → IsGone p ks
 drop_keeps p k hs ks puts gone = record {
-  made = subst (λ n. p.ticket.realm ≤ n) (sym (ap (λ (h : Heaps). h.made) puts)) gone.made;
-  other = subst (λ s. Lacks p.ticket.realm (slot p.heap s)) (sym (ap (λ (h : Heaps). h.slots) puts)) (none_lacks p.ticket.realm k p.heap hs.slots gone.other);
+  made = subst (λ n. p.heap_realm ≤ n) (sym (ap (λ (h : Heaps). h.made) puts)) gone.made;
+  other = subst (λ s. Lacks p.heap_realm (slot p.heap s)) (sym (ap (λ (h : Heaps). h.slots) puts)) (none_lacks p.heap_realm k p.heap hs.slots gone.other);
 }
 
 reset_keeps : (p : Place) (hs ks : Heaps) → ResetsAll hs ks → IsGone p hs → IsGone p ks
 reset_keeps p hs ks r gone = record {
-  made = subst (λ n. p.ticket.realm ≤ n) (sym (ap (λ (h : Heaps). h.made) r.rest)) gone.made;
+  made = subst (λ n. p.heap_realm ≤ n) (sym (ap (λ (h : Heaps). h.made) r.rest)) gone.made;
   other = lacks (heap_at p.heap hs) (heap_at p.heap ks) (r.heaps p.heap) gone.other;
 }
   where
-    lacks : (o new : Option Guard) → ResetsIn o new → Lacks p.ticket.realm o → Lacks p.ticket.realm new
-    lacks None new is was = subst (Lacks p.ticket.realm) (sym is) tt
-    lacks (Some before) new is was = subst (Lacks p.ticket.realm) (sym is.1) (same_realm p.ticket.realm (Some before) before is.0 refl (ap (λ (g : Guard). g.realm) is.3) was)
+    lacks : (o new : Option Guard) → ResetsIn o new → Lacks p.heap_realm o → Lacks p.heap_realm new
+    lacks None new is was = subst (Lacks p.heap_realm) (sym is) tt
+    lacks (Some before) new is was = subst (Lacks p.heap_realm) (sym is.1) (same_realm p.heap_realm (Some before) before is.0 refl (ap (λ (g : Guard). g.realm) is.3) was)
 
 compact_keeps : (p : Place) (hs ks : Heaps) → CompactsAll hs ks → IsGone p hs → IsGone p ks
 compact_keeps p hs ks r gone = record {
-  made = subst (λ n. p.ticket.realm ≤ n) (sym (ap (λ (h : Heaps). h.made) r.rest)) gone.made;
+  made = subst (λ n. p.heap_realm ≤ n) (sym (ap (λ (h : Heaps). h.made) r.rest)) gone.made;
   other = lacks (heap_at p.heap hs) (heap_at p.heap ks) (r.heaps p.heap) gone.other;
 }
   where
-    lacks : (o new : Option Guard) → CompactsSlot o new → Lacks p.ticket.realm o → Lacks p.ticket.realm new
-    lacks None new is was = subst (Lacks p.ticket.realm) (sym is) tt
+    lacks : (o new : Option Guard) → CompactsSlot o new → Lacks p.heap_realm o → Lacks p.heap_realm new
+    lacks None new is was = subst (Lacks p.heap_realm) (sym is) tt
     lacks (Some before) new is was =
-        subst (Lacks p.ticket.realm) (sym is.1) (same_realm p.ticket.realm (Some before) before is.0 refl (ap (λ (g : Guard). g.realm) is.2.serials) was)
+        subst (Lacks p.heap_realm) (sym is.1) (same_realm p.heap_realm (Some before) before is.0 refl (ap (λ (g : Guard). g.realm) is.2.serials) was)
 
 same_keeps : (p : Place) (hs ks : Heaps) → IsSame hs ks → IsGone p hs → IsGone p ks
 same_keeps p hs ks same gone = record {
-  made = subst (λ n. p.ticket.realm ≤ n) (sym (ap (λ (h : Heaps). h.made) same)) gone.made;
-  other = subst (λ s. Lacks p.ticket.realm (slot p.heap s)) (sym (ap (λ (h : Heaps). h.slots) same)) gone.other;
+  made = subst (λ n. p.heap_realm ≤ n) (sym (ap (λ (h : Heaps). h.made) same)) gone.made;
+  other = subst (λ s. Lacks p.heap_realm (slot p.heap s)) (sym (ap (λ (h : Heaps). h.slots) same)) gone.other;
 }
 
 -- whatever one call leaves
@@ -119,13 +119,13 @@ stays_gone p hs ks gone (inr (inr (inr (inr (inr (inl alter)))))) = alter_keeps 
 stays_gone p hs ks gone (inr (inr (inr (inr (inr (inr compacts)))))) = compact_keeps p hs ks compacts gone
 
 -- no place of it is live
-gone_range : (p : Place) (o : Option Guard) → Lacks p.ticket.realm o → range_in p.ticket o ≡ None
+gone_range : (p : Place) (o : Option Guard) → Lacks p.heap_realm o → range_in (ticket_of p) o ≡ None
 gone_range p None lacks = refl
-gone_range p (Some g) lacks = rw (ne_eqb p.ticket.realm g.realm lacks) refl
+gone_range p (Some g) lacks = rw (ne_eqb p.heap_realm g.realm lacks) refl
 
 pub gone_dead : (p : Place) (hs : Heaps) → IsGone p hs → IsLive p hs → ⊥
 gone_dead p hs gone live =
-    let none : range_of p hs ≡ None = none_if (nat_eq p.realm hs.realm) (range_in p.ticket (heap_at p.heap hs)) (gone_range p (heap_at p.heap hs) gone.other) in
+    let none : range_of p hs ≡ None = none_if (nat_eq p.realm hs.realm) (range_in (ticket_of p) (heap_at p.heap hs)) (gone_range p (heap_at p.heap hs) gone.other) in
     let no : IsSome (let o : Option named.Range = None in o) = subst IsSome none live in
     absurd (cc)
 
@@ -134,11 +134,11 @@ never_live p hs [] gone steps = (gone_dead p hs gone, tt)
 never_live p hs (ks ∷ later) gone steps = (gone_dead p hs gone, never_live p ks later (stays_gone p hs ks gone steps.0) steps.1)
 
 -- a heap is gone once its number has none
-pub dropped_gone : (p : Place) (g : Guard) (hs ks : Heaps) → heap_at p.heap hs ≡ Some g → g.realm ≤ hs.made → p.ticket.realm ≡ g.realm → Puts p.heap None hs ks → IsGone p ks
+pub dropped_gone : (p : Place) (g : Guard) (hs ks : Heaps) → heap_at p.heap hs ≡ Some g → g.realm ≤ hs.made → p.heap_realm ≡ g.realm → Puts p.heap None hs ks → IsGone p ks
 dropped_gone p g hs ks there made own puts = record {
   made = omega (arith, made, own, ap (λ (h : Heaps). h.made) puts);
-  other = subst (λ s. Lacks p.ticket.realm (slot p.heap s)) (sym (ap (λ (h : Heaps). h.slots) puts)) (elim (cases_lt p.heap (length hs.slots)) [
-    | inl l ↦ subst (Lacks p.ticket.realm) (sym (slot_same hs.slots p.heap None l)) tt
+  other = subst (λ s. Lacks p.heap_realm (slot p.heap s)) (sym (ap (λ (h : Heaps). h.slots) puts)) (elim (cases_lt p.heap (length hs.slots)) [
+    | inl l ↦ subst (Lacks p.heap_realm) (sym (slot_same hs.slots p.heap None l)) tt
     | inr past ↦ absurd (let none : slot p.heap hs.slots ≡ None = slot_past hs.slots p.heap past in cc)
   ]);
 }

@@ -6,14 +6,14 @@ use Rattle.offset_allocator.proofs.{Holding.grant_holds, Raised.under, Raised.we
 use Rattle.offset_guarded.specs.Guard.{Guard, Ticket}
 use Rattle.offset_heaps.specs.declared.limits.Limits.{Limits}
 use Rattle.offset_heaps.specs.declared.place.Granted.{Granted}
-use Rattle.offset_heaps.specs.declared.place.Place.{Place}
 use Rattle.offset_heaps.specs.declared.refusal.Refusal.{Refusal}
 use Rattle.offset_heaps.specs.declared.refusal.Refusal.TheVariants.{Empty, TooLarge, Full, Memory}
 use Rattle.offset_heaps.specs.Asking.{IsWhyNone}
 use Rattle.offset_heaps.specs.Heaps.{Heaps, Grants, IsForRoom, IsRaisedAsNeeded, IsNext, IsSame, IsWhy, KeepsOthers, MustRaiseIn, NoneFits, heap_at, range_in, range_of, room, slot, top_limit}
+use Rattle.offset_heaps.specs.Places.{Place, ticket_of}
 use Rattle.offset_heaps.specs.{Slots.CanHoldIn, Slots.Changes, Slots.GrantsTightAlignedIn, Slots.RaisesIn}
 use Rattle.offset_heaps.specs.Tight.{GrantsTight, IsFirstHolding, IsRefusedForTight, IsServedTight, IsWhyTight, NoneHolds}
-use Rattle.offset_heaps.proofs.{Grants.granted_since, Grants.next_fits, Grants.not_live_before, Grants.others_kept, Grants.raised_once, Grants.range_granted, Raising.must_in, Raising.raised_range, Raising.set_twice}
+use Rattle.offset_heaps.proofs.{Grants.grant_at, Grants.granted_since, Grants.next_fits, Grants.not_live_before, Grants.others_kept, Grants.raised_once, Grants.range_granted, Raising.must_in, Raising.raised_range, Raising.set_twice}
 use Rattle.offset_heaps.proofs.{Numbers.slot_same, Numbers.slot_there, Places.none_if, Places.put_keeps, Places.same_realm, Places.shown, Rooms.room_left}
 
 -- ---- what a heap holds
@@ -40,7 +40,7 @@ holds_less limits k size align g known some power none = elim (cases_lt (room li
 -- ---- what a grant leaves
 pub filled_at : (slots now : List (Option Guard)) (limits : Limits) (made realm before after number size align : ℕ) (ticket : Ticket) → number < length slots
     → (MustRaiseIn limits number (blocks_needed align) (slot number slots) → ⊥) → Changes number (λ o p. GrantsTightAlignedIn size align o p ticket) slots now
-    → GrantsTight size align (shown slots limits made realm before) (shown now limits made realm after) (record { heap = number; realm = realm; ticket = ticket })
+    → GrantsTight size align (shown slots limits made realm before) (shown now limits made realm after) (grant_at number realm ticket)
 filled_at slots now limits made realm before after number size align ticket there stays change =
     let by = change.by in
     record {
@@ -57,11 +57,11 @@ filled_at slots now limits made realm before after number size align ticket ther
     }
 
 -- in a heap that was raised before, it is one of the heap that was there
-pub filled_raised : (hs between ks : Heaps) (size align number : ℕ) (p : Place) → number < length hs.slots → Changes number (RaisesIn hs.limits number (blocks_needed align)) hs.slots between.slots
-    → between ≡ record hs { slots = between.slots; accesses = between.accesses } → (MustRaiseIn hs.limits number (blocks_needed align) (slot number between.slots) → ⊥) → p.heap ≡ number
-    → GrantsTight size align between ks p → GrantsTight size align hs ks p
-filled_raised hs between ks size align number p there change rest none at given =
-    let g : GrantsTight size align (record hs { slots = between.slots; accesses = between.accesses }) ks p = subst (λ (h : Heaps). GrantsTight size align h ks p) rest given in
+pub filled_raised : (hs between ks : Heaps) (size align number : ℕ) (grant : Granted) → number < length hs.slots → Changes number (RaisesIn hs.limits number (blocks_needed align)) hs.slots between.slots
+    → between ≡ record hs { slots = between.slots; accesses = between.accesses } → (MustRaiseIn hs.limits number (blocks_needed align) (slot number between.slots) → ⊥) → grant.place.heap ≡ number
+    → GrantsTight size align between ks grant → GrantsTight size align hs ks grant
+filled_raised hs between ks size align number grant there change rest none at given =
+    let g : GrantsTight size align (record hs { slots = between.slots; accesses = between.accesses }) ks grant = subst (λ (h : Heaps). GrantsTight size align h ks grant) rest given in
     let found : slot number between.slots ≡ change.now = ap (slot number) change.slots ∙ slot_same hs.slots number change.now there in
     let e : change.now ≡ Some g.was = sym found ∙ ap (λ k. slot k between.slots) (sym at) ∙ g.heap in
     let w = raised_once hs.limits number (blocks_needed align) (slot number hs.slots) change.now change.by g.was g.before e (subst (λ k. IsRaisedAsNeeded hs.limits k (blocks_needed align) g.was g.before) at g.raised)
@@ -77,22 +77,25 @@ filled_raised hs between ks size align number p there change rest none at given 
       accesses = g.accesses;
       realm = g.realm;
       heaps = g.heaps ∙ ap (λ (s : List (Option Guard)). record hs { slots = s; accesses = ks.accesses })
-          (ap (λ (s : List (Option Guard)). slice_set s p.heap (Some g.after)) (change.slots ∙ ap (λ k. slice_set hs.slots k change.now) (sym at))
-          ∙ set_twice hs.slots p.heap change.now (Some g.after));
+          (ap (λ (s : List (Option Guard)). slice_set s grant.place.heap (Some g.after)) (change.slots ∙ ap (λ k. slice_set hs.slots k change.now) (sym at))
+          ∙ set_twice hs.slots grant.place.heap change.now (Some g.after));
     }
 
 -- a count of accesses changes nothing of it
-pub filled_since : (size align : ℕ) (hs ks ls : Heaps) (p : Place) → IsSame hs ks → GrantsTight size align ks ls p → GrantsTight size align hs ls p
-filled_since size align hs ks ls p same g =
-    let h : GrantsTight size align (record hs { accesses = ks.accesses }) ls p = subst (λ (k : Heaps). GrantsTight size align k ls p) same g in
+pub filled_since : (size align : ℕ) (hs ks ls : Heaps) (grant : Granted) → IsSame hs ks → GrantsTight size align ks ls grant → GrantsTight size align hs ls grant
+filled_since size align hs ks ls grant same g =
+    let h : GrantsTight size align (record hs { accesses = ks.accesses }) ls grant = subst (λ (k : Heaps). GrantsTight size align k ls grant) same g in
     record { was = h.was; before = h.before; after = h.after; heap = h.heap; raised = h.raised; step = h.step; grants = h.grants; accesses = h.accesses; realm = h.realm; heaps = h.heaps }
 
-pub filled_if_since : (size align : ℕ) (hs ks ls : Heaps) (r : Result Granted Refusal) → IsSame hs ks → IfOk r (λ g. GrantsTight size align ks ls g.place)
-    → IfOk r (λ g. g.is_new ≡ false → GrantsTight size align hs ls g.place)
-filled_if_since size align hs ks ls (Ok grant) same g = λ _. filled_since size align hs ks ls grant.place same g
+pub filled_if_since : (size align : ℕ) (hs ks ls : Heaps) (r : Result Granted Refusal) → IsSame hs ks → IfOk r (GrantsTight size align ks ls)
+    → IfOk r (λ g. g.is_new ≡ false → GrantsTight size align hs ls g)
+filled_if_since size align hs ks ls (Ok grant) same g = λ _. filled_since size align hs ks ls grant same g
 filled_if_since size align hs ks ls (Err why) same g = tt
 
-module _ (size align : ℕ) (hs ks : Heaps) (p : Place) (g : GrantsTight size align hs ks p) where
+module _ (size align : ℕ) (hs ks : Heaps) (grant : Granted) (g : GrantsTight size align hs ks grant) where
+  abbrev p : Place
+  p = grant.place
+
   there : p.heap < length hs.slots
   there = slot_there hs.slots p.heap (ap is_some g.heap)
 
@@ -102,12 +105,12 @@ module _ (size align : ℕ) (hs ks : Heaps) (p : Place) (g : GrantsTight size al
   realms : ks.realm ≡ hs.realm
   realms = ap (λ (h : Heaps). h.realm) g.heaps
 
-  range_filled : range_of p ks ≡ Some (record { offset = p.ticket.offset; size = size })
-  range_filled = same_realm p ks (g.realm ∙ sym realms) ∙ ap (range_in p.ticket) (ap (slot p.heap) slots ∙ slot_same hs.slots p.heap (Some g.after) there) ∙ g.grants.range
+  range_filled : range_of p ks ≡ Some (record { offset = grant.offset; size = size })
+  range_filled = same_realm p ks (g.realm ∙ sym realms) ∙ ap (range_in (ticket_of p)) (ap (slot p.heap) slots ∙ slot_same hs.slots p.heap (Some g.after) there) ∙ g.grants.range
 
   not_live_filled : range_of p hs ≡ None
-  not_live_filled = none_if (nat_eq p.realm hs.realm) (range_in p.ticket (heap_at p.heap hs))
-      (ap (range_in p.ticket) g.heap ∙ sym (raised_range hs.limits p.heap (blocks_needed align) p.ticket g.was g.before g.raised) ∙ g.grants.not_live)
+  not_live_filled = none_if (nat_eq p.realm hs.realm) (range_in (ticket_of p) (heap_at p.heap hs))
+      (ap (range_in (ticket_of p)) g.heap ∙ sym (raised_range hs.limits p.heap (blocks_needed align) (ticket_of p) g.was g.before g.raised) ∙ g.grants.not_live)
 
   others_filled : KeepsOthers p hs ks
   others_filled = put_keeps hs ks p.heap (Some g.after) slots realms there p refl g.realm
@@ -115,7 +118,7 @@ module _ (size align : ℕ) (hs ks : Heaps) (p : Place) (g : GrantsTight size al
 
 -- a request is granted in a heap that was there, or in a new one
 pub not_filled : (size align : ℕ) (hs ks : Heaps) (r : Result Granted Refusal) (P : Granted → Type 0) → IfOk r (λ g. (g.is_new ≡ true) × P g)
-    → IfOk r (λ g. g.is_new ≡ false → GrantsTight size align hs ks g.place)
+    → IfOk r (λ g. g.is_new ≡ false → GrantsTight size align hs ks g)
 not_filled size align hs ks (Ok g) P h = λ e. absurd (let q : true ≡ false = sym h.0 ∙ e in cc)
 not_filled size align hs ks (Err why) P h = tt
 
@@ -134,21 +137,21 @@ made_since size align hs ks (Ok g) same none h = λ _. (none, subst (λ (k : Hea
 made_since size align hs ks (Err why) same none h = tt
 
 -- in either heap
-module _ (size align : ℕ) (hs ks : Heaps) (r : Result Granted Refusal) (fills : IfOk r (λ g. g.is_new ≡ false → GrantsTight size align hs ks g.place))
+module _ (size align : ℕ) (hs ks : Heaps) (r : Result Granted Refusal) (fills : IfOk r (λ g. g.is_new ≡ false → GrantsTight size align hs ks g))
     (grants : IfOk r (λ g. g.is_new ≡ true → Grants size align hs ks g)) where
-  either : (P : Place → Type 0) → ((p : Place) → GrantsTight size align hs ks p → P p) → ((g : Granted) → Grants size align hs ks g → P g.place) → (r : Result Granted Refusal)
-      → IfOk r (λ g. g.is_new ≡ false → GrantsTight size align hs ks g.place) → IfOk r (λ g. g.is_new ≡ true → Grants size align hs ks g) → IfOk r (λ g. P g.place)
+  either : (P : Granted → Type 0) → ((g : Granted) → GrantsTight size align hs ks g → P g) → ((g : Granted) → Grants size align hs ks g → P g) → (r : Result Granted Refusal)
+      → IfOk r (λ g. g.is_new ≡ false → GrantsTight size align hs ks g) → IfOk r (λ g. g.is_new ≡ true → Grants size align hs ks g) → IfOk r P
   either P old new (Err why) a b = tt
-  either P old new (Ok g) a b = elim (cases_Bool g.is_new) [ inl e ↦ new g (b e) | inr e ↦ old g.place (a e) ]
+  either P old new (Ok g) a b = elim (cases_Bool g.is_new) [ inl e ↦ new g (b e) | inr e ↦ old g (a e) ]
 
   pub tight_not_live : IfOk r (λ g. range_of g.place hs ≡ None)
-  tight_not_live = either (λ p. range_of p hs ≡ None) (not_live_filled size align hs ks) (not_live_before size align hs ks) r fills grants
+  tight_not_live = either (λ g. range_of g.place hs ≡ None) (not_live_filled size align hs ks) (not_live_before size align hs ks) r fills grants
 
-  pub tight_range : IfOk r (λ g. range_of g.place ks ≡ Some (record { offset = g.place.ticket.offset; size = size }))
-  tight_range = either (λ p. range_of p ks ≡ Some (record { offset = p.ticket.offset; size = size })) (range_filled size align hs ks) (range_granted size align hs ks) r fills grants
+  pub tight_range : IfOk r (λ g. range_of g.place ks ≡ Some (record { offset = g.offset; size = size }))
+  tight_range = either (λ g. range_of g.place ks ≡ Some (record { offset = g.offset; size = size })) (range_filled size align hs ks) (range_granted size align hs ks) r fills grants
 
   pub tight_others : IfOk r (λ g. KeepsOthers g.place hs ks)
-  tight_others = either (λ p. KeepsOthers p hs ks) (others_filled size align hs ks) (others_kept size align hs ks) r fills grants
+  tight_others = either (λ g. KeepsOthers g.place hs ks) (others_filled size align hs ks) (others_kept size align hs ks) r fills grants
 
 -- ---- why one is refused
 module _ (size align : ℕ) (hs : Heaps) where

@@ -122,6 +122,7 @@ extends_if limits k more true g b h known kind fits raised can size kept same st
         cells = λ x. serials.cells x ∙ longer_same limits k more (guarded.serial_of x) (λ limit g. refl) g b raised;
         given = serials.given ∙ longer_same limits k more (λ (z : Guard). z.given) (λ limit g. refl) g b raised;
         realm = serials.realm ∙ longer_same limits k more (λ (z : Guard). z.realm) (λ limit g. refl) g b raised;
+        step = serials.step ∙ longer_same limits k more (λ (z : Guard). z.step) (λ limit g. refl) g b raised;
       };
       kept = λ t. kept t ∙ longer_same limits k more (guarded.range_of t) (λ limit g. refl) g b raised;
       accesses = few;

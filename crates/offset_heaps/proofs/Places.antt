@@ -10,7 +10,7 @@ use Rattle.offset_guarded.specs.Guard as guarded
 use Rattle.offset_guarded.proofs.Guards.{live_fits}
 use Rattle.offset_guarded.specs.Guard.{Guard, Ticket}
 use Rattle.offset_heaps.specs.declared.limits.Limits.{Limits}
-use Rattle.offset_heaps.specs.declared.place.Place.{Place}
+use Rattle.offset_heaps.specs.Places.{Place, ticket_of}
 use Rattle.offset_heaps.specs.Heaps.{Heaps, AreAlike, KeepsOtherHeaps, KeepsOthers, FreesIn, IsLive, Puts, heap_at, is_empty, range_in, range_of, slot}
 use Rattle.offset_heaps.specs.Slots as of
 use Rattle.offset_heaps.specs.Slots.{Changes, KeepsOthersIn}
@@ -30,34 +30,34 @@ none_if false o e = refl
 
 -- a place of other heaps has none
 pub other_realm : (p : Place) (hs : Heaps) → p.realm ≢ hs.realm → range_of p hs ≡ None
-other_realm p hs n = ap (λ b. range_if b (range_in p.ticket (heap_at p.heap hs))) (ne_eqb p.realm hs.realm n)
+other_realm p hs n = ap (λ b. range_if b (range_in (ticket_of p) (heap_at p.heap hs))) (ne_eqb p.realm hs.realm n)
 
-pub same_realm : (p : Place) (hs : Heaps) → p.realm ≡ hs.realm → range_of p hs ≡ range_in p.ticket (heap_at p.heap hs)
-same_realm p hs e = ap (λ b. range_if b (range_in p.ticket (heap_at p.heap hs))) (eq-eqb p.realm hs.realm e)
+pub same_realm : (p : Place) (hs : Heaps) → p.realm ≡ hs.realm → range_of p hs ≡ range_in (ticket_of p) (heap_at p.heap hs)
+same_realm p hs e = ap (λ b. range_if b (range_in (ticket_of p) (heap_at p.heap hs))) (eq-eqb p.realm hs.realm e)
 
 module _ (hs ks : Heaps) (k : ℕ) (o : Option Guard) (put_slots : ks.slots ≡ slice_set hs.slots k o) (put_realm : ks.realm ≡ hs.realm) where
-  at : (p : Place) → range_of p ks ≡ range_if (nat_eq p.realm hs.realm) (range_in p.ticket (slot p.heap (slice_set hs.slots k o)))
-  at p = ap₂ (λ r s. range_if (nat_eq p.realm r) (range_in p.ticket (slot p.heap s))) put_realm put_slots
+  at : (p : Place) → range_of p ks ≡ range_if (nat_eq p.realm hs.realm) (range_in (ticket_of p) (slot p.heap (slice_set hs.slots k o)))
+  at p = ap₂ (λ r s. range_if (nat_eq p.realm r) (range_in (ticket_of p) (slot p.heap s))) put_realm put_slots
 
   pub put_others : KeepsOtherHeaps k hs ks
-  put_others p n = at p ∙ ap (λ q. range_if (nat_eq p.realm hs.realm) (range_in p.ticket q)) (slot_other hs.slots k p.heap o n)
+  put_others p n = at p ∙ ap (λ q. range_if (nat_eq p.realm hs.realm) (range_in (ticket_of p) q)) (slot_other hs.slots k p.heap o n)
 
-  pub put_here : k < length hs.slots → (p : Place) → p.heap ≡ k → range_of p ks ≡ range_if (nat_eq p.realm hs.realm) (range_in p.ticket o)
-  put_here l p e = at p ∙ ap (λ q. range_if (nat_eq p.realm hs.realm) (range_in p.ticket q)) (ap (λ j. slot j (slice_set hs.slots k o)) e ∙ slot_same hs.slots k o l)
+  pub put_here : k < length hs.slots → (p : Place) → p.heap ≡ k → range_of p ks ≡ range_if (nat_eq p.realm hs.realm) (range_in (ticket_of p) o)
+  put_here l p e = at p ∙ ap (λ q. range_if (nat_eq p.realm hs.realm) (range_in (ticket_of p) q)) (ap (λ j. slot j (slice_set hs.slots k o)) e ∙ slot_same hs.slots k o l)
 
   -- one ticket of the heap is freed
-  pub put_gone : k < length hs.slots → (p : Place) → p.heap ≡ k → range_in p.ticket o ≡ None → range_of p ks ≡ None
-  put_gone l p e none = put_here l p e ∙ none_if (nat_eq p.realm hs.realm) (range_in p.ticket o) none
+  pub put_gone : k < length hs.slots → (p : Place) → p.heap ≡ k → range_in (ticket_of p) o ≡ None → range_of p ks ≡ None
+  put_gone l p e none = put_here l p e ∙ none_if (nat_eq p.realm hs.realm) (range_in (ticket_of p) o) none
 
-  pub put_keeps : k < length hs.slots → (p : Place) → p.heap ≡ k → p.realm ≡ hs.realm → KeepsOthersIn p.ticket (slot k hs.slots) o → KeepsOthers p hs ks
+  pub put_keeps : k < length hs.slots → (p : Place) → p.heap ≡ k → p.realm ≡ hs.realm → KeepsOthersIn (ticket_of p) (slot k hs.slots) o → KeepsOthers p hs ks
   put_keeps l p e r keeps q apart = elim (cases_eq q.heap k) [
     | inr n ↦ put_others q n
     | inl here ↦ elim (cases_eq q.realm hs.realm) [
       | inl same ↦
           put_here l q here
-          ∙ ap (range_if (nat_eq q.realm hs.realm)) (keeps q.ticket (λ alike. apart (here ∙ sym e, same ∙ sym r, alike))
-          ∙ sym (ap (λ j. range_in q.ticket (slot j hs.slots)) here))
-      | inr other ↦ ap (λ b. range_if b (range_in q.ticket (heap_at q.heap ks))) (ne_eqb q.realm ks.realm (λ e. other (e ∙ put_realm))) ∙ sym (other_realm q hs other)
+          ∙ ap (range_if (nat_eq q.realm hs.realm)) (keeps (ticket_of q) (λ alike. apart (here ∙ sym e, same ∙ sym r, alike))
+          ∙ sym (ap (λ j. range_in (ticket_of q) (slot j hs.slots)) here))
+      | inr other ↦ ap (λ b. range_if b (range_in (ticket_of q) (heap_at q.heap ks))) (ne_eqb q.realm ks.realm (λ e. other (e ∙ put_realm))) ∙ sym (other_realm q hs other)
     ]
   ]
 
@@ -65,7 +65,7 @@ module _ (hs ks : Heaps) (k : ℕ) (o : Option Guard) (put_slots : ks.slots ≡ 
 abbrev pub Freed : Ticket → Option Guard → Option Guard → Type 0
 Freed t o q = (range_in t q ≡ None) × KeepsOthersIn t o q × of.FreesSlot t o q
 
-module _ (p : Place) (hs ks : Heaps) (l : p.heap < length hs.slots) (change : Changes p.heap (Freed p.ticket) hs.slots ks.slots)
+module _ (p : Place) (hs ks : Heaps) (l : p.heap < length hs.slots) (change : Changes p.heap (Freed (ticket_of p)) hs.slots ks.slots)
     (rest : ks ≡ record hs { slots = ks.slots; accesses = ks.accesses }) where
   puts : Puts p.heap change.now hs ks
   puts = rest ∙ ap (λ s. record hs { slots = s; accesses = ks.accesses }) change.slots
@@ -91,10 +91,10 @@ module _ (p : Place) (hs ks : Heaps) (l : p.heap < length hs.slots) (change : Ch
   }
 
 -- a live place is one whose ticket is
-pub live_place : (p : Place) (hs : Heaps) → p.realm ≡ hs.realm → IsSome (range_in p.ticket (heap_at p.heap hs)) → IsLive p hs
+pub live_place : (p : Place) (hs : Heaps) → p.realm ≡ hs.realm → IsSome (range_in (ticket_of p) (heap_at p.heap hs)) → IsLive p hs
 live_place p hs e live = subst IsSome (sym (same_realm p hs e)) live
 
-pub live_ticket : (p : Place) (hs : Heaps) → p.realm ≡ hs.realm → IsLive p hs → IsSome (range_in p.ticket (heap_at p.heap hs))
+pub live_ticket : (p : Place) (hs : Heaps) → p.realm ≡ hs.realm → IsLive p hs → IsSome (range_in (ticket_of p) (heap_at p.heap hs))
 live_ticket p hs e live = subst IsSome (same_realm p hs e) live
 
 pub not_live_elsewhere : (p : Place) (hs : Heaps) → p.realm ≢ hs.realm → IsLive p hs → ⊥
@@ -102,8 +102,8 @@ not_live_elsewhere p hs n live = absurd (let o : Option Range = None in let none
 
 -- with the same slots each place has its range
 pub same_slots : (p : Place) (realm : ℕ) (old new : List (Option Guard)) → new ≡ old
-    → range_if (nat_eq p.realm realm) (range_in p.ticket (slot p.heap new)) ≡ range_if (nat_eq p.realm realm) (range_in p.ticket (slot p.heap old))
-same_slots p realm old new e = ap (λ s. range_if (nat_eq p.realm realm) (range_in p.ticket (slot p.heap s))) e
+    → range_if (nat_eq p.realm realm) (range_in (ticket_of p) (slot p.heap new)) ≡ range_if (nat_eq p.realm realm) (range_in (ticket_of p) (slot p.heap old))
+same_slots p realm old new e = ap (λ s. range_if (nat_eq p.realm realm) (range_in (ticket_of p) (slot p.heap s))) e
 
 -- a heap with no live range has no live ticket
 none_used : (x : ℕ) (bs : List Block) → count_used bs ≡ 0 → is_used_at (place_of x bs) ≡ false
@@ -134,8 +134,8 @@ pub dropped_keeps : (hs ks : Heaps) (k : ℕ) → is_empty (heap_at k hs) ≡ tr
 dropped_keeps hs ks k empty gone realm others p = elim (cases_eq p.heap k) [
   | inr n ↦ others p n
   | inl e ↦
-      none_if (nat_eq p.realm ks.realm) (range_in p.ticket (heap_at p.heap ks)) (rw (e, gone) refl)
-      ∙ sym (none_if (nat_eq p.realm hs.realm) (range_in p.ticket (heap_at p.heap hs)) (rw e (empty_range p.ticket (heap_at k hs) empty)))
+      none_if (nat_eq p.realm ks.realm) (range_in (ticket_of p) (heap_at p.heap ks)) (rw (e, gone) refl)
+      ∙ sym (none_if (nat_eq p.realm hs.realm) (range_in (ticket_of p) (heap_at p.heap hs)) (rw e (empty_range (ticket_of p) (heap_at k hs) empty)))
 ]
 
 -- live places of one heap are apart
@@ -147,18 +147,18 @@ pub apart : (hs : Heaps) (number : ℕ) (g : Guard) → heap_at number hs ≡ So
     → ((x y : ℕ) (r s : Range) → x ≢ y → named.range_of x g.space ≡ Some r → named.range_of y g.space ≡ Some s → AreDisjoint r s)
     → (p q : Place) (r s : Range) → p.heap ≡ number → q.heap ≡ number → (AreAlike p q → ⊥) → range_of p hs ≡ Some r → range_of q hs ≡ Some s → AreDisjoint r s
 apart hs number g there disjoint p q r s pn qn other pr qr =
-    let p_in = range_given (nat_eq p.realm hs.realm) (range_in p.ticket (heap_at p.heap hs)) r pr in
-    let q_in = range_given (nat_eq q.realm hs.realm) (range_in q.ticket (heap_at q.heap hs)) s qr in
+    let p_in = range_given (nat_eq p.realm hs.realm) (range_in (ticket_of p) (heap_at p.heap hs)) r pr in
+    let q_in = range_given (nat_eq q.realm hs.realm) (range_in (ticket_of q) (heap_at q.heap hs)) s qr in
     let p_heap : heap_at p.heap hs ≡ Some g = ap (λ k. heap_at k hs) pn ∙ there in
     let q_heap : heap_at q.heap hs ≡ Some g = ap (λ k. heap_at k hs) qn ∙ there in
-    let p_range : guarded.range_of p.ticket g ≡ Some r = sym (ap (range_in p.ticket) p_heap) ∙ p_in.1 in
-    let q_range : guarded.range_of q.ticket g ≡ Some s = sym (ap (range_in q.ticket) q_heap) ∙ q_in.1 in
-    let p_fits = live_fits p.ticket g (ap is_some p_range) in
-    let q_fits = live_fits q.ticket g (ap is_some q_range) in
-    let p_name = range_given (guarded.fits p.ticket g) (named.range_of p.ticket.name g.space) r p_range in
-    let q_name = range_given (guarded.fits q.ticket g) (named.range_of q.ticket.name g.space) s q_range in
-    elim (cases_eq p.ticket.name q.ticket.name) [
-      | inr n ↦ disjoint p.ticket.name q.ticket.name r s n p_name.1 q_name.1
+    let p_range : guarded.range_of (ticket_of p) g ≡ Some r = sym (ap (range_in (ticket_of p)) p_heap) ∙ p_in.1 in
+    let q_range : guarded.range_of (ticket_of q) g ≡ Some s = sym (ap (range_in (ticket_of q)) q_heap) ∙ q_in.1 in
+    let p_fits = live_fits (ticket_of p) g (ap is_some p_range) in
+    let q_fits = live_fits (ticket_of q) g (ap is_some q_range) in
+    let p_name = range_given (guarded.fits (ticket_of p) g) (named.range_of p.name g.space) r p_range in
+    let q_name = range_given (guarded.fits (ticket_of q) g) (named.range_of q.name g.space) s q_range in
+    elim (cases_eq p.name q.name) [
+      | inr n ↦ disjoint p.name q.name r s n p_name.1 q_name.1
       | inl e ↦ absurd (other (
         pn ∙ sym qn,
         eqb-true p.realm hs.realm p_in.0 ∙ sym (eqb-true q.realm hs.realm q_in.0),

@@ -13,9 +13,9 @@ use Rattle.offset_allocator.proofs.{Always.adds_up, Moving.Runs.count_used-appen
 use Rattle.offset_guarded.specs.Guard.{Guard, handle_in}
 use Rattle.offset_guarded.specs.Guard as guarded
 use Rattle.offset_heaps.specs.Calls.{GoAll, Goes}
-use Rattle.offset_heaps.specs.declared.place.Place.{Place}
+use Rattle.offset_heaps.specs.Places.{Place, ticket_from, ticket_of}
 use Rattle.offset_heaps.specs.Heaps.{Heaps, FreesIn, Grants, heap_at, live_units_of, numbers, part, range_in, range_of, units_of_heap, slot, total}
-use Rattle.offset_heaps.specs.Relocating.{TakesRange, granted, live_units_at, most_ranks, rank, ranges_of, ranks, ranks_from, square_of, squares, units_in, size_of}
+use Rattle.offset_heaps.specs.Relocating.{TakesRange, live_units_at, most_ranks, rank, ranges_of, ranks, ranks_from, square_of, squares, units_in, size_of}
 use Rattle.offset_heaps.specs.State as state
 use Rattle.offset_heaps.proofs.Decided.{known, known_at}
 use Rattle.offset_heaps.proofs.{Numbers.slot_other, Numbers.slot_there, Raising.must_in}
@@ -181,7 +181,7 @@ module _ (p q : Place) (hs ks : Heaps) (known_well : state.IsWellFormed hs) (goe
   abbrev ls : Heaps
   ls = goes.between
 
-  s : Grants (size_of p hs) goes.align hs ls (granted q)
+  s : Grants (size_of p hs) goes.align hs ls (record { place = q; offset = goes.offset; is_new = false })
   s = goes.grants.grants
 
   takes : TakesRange p goes.align hs q.heap
@@ -207,7 +207,7 @@ module _ (p q : Place) (hs ks : Heaps) (known_well : state.IsWellFormed hs) (goe
 
   grown : live_units_of s.after ≡ live_units_of s.before + size_of p hs
   grown = elim s.step [
-    | inl a ↦ splits_units (units_needed (size_of p hs) goes.align) (size_of p hs) (padding_to goes.align) s.before.space s.after.space (handle_in q.ticket) a.1.1
+    | inl a ↦ splits_units (units_needed (size_of p hs) goes.align) (size_of p hs) (padding_to goes.align) s.before.space s.after.space (handle_in (ticket_from goes.offset q)) a.1.1
     | inr a ↦ absurd (let e : false ≡ true = a.0 in cc)
   ]
 
@@ -218,17 +218,17 @@ module _ (p q : Place) (hs ks : Heaps) (known_well : state.IsWellFormed hs) (goe
   ]
 
   -- the units of the range are those of the block that is freed
-  here : range_of p hs ≡ guarded.range_of p.ticket f.before
-  here = some_if (nat_eq p.realm hs.realm) (range_in p.ticket (heap_at p.heap hs)) takes.0 ∙ ap (range_in p.ticket) from
+  here : range_of p hs ≡ guarded.range_of (ticket_of p) f.before
+  here = some_if (nat_eq p.realm hs.realm) (range_in (ticket_of p) (heap_at p.heap hs)) takes.0 ∙ ap (range_in (ticket_of p)) from
 
   freed : size_of p hs ≡ f.step.block.size
   freed =
       ap units_in here
-      ∙ ap units_in (some_if (guarded.fits p.ticket f.before) (named.range_of p.ticket.name f.before.space) (subst IsSome here takes.0))
-      ∙ freed_size p.ticket.name f.before.space f.after.space f.step (known_at hs (known hs known_well) p.heap f.before from)
+      ∙ ap units_in (some_if (guarded.fits (ticket_of p) f.before) (named.range_of p.name f.before.space) (subst IsSome here takes.0))
+      ∙ freed_size p.name f.before.space f.after.space f.step (known_at hs (known hs known_well) p.heap f.before from)
 
   lost : live_units_of f.after + size_of p hs ≡ live_units_of f.before
-  lost = omega (arith, freed, freed_units p.ticket.name f.before.space f.after.space f.step)
+  lost = omega (arith, freed, freed_units p.name f.before.space f.after.space f.step)
 
   lost_size : units_of_heap f.after ≡ units_of_heap f.before
   lost_size = ap (λ (v : View). v.size) f.step.view
@@ -263,12 +263,12 @@ module _ (p q : Place) (hs ks : Heaps) (known_well : state.IsWellFormed hs) (goe
   -- ---- ranks
   one_more : ranges_of s.after ≡ ranges_of s.before + 1
   one_more = elim s.step [
-    | inl a ↦ splits_count (units_needed (size_of p hs) goes.align) (size_of p hs) (padding_to goes.align) s.before.space s.after.space (handle_in q.ticket) a.1.1
+    | inl a ↦ splits_count (units_needed (size_of p hs) goes.align) (size_of p hs) (padding_to goes.align) s.before.space s.after.space (handle_in (ticket_from goes.offset q)) a.1.1
     | inr a ↦ absurd (let e : false ≡ true = a.0 in cc)
   ]
 
   one_less : ranges_of f.after + 1 ≡ ranges_of f.before
-  one_less = freed_count p.ticket.name f.before.space f.after.space f.step
+  one_less = freed_count p.name f.before.space f.after.space f.step
 
   ranges_stay : total ranges_of ks.slots ≡ total ranges_of hs.slots
   ranges_stay = omega (arith, both_put ranges_of, one_more, one_less)

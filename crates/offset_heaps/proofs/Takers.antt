@@ -4,7 +4,7 @@ use Rattle.std.proofs.lemmas.Bool.{cases_lt}
 use Rattle.offset_allocator.specs.Requests.{blocks_needed, units_needed}
 use Rattle.offset_guarded.specs.Guard.{Guard}
 use Rattle.offset_heaps.specs.declared.limits.Limits.{Limits}
-use Rattle.offset_heaps.specs.declared.place.Place.{Place}
+use Rattle.offset_heaps.specs.Places.{Place, ticket_of}
 use Rattle.offset_heaps.specs.Heaps.{Heaps, heap_at, live_units_of, part, range_in, room_of, slot}
 use Rattle.offset_heaps.specs.Relocating.{TakesUnits, TakesRange, live_units_at, units_in, size_of}
 use Rattle.offset_heaps.proofs.{Numbers.room_there, Places.same_realm}
@@ -34,11 +34,11 @@ pub taker_there : (limits : Limits) (own size align live count : ℕ) (from : �
 taker_there limits own size align live count from slots None long h = tt
 taker_there limits own size align live count from slots (Some i) long h = let l = h.0 in omega (arith, long, l)
 
-module _ (p : Place) (align : ℕ) (hs : Heaps) (size live : ℕ) (here : p.realm ≡ hs.realm) (u : size ≡ units_in (range_in p.ticket (heap_at p.heap hs))) (l : live ≡ part live_units_of (heap_at p.heap hs)) where
+module _ (p : Place) (align : ℕ) (hs : Heaps) (size live : ℕ) (here : p.realm ≡ hs.realm) (u : size ≡ units_in (range_in (ticket_of p) (heap_at p.heap hs))) (l : live ≡ part live_units_of (heap_at p.heap hs)) where
   pub size_here : size ≡ size_of p hs
   size_here = u ∙ ap units_in (sym (same_realm p hs here))
 
-  pub takes_range : (k : ℕ) → IsSome (range_in p.ticket (heap_at p.heap hs)) → TakesUnits hs.limits p.heap size align live hs.slots k → TakesRange p align hs k
+  pub takes_range : (k : ℕ) → IsSome (range_in (ticket_of p) (heap_at p.heap hs)) → TakesUnits hs.limits p.heap size align live hs.slots k → TakesRange p align hs k
   takes_range k some t = (
     subst IsSome (sym (same_realm p hs here)) some,
     subst (λ n. TakesUnits hs.limits p.heap n align (live_units_at p.heap hs) hs.slots k) size_here (subst (λ n. TakesUnits hs.limits p.heap size align n hs.slots k) l t),

@@ -9,7 +9,7 @@ use Rattle.offset_allocator.proofs.{DecidedChanges.frees_decided, DecidedChanges
 use Rattle.offset_guarded.specs.Guard.{Guard, Ticket, handle_in, serial_of}
 use Rattle.offset_guarded.specs.Guard as guarded
 use Rattle.offset_guarded.proofs.Guards.{live_fits}
-use Rattle.offset_heaps.specs.declared.place.Place.{Place}
+use Rattle.offset_heaps.specs.Places.{Place, ticket_of}
 use Rattle.offset_heaps.specs.Heaps.{Heaps, heap_at, part, range_in, range_of, room, room_of, slot, total}
 use Rattle.offset_heaps.specs.{Slots.ResetsIn, Twins.AreTwins, Twins.IsTwin, Twins.IsTwinIn}
 use Rattle.offset_heaps.proofs.Numbers.{slot_other, slot_same}
@@ -26,7 +26,7 @@ some_or None = inl refl
 some_or (Some r) = inr refl
 
 -- ---- one heap
-pub as_twin : (g h : Guard) → IsTwin g h → h ≡ record g { space = record g.space { accesses = h.space.accesses }; serials = h.serials }
+pub as_twin : (g h : Guard) → IsTwin g h → h ≡ record g { space = record g.space { accesses = h.space.accesses }; serials = h.serials; step = h.step }
 as_twin g h t =
     ap (λ (v : View). record h { space = v }) t.space
     ∙ ap₂ (λ (n r : ℕ). record h { space = record g.space { accesses = h.space.accesses }; given = n; realm = r }) t.given t.realm
@@ -35,10 +35,10 @@ pub own_twin : (g : Guard) → IsTwin g g
 own_twin g = record { space = refl; serials = λ x l. refl; given = refl; realm = refl }
 
 -- the ticket that a name has now
-abbrev ticket_of : ℕ → Guard → Ticket
-ticket_of x g = record { offset = 0; name = x; serial = serial_of x g; realm = g.realm }
+abbrev ticket_now : ℕ → Guard → Ticket
+ticket_now x g = record { offset = 0; name = x; serial = serial_of x g; realm = g.realm }
 
-own_range : (x : ℕ) (g : Guard) → guarded.range_of (ticket_of x g) g ≡ named.range_of x g.space
+own_range : (x : ℕ) (g : Guard) → guarded.range_of (ticket_now x g) g ≡ named.range_of x g.space
 own_range x g = ap (λ (b : Bool). if b then named.range_of x g.space else None) (ap₂ (λ (a b : Bool). a && b) (eq-eqb g.realm g.realm refl) (eq-eqb (serial_of x g) (serial_of x g) refl))
 
 live_state : (x : ℕ) (v w : View) → SameState v w → named.IsLive x w → named.IsLive x v
@@ -66,7 +66,7 @@ range_twin u g h t = elim (some_or (named.range_of u.name g.space)) [
 module _ (n : ℕ) (g h : Guard) (t : Ticket) (s : guarded.Grants n g h t) where
   serial_kept : (x : ℕ) → x ≢ t.name → named.IsLive x h.space → serial_of x h ≡ serial_of x g
   serial_kept x d live =
-      let u : Ticket = ticket_of x g in
+      let u : Ticket = ticket_now x g in
       let was : named.IsLive x g.space = subst IsSome (s.space.others x d) live in
       sym (live_fits u h (subst IsSome (sym (s.others u (λ alike. d alike.0) ∙ own_range x g)) was)).1
 
@@ -127,11 +127,11 @@ free_twins x g g' h h' known twin f f' e e' =
       realm = ap (λ (z : Guard). z.realm) e' ∙ twin.realm ∙ sym (ap (λ (z : Guard). z.realm) e);
     }
 
-reset_one : (g g' h h' : Guard) → IsWellFormed g.space → IsTwin g g' → space.Resets g.space h.space → space.Resets g'.space h'.space → h ≡ record g { space = h.space }
-    → h' ≡ record g' { space = h'.space } → ((t : Ticket) → guarded.range_of t h ≡ None) → IsTwin h h'
+reset_one : (g g' h h' : Guard) → IsWellFormed g.space → IsTwin g g' → space.Resets g.space h.space → space.Resets g'.space h'.space → h ≡ record g { space = h.space; step = 1 }
+    → h' ≡ record g' { space = h'.space; step = 1 } → ((t : Ticket) → guarded.range_of t h ≡ None) → IsTwin h h'
 reset_one g g' h h' known twin f f' e e' none = record {
   space = resets_decided g.space g'.space h.space h'.space known twin.space f f';
-  serials = λ y live. absurd (let o : Option Range = None in let gone : IsSome o = subst IsSome (sym (own_range y h) ∙ none (ticket_of y h)) live in cc);
+  serials = λ y live. absurd (let o : Option Range = None in let gone : IsSome o = subst IsSome (sym (own_range y h) ∙ none (ticket_now y h)) live in cc);
   given = ap (λ (z : Guard). z.given) e' ∙ twin.given ∙ sym (ap (λ (z : Guard). z.given) e);
   realm = ap (λ (z : Guard). z.realm) e' ∙ twin.realm ∙ sym (ap (λ (z : Guard). z.realm) e);
 }
@@ -146,13 +146,13 @@ kept_twins g g' h h' twin s s' kept same = record {
   realm = s'.realm ∙ twin.realm ∙ sym s.realm;
 }
   where
-    one_ticket : (x : ℕ) → ticket_of x h ≡ ticket_of x g
+    one_ticket : (x : ℕ) → ticket_now x h ≡ ticket_now x g
     one_ticket x = ap₂ (λ (n r : ℕ). let t : Ticket = record { offset = 0; name = x; serial = n; realm = r } in t) (s.cells x) s.realm
 
     was : (x : ℕ) → named.IsLive x h.space → named.IsLive x g.space
     was x live =
-        let here : is_some (guarded.range_of (ticket_of x h) h) ≡ true = ap is_some (own_range x h) ∙ live in
-        ap is_some (sym (own_range x g)) ∙ ap (λ t. is_some (guarded.range_of t g)) (sym (one_ticket x)) ∙ sym (kept (ticket_of x h)) ∙ here
+        let here : is_some (guarded.range_of (ticket_now x h) h) ≡ true = ap is_some (own_range x h) ∙ live in
+        ap is_some (sym (own_range x g)) ∙ ap (λ t. is_some (guarded.range_of t g)) (sym (one_ticket x)) ∙ sym (kept (ticket_now x h)) ∙ here
 
 -- no serial changes, and each ticket has as many units as it had
 pub slid_twins : (g g' h h' : Guard) → IsTwin g g' → h ≡ record g { space = h.space } → h' ≡ record g' { space = h'.space } → guarded.KeepsSizes g h → SameState h.space h'.space → IsTwin h h'
@@ -163,6 +163,7 @@ slid_twins g g' h h' twin e e' sizes same = kept_twins g g' h h' twin (serials g
       cells = λ x. ap (λ (z : Guard). serial_of x z) e;
       given = ap (λ (z : Guard). z.given) e;
       realm = ap (λ (z : Guard). z.realm) e;
+      step = ap (λ (z : Guard). z.step) e;
     }
 
     sized : (o p : Option Range) → option_map (λ (r : Range). r.size) o ≡ option_map (λ (r : Range). r.size) p → is_some o ≡ is_some p
@@ -210,7 +211,7 @@ module _ (hs ks : Heaps) (t : AreTwins hs ks) where
 
   pub range_twins : (p : Place) → range_of p ks ≡ range_of p hs
   range_twins p = ap₂ (λ (r : ℕ) (o : Option Range). if nat_eq p.realm r then o else None) t.realm
-      (option_twin (range_in p.ticket) (heap_at p.heap hs) (heap_at p.heap ks) (range_twin p.ticket) (t.heaps p.heap))
+      (option_twin (range_in (ticket_of p)) (heap_at p.heap hs) (heap_at p.heap ks) (range_twin (ticket_of p)) (t.heaps p.heap))
 
 -- ---- a twin of a twin
 twin_trans : (g h i : Guard) → IsTwin g h → IsTwin h i → IsTwin g i

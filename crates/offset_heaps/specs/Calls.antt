@@ -7,12 +7,12 @@ use Rattle.offset_allocator.specs.declared.moves.room.RoomCost.{RoomCost}
 use Rattle.offset_heaps.specs.Changing.{CanResizeAt, CompactsAll, CompactsHeap, MakesRoomAt, ResizesAt, NewSize}
 use Rattle.offset_heaps.specs.Extending.{CanExtendIn, ExtendsHeap}
 use Rattle.offset_heaps.specs.declared.place.Granted.{Granted}
-use Rattle.offset_heaps.specs.declared.place.Place.{Place}
 use Rattle.offset_heaps.specs.declared.refusal.Refusal.{Refusal}
 use Rattle.offset_heaps.specs.declared.refusal.Refusal.TheVariants.{Empty, Memory}
 use Rattle.offset_heaps.specs.Heaps.{Heaps, FreesIn, Grants, IsFirstFit, IsLive, IsNext, IsSame, IsWhy, NoneFits, Puts, empties, heap_at, is_empty}
 use Rattle.offset_heaps.specs.Histories.{ResetsAll}
-use Rattle.offset_heaps.specs.Relocating.{IsTaker, NoneTakes, granted, size_of}
+use Rattle.offset_heaps.specs.Places.{Place}
+use Rattle.offset_heaps.specs.Relocating.{IsTaker, NoneTakes, size_of}
 use Rattle.offset_heaps.specs.State.{IsWellFormed}
 use Rattle.offset_heaps.specs.Tight.{GrantsTight, IsFirstHolding, IsWhyTight, NoneHolds}
 use Rattle.offset_heaps.specs.Twins.{AreTwins}
@@ -34,7 +34,7 @@ pub record AllocatesTight (size align : ℕ) (hs ks : Heaps) (r : Result Granted
   pub same : OnErr r (IsSame hs ks)
   pub found : IfOk r (λ g. g.is_new ≡ false → IsFirstHolding size align g.place.heap hs)
   pub made : IfOk r (λ g. g.is_new ≡ true → NoneHolds size align hs × IsNext size g.place.heap hs)
-  pub fills : IfOk r (λ g. g.is_new ≡ false → GrantsTight size align hs ks g.place)
+  pub fills : IfOk r (λ g. g.is_new ≡ false → GrantsTight size align hs ks g)
   pub grants : IfOk r (λ g. g.is_new ≡ true → Grants size align hs ks g)
 
 -- `free`
@@ -44,17 +44,19 @@ pub record Frees (p : Place) (hs ks : Heaps) (r : Bool) : Type 0 where
   pub step : r ≡ true → FreesIn p hs ks
 
 -- `relocate_aligned`, and with the alignment 1 `relocate`
-pub record Relocates (p : Place) (align : ℕ) (hs ks : Heaps) (r : Option Place) : Type 0 where
+pub record Relocates (p : Place) (align : ℕ) (hs ks : Heaps) (r : Option Granted) : Type 0 where
   pub none : r ≡ None ↔ NoneTakes p align hs
   pub same : r ≡ None → IsSame hs ks
-  pub first : IfSome r (λ q. IsTaker p align hs q.heap)
-  pub grants : IfSome r (λ q. Grants (size_of p hs) align hs ks (granted q))
+  pub first : IfSome r (λ g. IsTaker p align hs g.place.heap)
+  pub found : IfSome r (λ g. g.is_new ≡ false)
+  pub grants : IfSome r (Grants (size_of p hs) align hs ks)
 
 -- a range goes to another heap: a second range is granted there, and the first one is freed
 pub record Goes (p q : Place) (hs ks : Heaps) : Type 0 where
   pub align : ℕ
+  pub offset : ℕ
   pub between : Heaps
-  pub grants : Relocates p align hs between (Some q)
+  pub grants : Relocates p align hs between (Some (record { place = q; offset = offset; is_new = false }))
   pub frees : Frees p between ks true
 
 -- ranges go, one after another, of which n have units
@@ -135,7 +137,7 @@ pub data Call : Type 0 where
 -- the result of a call
 pub data Reply : Type 0 where
   Requested : Result Granted Refusal → Reply
-  Second : Option Place → Reply
+  Second : Option Granted → Reply
   Dropped : Option ℕ → Reply
   Was_done : Bool → Reply
   Nothing : Reply
@@ -148,7 +150,7 @@ abbrev pub Takes : Call → Heaps → Heaps → Reply → Type 0
 Takes (Allocate size align) hs ks reply = (r : Result Granted Refusal) × (reply ≡ Requested r) × (size ≤ 4294967295) × Allocates size align hs ks r
 Takes (Allocate_tight size align) hs ks reply = (r : Result Granted Refusal) × (reply ≡ Requested r) × (size ≤ 4294967295) × AllocatesTight size align hs ks r
 Takes (Free p) hs ks reply = (r : Bool) × (reply ≡ Was_done r) × Frees p hs ks r
-Takes (Relocate p align) hs ks reply = (r : Option Place) × (reply ≡ Second r) × Relocates p align hs ks r
+Takes (Relocate p align) hs ks reply = (r : Option Granted) × (reply ≡ Second r) × Relocates p align hs ks r
 Takes (Drop_empty keep) hs ks reply = (r : Option ℕ) × (reply ≡ Dropped r) × DropsEmpty keep hs ks r
 Takes (Drop_heap k) hs ks reply = (r : Bool) × (reply ≡ Was_done r) × Drops k hs ks r
 Takes (Give_up k) hs ks reply = (r : Bool) × (reply ≡ Was_done r) × GivesUp k hs ks r

@@ -12,10 +12,10 @@ use Rattle.offset_allocator.specs.Resizing as space
 use Rattle.offset_allocator.specs.View.{View}
 use Rattle.offset_guarded.specs.Guard.{Guard, Ticket}
 use Rattle.offset_guarded.specs.Guard as guarded
-use Rattle.offset_heaps.specs.declared.place.Place.{Place}
 use Rattle.offset_heaps.specs.declared.resize.Resize.{Resize}
 use Rattle.offset_heaps.specs.declared.resize.Resize.TheVariants.{Shrink, Grow}
 use Rattle.offset_heaps.specs.Heaps.{Heaps, Puts, heap_at, range_of}
+use Rattle.offset_heaps.specs.Places.{Place, ticket_of}
 
 -- the heap of a number, which is there, is another one now, and all else stays
 pub record Alters (k : ℕ) (P : Guard → Guard → Type 0) (hs ks : Heaps) : Type 0 where
@@ -96,11 +96,11 @@ pub record Resizes (how : NewSize) (t : Ticket) (done : Bool) (g h : Guard) : Ty
 
 -- the range of a place
 abbrev pub ResizesAt : NewSize → Place → Heaps → Heaps → Bool → Type 0
-ResizesAt how p hs ks done = Alters p.heap (Resizes how p.ticket done) hs ks
+ResizesAt how p hs ks done = Alters p.heap (Resizes how (ticket_of p) done) hs ks
 
 -- the heap of a place can do it
 abbrev pub CanResizeAt : NewSize → Place → Heaps → Type 0
-CanResizeAt how p hs = CanResizeIn how p.ticket.name (heap_at p.heap hs)
+CanResizeAt how p hs = CanResizeIn how p.name (heap_at p.heap hs)
 
 -- every place has as many units as it had, and no other is live
 abbrev pub KeepsSizes : Heaps → Heaps → Type 0

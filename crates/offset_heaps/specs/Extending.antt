@@ -12,7 +12,7 @@ use Rattle.offset_heaps.specs.Heaps.{Heaps, IsRaisedWhere, MustRaise, top_limit}
 abbrev pub EndsFree : View → Type 0
 EndsFree v = (before : List Block) × (last : Block) × (v.blocks ≡ before ++ last ∷ []) × (last.used ≡ false)
 
--- the heap of a number, where there is one, can have so many units more, under its largest node limit
+-- the heap of a number, where there is one, can have n units more, under its largest node limit
 abbrev pub CanExtendIn : Limits → ℕ → ℕ → Option Guard → Type 0
 CanExtendIn limits k more None = ⊥
 CanExtendIn limits k more (Some g) = 1 ≤ more → (g.space.size + more ≤ max_size) × ((length g.space.blocks + 1 < top_limit limits k g) ⊎ EndsFree g.space)

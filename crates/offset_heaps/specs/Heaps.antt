@@ -10,12 +10,12 @@ use Rattle.offset_allocator.specs.Tight.{AlignsTight}
 use Rattle.offset_allocator.specs.View.{bin_at, free_sizes, count_used, used_units}
 use Rattle.offset_guarded.specs.Guard.{Guard, Ticket, handle_in, last_serial}
 use Rattle.offset_guarded.specs.Guard as guarded
-use Rattle.offset_heaps.specs.declared.place.Place.{Place}
 use Rattle.offset_heaps.specs.declared.place.Granted.{Granted}
 use Rattle.offset_heaps.specs.declared.limits.Limits.{Limits}
 use Rattle.offset_heaps.specs.declared.totals.Totals.{Totals}
 use Rattle.offset_heaps.specs.declared.refusal.Refusal.{Refusal}
 use Rattle.offset_heaps.specs.declared.refusal.Refusal.TheVariants.{Empty, TooLarge, Full, Memory}
+use Rattle.offset_heaps.specs.Places.{Place, ticket_from, ticket_of}
 
 -- the last realm: the largest number of 32 bits
 abbrev pub last_realm : ℕ
@@ -152,11 +152,12 @@ IsWhyNotMade hs Full = hs.made ≡ last_realm
 IsWhyNotMade hs Memory = hs.made < last_realm
 IsWhyNotMade hs why = ⊥
 
--- a heap that was just made, the `made`-th: a fresh space, no serial given, and that number as its realm
+-- a heap that was just made, the `made`-th: a fresh space, no serial given, that number as its realm, and the step 1
 pub record IsNew (size max_allocs made : ℕ) (g : Guard) : Type 0 where
   pub space : IsFresh size max_allocs g.space
   pub serials : (g.given ≡ 0) × (g.serials ≡ [])
   pub realm : g.realm ≡ made
+  pub step : g.step ≡ 1
 
 -- the node limit that a usual heap begins with: the largest one, or at least 8
 abbrev pub IsFirstLimit : Limits → Type 0
@@ -185,6 +186,10 @@ IsBefore size align hs grant g = ((grant.is_new ≡ false)
     × ((IsUsual size hs × IsNew (usual_size hs.limits grant.place.heap) hs.limits.first_allocs (hs.made + 1) g)
     ⊎ ((IsUsual size hs → ⊥) × IsNew size larger_limit (hs.made + 1) g)))
 
+-- the ticket of a grant in its heap
+abbrev pub ticket_in : Granted → Ticket
+ticket_in grant = ticket_from grant.offset grant.place
+
 -- a grant: a step of one heap, which all others do not see
 pub record Grants (size align : ℕ) (hs ks : Heaps) (grant : Granted) : Type 0 where
   pub before : Guard
@@ -193,12 +198,12 @@ pub record Grants (size align : ℕ) (hs ks : Heaps) (grant : Granted) : Type 0 
   -- a new one begins at 0, a multiple of every alignment, so none is asked of it; one of the request's own size grants
   -- all of it
   pub step : ((grant.is_new ≡ true → IsUsual size hs)
-      × Aligns size (if grant.is_new then 1 else align) before.space after.space (Some (handle_in grant.place.ticket))
+      × Aligns size (if grant.is_new then 1 else align) before.space after.space (Some (handle_in (ticket_in grant)))
       × (after.space.accesses ≤ before.space.accesses + 128))
       ⊎ ((grant.is_new ≡ true) × (IsUsual size hs → ⊥)
-      × AlignsTight size 1 before.space after.space (Some (handle_in grant.place.ticket))
+      × AlignsTight size 1 before.space after.space (Some (handle_in (ticket_in grant)))
       × (after.space.accesses ≤ before.space.accesses + 140 + 6 * length (bin_at before.space.bins (down size))))
-  pub grants : guarded.Grants size before after grant.place.ticket
+  pub grants : guarded.Grants size before after (ticket_in grant)
   pub realm : grant.place.realm ≡ hs.realm
   pub number : grant.place.heap < length hs.slots
   pub heaps : ks ≡ record hs {
@@ -221,15 +226,15 @@ range_in t (Some g) = guarded.range_of t g
 
 -- the range of a place: that of its ticket in its heap, where the place is of these heaps
 abbrev pub range_of : Place → Heaps → Option Range
-range_of p hs = if nat_eq p.realm hs.realm then range_in p.ticket (heap_at p.heap hs) else None
+range_of p hs = if nat_eq p.realm hs.realm then range_in (ticket_of p) (heap_at p.heap hs) else None
 
 -- a place is live while it has a range
 abbrev pub IsLive : Place → Heaps → Type 0
 IsLive p hs = IsSome (range_of p hs)
 
--- two places are of one grant, whatever the offsets of their tickets
+-- two places are of one grant
 abbrev pub AreAlike : Place → Place → Type 0
-AreAlike p q = (p.heap ≡ q.heap) × (p.realm ≡ q.realm) × guarded.AreAlike p.ticket q.ticket
+AreAlike p q = (p.heap ≡ q.heap) × (p.realm ≡ q.realm) × guarded.AreAlike (ticket_of p) (ticket_of q)
 
 -- every place has the range that it had
 abbrev pub KeepsAll : Heaps → Heaps → Type 0
@@ -260,7 +265,7 @@ pub record FreesIn (p : Place) (hs ks : Heaps) : Type 0 where
   pub before : Guard
   pub after : Guard
   pub heap : heap_at p.heap hs ≡ Some before
-  pub step : Frees p.ticket.name before.space after.space
+  pub step : Frees p.name before.space after.space
   pub serials : after ≡ record before { space = after.space }
   pub accesses : after.space.accesses ≤ before.space.accesses + 128
   pub heaps : Puts p.heap (Some after) hs ks

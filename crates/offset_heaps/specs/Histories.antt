@@ -1,9 +1,9 @@
 -- Histories: what calls leave of many heaps, one after another, and the places of a heap that is gone.
 use Rattle.std.specs.Prelude.{◌≡◌, ◌≢◌, ℕ, ◌≤◌, ◌⊎◌, List, [], ◌∷◌, None, IfSome}
 use Rattle.offset_heaps.specs.declared.place.Granted.{Granted}
-use Rattle.offset_heaps.specs.declared.place.Place.{Place}
 use Rattle.offset_heaps.specs.Changing.{Alters, CompactsAll}
 use Rattle.offset_heaps.specs.Heaps.{Heaps, FreesIn, Grants, IsSame, Puts, heap_at}
+use Rattle.offset_heaps.specs.Places.{Place}
 use Rattle.offset_heaps.specs.Slots.{ResetsIn}
 
 -- each heap is reset
@@ -33,5 +33,5 @@ AreSteps hs (ks ∷ later) = IsStep hs ks × AreSteps ks later
 
 -- the heap of a place is gone: it was made, and its number has another one, or none
 pub record IsGone (p : Place) (hs : Heaps) : Type 0 where
-  pub made : p.ticket.realm ≤ hs.made
-  pub other : IfSome (heap_at p.heap hs) (λ g. p.ticket.realm ≢ g.realm)
+  pub made : p.heap_realm ≤ hs.made
+  pub other : IfSome (heap_at p.heap hs) (λ g. p.heap_realm ≢ g.realm)

@@ -7,6 +7,7 @@ pub mod Heaps
 pub mod Histories
 pub mod Maxima
 pub mod Numbering
+pub mod Places
 pub mod Relocating
 pub mod Slots
 pub mod Soundness

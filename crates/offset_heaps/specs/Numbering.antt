@@ -4,8 +4,8 @@ use Rattle.std.specs.Option.{option_or}
 use Rattle.offset_allocator.specs.Reporting.Walking.{first_live, live_after, live_handles}
 use Rattle.offset_allocator.specs.View.{one, tally}
 use Rattle.offset_guarded.specs.Guard.{Guard, Ticket}
-use Rattle.offset_heaps.specs.declared.place.Place.{Place}
 use Rattle.offset_heaps.specs.Heaps.{Heaps, heap_at, range_of, slot}
+use Rattle.offset_heaps.specs.Places.{Place, ticket_of}
 use Rattle.offset_heaps.specs.Relocating.{place_in}
 
 -- from a number on, no other has a heap
@@ -39,7 +39,7 @@ first_from k hs = first_among k hs.realm (drop k hs.slots)
 
 -- the live place after this one: in its heap, or else the first one of the heaps behind it
 abbrev pub next_place : Place → Heaps → Option Place
-next_place p hs = option_or (live_after_in p.heap hs.realm p.ticket (heap_at p.heap hs)) (first_from (p.heap + 1) hs)
+next_place p hs = option_or (live_after_in p.heap hs.realm (ticket_of p) (heap_at p.heap hs)) (first_from (p.heap + 1) hs)
 
 -- the places of the live ranges of a heap, in space order
 abbrev pub places_in : ℕ → ℕ → Option Guard → List Place
@@ -60,10 +60,10 @@ abbrev pub MeetsPlaces : (Place → Option Place) → Option Place → List Plac
 MeetsPlaces next at [] = at ≡ None
 MeetsPlaces next at (p ∷ ps) = (at ≡ Some p) × MeetsPlaces next (next p) ps
 
--- whether two places are of one grant, whatever the offsets of their tickets
+-- whether two places are of one grant
 abbrev pub is_alike : Place → Place → Bool
 is_alike p q = nat_eq p.heap q.heap && (nat_eq p.realm q.realm
-    && (nat_eq p.ticket.realm q.ticket.realm && (nat_eq p.ticket.serial q.ticket.serial && nat_eq p.ticket.name q.ticket.name)))
+    && (nat_eq p.heap_realm q.heap_realm && (nat_eq p.serial q.serial && nat_eq p.name q.name)))
 
 -- each live place is among these once, and no other
 abbrev pub AreOfLive : List Place → Heaps → Type 0

@@ -5,10 +5,9 @@ use Rattle.offset_allocator.specs.Ranges.{Range}
 use Rattle.offset_allocator.specs.Requests.{blocks_needed, units_needed}
 use Rattle.offset_allocator.specs.View.{Handle, count_used}
 use Rattle.offset_guarded.specs.Guard.{Guard, Ticket, ticket_at}
-use Rattle.offset_heaps.specs.declared.place.Place.{Place}
 use Rattle.offset_heaps.specs.declared.limits.Limits.{Limits}
-use Rattle.offset_heaps.specs.declared.place.Granted.{Granted}
 use Rattle.offset_heaps.specs.Heaps.{Heaps, IsLive, MustRaiseIn, heap_at, live_units_of, numbers, part, range_of, room_of, slot, total}
+use Rattle.offset_heaps.specs.Places.{Place, place_of}
 
 -- the units of a range, or 0 where there is none
 abbrev pub units_in : Option Range → ℕ
@@ -72,10 +71,6 @@ IsTaker p align hs k = TakesRange p align hs k × ((j : ℕ) → j < k → Takes
 abbrev pub NoneTakes : Place → ℕ → Heaps → Type 0
 NoneTakes p align hs = (k : ℕ) → TakesRange p align hs k → ⊥
 
--- a grant in a heap that was there
-abbrev pub granted : Place → Granted
-granted p = record { place = p; is_new = false }
-
 -- a heap has a live range
 abbrev pub HasLive : Option Guard → Type 0
 HasLive None = ⊥
@@ -94,7 +89,7 @@ NoneLive n slots = (k : ℕ) → k < n → HasLive (slot k slots) → ⊥
 
 -- the place that a handle has now in the heap of a number
 abbrev pub place_in : ℕ → ℕ → Guard → Handle → Place
-place_in k realm g h = record { heap = k; realm = realm; ticket = ticket_at h g }
+place_in k realm g h = place_of k realm (ticket_at h g)
 
 -- the place of the live range that is the last one in its heap
 abbrev pub last_live_in : ℕ → ℕ → Option Guard → Option Place

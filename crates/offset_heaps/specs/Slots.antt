@@ -78,11 +78,11 @@ pub record FreesSlot (t : Ticket) (old new : Option Guard) : Type 0 where
   pub serials : after ≡ record before { space = after.space }
   pub accesses : after.space.accesses ≤ before.space.accesses + 128
 
--- the space is one free block again
+-- the space is one free block again, and the step is 1
 abbrev pub ResetsIn : Option Guard → Option Guard → Type 0
 ResetsIn None new = new ≡ None
 ResetsIn (Some before) new = (after : Guard) × (new ≡ Some after) × Resets before.space after.space
-    × (after ≡ record before { space = after.space }) × ((t : Ticket) → guarded.range_of t after ≡ None)
+    × (after ≡ record before { space = after.space; step = 1 }) × ((t : Ticket) → guarded.range_of t after ≡ None)
 
 -- the heap of one number is changed
 pub record Changes (k : ℕ) (P : Option Guard → Option Guard → Type 0) (old new : List (Option Guard)) : Type 0 where

@@ -5,10 +5,10 @@ use Rattle.offset_allocator.specs.Requests.{blocks_needed}
 use Rattle.offset_allocator.specs.Tight.{AlignsTight, listed_from}
 use Rattle.offset_guarded.specs.Guard.{Guard, handle_in}
 use Rattle.offset_guarded.specs.Guard as guarded
-use Rattle.offset_heaps.specs.declared.place.Place.{Place}
+use Rattle.offset_heaps.specs.declared.place.Granted.{Granted}
 use Rattle.offset_heaps.specs.declared.refusal.Refusal.{Refusal}
 use Rattle.offset_heaps.specs.declared.refusal.Refusal.TheVariants.{Empty, TooLarge, Full, Memory}
-use Rattle.offset_heaps.specs.Heaps.{Heaps, IsNext, IsRaisedAsNeeded, MayEverFit, MustRaiseIn, Puts, heap_at}
+use Rattle.offset_heaps.specs.Heaps.{Heaps, IsNext, IsRaisedAsNeeded, MayEverFit, MustRaiseIn, Puts, heap_at, ticket_in}
 use Rattle.offset_heaps.specs.Slots.{CanHoldIn}
 
 -- no heap holds a request
@@ -20,17 +20,17 @@ abbrev pub IsFirstHolding : ℕ → ℕ → ℕ → Heaps → Type 0
 IsFirstHolding size align k hs = CanHoldIn hs.limits k size align (heap_at k hs) × ((j : ℕ) → j < k → CanHoldIn hs.limits j size align (heap_at j hs) → ⊥)
 
 -- a tight grant in a heap that was there, raised as needed: a step of that heap, which all others do not see
-pub record GrantsTight (size align : ℕ) (hs ks : Heaps) (p : Place) : Type 0 where
+pub record GrantsTight (size align : ℕ) (hs ks : Heaps) (grant : Granted) : Type 0 where
   pub was : Guard
   pub before : Guard
   pub after : Guard
-  pub heap : heap_at p.heap hs ≡ Some was
-  pub raised : IsRaisedAsNeeded hs.limits p.heap (blocks_needed align) was before
-  pub step : AlignsTight size align before.space after.space (Some (handle_in p.ticket))
-  pub grants : guarded.Grants size before after p.ticket
+  pub heap : heap_at grant.place.heap hs ≡ Some was
+  pub raised : IsRaisedAsNeeded hs.limits grant.place.heap (blocks_needed align) was before
+  pub step : AlignsTight size align before.space after.space (Some (handle_in (ticket_in grant)))
+  pub grants : guarded.Grants size before after (ticket_in grant)
   pub accesses : after.space.accesses ≤ before.space.accesses + 140 + 6 * length (listed_from (down size) before.space.bins)
-  pub realm : p.realm ≡ hs.realm
-  pub heaps : Puts p.heap (Some after) hs ks
+  pub realm : grant.place.realm ≡ hs.realm
+  pub heaps : Puts grant.place.heap (Some after) hs ks
 
 -- no heap holds a request of at least one unit
 abbrev pub IsUnheld : ℕ → ℕ → Heaps → Type 0

@@ -3,11 +3,12 @@
 ghost use Rattle.std.specs.Prelude.{ℕ, ◌≡◌, ◌↔◌, ◌+◌, ◌*◌, ◌%◌, ◌^◌, ◌<◌, ◌≤◌, None, Some, Ok, Err};
 ghost use Rattle.std.specs.Prelude.{false, true, length, max, IsErr, IsTrue, IfOk, IfErr, IfSome, MatchOption, OnErr};
 ghost use Rattle.offset_allocator.specs.Requests.{blocks_needed, units_needed};
+ghost use Rattle.offset_heaps.specs.Places.{place_of};
 ghost use Rattle.offset_heaps.specs.Slots.{CanHoldIn, Changes, IsBelow, RaisesIn};
 
 use crate::index::LARGER_KEY;
 use crate::limits::usual_room;
-use crate::place::{Granted, Place};
+use crate::place::Granted;
 use crate::refusal::Refusal;
 use crate::{HeapsOf, fresh};
 use offset_allocator::Tables;
@@ -91,7 +92,7 @@ impl<T: Tables> HeapsOf<T> {
             .first_at_least(LARGER_KEY as u64, &mut self.accesses)
     }
 
-    // Doubles the node limit of the heap of a number, where it has to be raised for a grant that may add so many
+    // Doubles the node limit of the heap of a number, where it has to be raised for a grant that may add `blocks`
     // blocks.
     pub(crate) fn raise(&mut self, number: u32, blocks: u32) -> Result<(), AllocError>
         requires there { number < length self.old.slots }
@@ -126,21 +127,14 @@ impl<T: Tables> HeapsOf<T> {
         ensures grants { Grants size align self.old self.new result }
         ensures number { result.place.heap ≡ number }
         ensures found { result.is_new ≡ false }
-        ensures aligned { result.place.ticket.offset % align ≡ 0 }
+        ensures aligned { result.offset % align ≡ 0 }
         ensures accesses { (bits : ℕ) → numbers self.old ≤ 2 ^ bits
             → self.new.accesses ≤ self.old.accesses + 12 * bits + 10 }
     {
         let ticket = self.slots.grant(number, size, align, &mut self.accesses);
         self.index
             .note(&self.slots, number, self.limits, &mut self.accesses);
-        Granted {
-            place: Place {
-                heap: number,
-                realm: self.realm,
-                ticket,
-            },
-            is_new: false,
-        }
+        Granted::of(number, self.realm, ticket, false)
     }
 
     // Grants a request in the first heap that has room for it, and raises its node limit first where it has to.
@@ -154,7 +148,7 @@ impl<T: Tables> HeapsOf<T> {
         ensures same { OnErr result (IsSame self.old self.new) }
         ensures found { IfOk result (λ g. (g.is_new ≡ false) × (g.place.heap ≡ number)) }
         ensures grants { IfOk result (Grants size align self.old self.new) }
-        ensures aligned { IfOk result (λ g. g.place.ticket.offset % align ≡ 0) }
+        ensures aligned { IfOk result (λ g. g.offset % align ≡ 0) }
         ensures accesses { (bits : ℕ) → numbers self.old ≤ 2 ^ bits
             → self.new.accesses ≤ self.old.accesses + 12 * bits + 11 }
     {
@@ -172,7 +166,8 @@ impl<T: Tables> HeapsOf<T> {
         requires kind { IfSome slot (IsOfKind self.old.limits number) }
         ensures heaps { Adds number slot self.old self.new }
         ensures granted { result ≡ record {
-          place = record { heap = number; realm = self.old.realm; ticket = ticket };
+          place = place_of number self.old.realm ticket;
+          offset = ticket.offset;
           is_new = true;
         } }
         ensures accesses { (bits : ℕ) → numbers self.old ≤ 2 ^ bits
@@ -182,14 +177,7 @@ impl<T: Tables> HeapsOf<T> {
         self.made += 1;
         self.index
             .note(&self.slots, number, self.limits, &mut self.accesses);
-        Granted {
-            place: Place {
-                heap: number,
-                realm: self.realm,
-                ticket,
-            },
-            is_new: true,
-        }
+        Granted::of(number, self.realm, ticket, true)
     }
 
     // Makes the usual heap of a number for a request that it has room for.
@@ -203,7 +191,7 @@ impl<T: Tables> HeapsOf<T> {
         ensures grants { IfOk result (Grants size align self.old self.new) }
         ensures made { IfOk result (λ g. (g.is_new ≡ true) × (g.place.heap ≡ number)
             × (self.old.made < last_realm)) }
-        ensures aligned { IfOk result (λ g. g.place.ticket.offset % align ≡ 0) }
+        ensures aligned { IfOk result (λ g. g.offset % align ≡ 0) }
         ensures accesses { (bits : ℕ) → numbers self.old ≤ 2 ^ bits
             → self.new.accesses ≤ self.old.accesses + 12 * bits + 10 }
     {
@@ -227,7 +215,7 @@ impl<T: Tables> HeapsOf<T> {
         ensures grants { IfOk result (Grants size align self.old self.new) }
         ensures made { IfOk result (λ g. (g.is_new ≡ true) × (g.place.heap ≡ number)
             × (self.old.made < last_realm)) }
-        ensures aligned { IfOk result (λ g. g.place.ticket.offset % align ≡ 0) }
+        ensures aligned { IfOk result (λ g. g.offset % align ≡ 0) }
         ensures accesses { (bits : ℕ) → numbers self.old ≤ 2 ^ bits
             → self.new.accesses ≤ self.old.accesses + 12 * bits + 10 }
     {
@@ -251,7 +239,7 @@ impl<T: Tables> HeapsOf<T> {
         ensures grants { IfOk result (Grants size align self.old self.new) }
         ensures made { IfOk result (λ g. (g.is_new ≡ true)
             × IsNext size g.place.heap self.old) }
-        ensures aligned { IfOk result (λ g. g.place.ticket.offset % align ≡ 0) }
+        ensures aligned { IfOk result (λ g. g.offset % align ≡ 0) }
         ensures accesses { (bits : ℕ) → numbers self.old ≤ 2 ^ bits
             → self.new.accesses ≤ self.old.accesses + 13 * bits + 16 }
     {
@@ -282,7 +270,7 @@ impl<T: Tables> HeapsOf<T> {
             → NoneFits (blocks_needed align) (units_needed size align) self.old
             × IsNext size g.place.heap self.old) }
         ensures grants { IfOk result (Grants size align self.old self.new) }
-        ensures aligned { IfOk result (λ g. g.place.ticket.offset % align ≡ 0) }
+        ensures aligned { IfOk result (λ g. g.offset % align ≡ 0) }
         ensures accesses { TakesFewAccesses self.old self.new }
     {
         if size == 0 {
@@ -317,7 +305,7 @@ impl<T: Tables> HeapsOf<T> {
             → NoneFits 1 size self.old × IsNext size g.place.heap self.old) }
         ensures not_live { IfOk result (λ g. range_of g.place self.old ≡ None) }
         ensures range { IfOk result (λ g. range_of g.place self.new
-            ≡ Some (record { offset = g.place.ticket.offset; size = size })) }
+            ≡ Some (record { offset = g.offset; size = size })) }
         ensures others { IfOk result (λ g. KeepsOthers g.place self.old self.new) }
         ensures grants { IfOk result (Grants size 1 self.old self.new) }
         ensures accesses { TakesFewAccesses self.old self.new }
@@ -368,8 +356,8 @@ impl<T: Tables> HeapsOf<T> {
         // place keeps its range, if it has one.
         ensures not_live { IfOk result (λ g. range_of g.place self.old ≡ None) }
         ensures range { IfOk result (λ g. range_of g.place self.new
-            ≡ Some (record { offset = g.place.ticket.offset; size = size })) }
-        ensures aligned { IfOk result (λ g. g.place.ticket.offset % align ≡ 0) }
+            ≡ Some (record { offset = g.offset; size = size })) }
+        ensures aligned { IfOk result (λ g. g.offset % align ≡ 0) }
         ensures others { IfOk result (λ g. KeepsOthers g.place self.old self.new) }
         // The step of that heap. All other heaps are as they were.
         ensures grants { IfOk result (Grants size align self.old self.new) }

@@ -28,14 +28,14 @@ fn ends_free<T: Tables>(heap: &GuardedOf<T>) -> bool
     }
 }
 
-// Whether the node limit of the heap of a number has to be raised for so many units more.
+// Whether the node limit of the heap of a number has to be raised for `more` units.
 fn must_extend<T: Tables>(heap: &GuardedOf<T>, number: u32, limits: Limits, more: u32) -> bool
     ensures { IsTrue result ↔ MustExtend limits number more heap.now }
 {
     more > 0 && must_raise(heap, number, limits, 1) && !ends_free(heap)
 }
 
-// Doubles the node limit of the heap of a number, where it has to be raised for so many units more.
+// Doubles the node limit of the heap of a number, where it has to be raised for `more` units.
 fn raise_for<T: Tables>(
     alloc: Global,
     heap: &mut GuardedOf<T>,
@@ -125,7 +125,7 @@ impl<T: Tables> HeapsOf<T> {
     /// assert_eq!(heaps.allocate(512).unwrap().place.heap, 0);
     /// ```
     pub fn extend_heap(&mut self, number: u32, more: u32) -> Result<bool, AllocError>
-        // It is done exactly where the number has a heap that can have so many units more.
+        // It is done exactly where the number has a heap that can have `more` units more.
         ensures done { IfOk result
             (λ done. IsTrue done ↔ CanExtendIn self.old.limits number more (heap_at number self.old)) }
         ensures size { result ≡ Ok true → option_map units_of_heap (heap_at number self.new)

@@ -15,6 +15,7 @@ ghost use Rattle.offset_heaps.specs.Heaps.{MustRaiseIn, Puts};
 ghost use Rattle.offset_heaps.specs.Heaps.{IsFirstSize, total, units_of_heap, usual_room, usual_size};
 ghost use Rattle.offset_heaps.specs.Histories.{AreSteps, IsGone, IsStep, ResetsAll};
 ghost use Rattle.offset_heaps.specs.Numbering.{AreOfLive, MeetsPlaces, first_from, live_places, next_place};
+ghost use Rattle.offset_heaps.specs.Places.{Place, ticket_of};
 ghost use Rattle.offset_heaps.specs.State.{IsCopy, IsStateOf, IsWellFormed, SameHeaps};
 ghost use Rattle.offset_heaps.specs.Relocating.{IsEmptiest, NoneLive, last_live_in, live_before_in};
 ghost use Rattle.offset_heaps.specs.Relocating.{live_units_at, most_ranks, ranks, squares, size_of};
@@ -27,7 +28,6 @@ ghost use Rattle.offset_heaps.specs.Changing.{CompactsAll, NewSize};
 ghost use Rattle.offset_allocator.specs.declared.moves.room.RoomCost.{RoomCost};
 ghost use Rattle.offset_heaps.specs.declared.limits.Limits.{Limits};
 ghost use Rattle.offset_heaps.specs.declared.place.Granted.{Granted};
-ghost use Rattle.offset_heaps.specs.declared.place.Place.{Place};
 ghost use Rattle.offset_heaps.specs.declared.refusal.Refusal.{Refusal};
 ghost use Rattle.offset_heaps.specs.declared.totals.Totals.{Totals};
 ghost use Rattle.offset_heaps.specs.declared.refusal.Refusal.TheVariants.{Memory};
@@ -156,7 +156,7 @@ pub fn realms_are_given<T: Tables>(heaps: &HeapsOf<T>)
 /// `drop_heap` and `give_up` leave of its number, each later call keeps.
 pub fn dropped_heaps_stay_dropped<T: Tables>(heaps: &HeapsOf<T>)
     ensures never { (p : Place) (g : Guard) (dropped : Heaps) (later : List Heaps)
-        → heap_at p.heap heaps.now ≡ Some g → p.ticket.realm ≡ g.realm → Puts p.heap None heaps.now dropped
+        → heap_at p.heap heaps.now ≡ Some g → p.heap_realm ≡ g.realm → Puts p.heap None heaps.now dropped
         → AreSteps dropped later → AllByRecursion (λ hs. IsLive p hs → ⊥) (dropped ∷ later) }
     ensures step { (p : Place) (hs ks : Heaps) → IsGone p hs → IsStep hs ks → IsGone p ks }
     ensures dead { (p : Place) (hs : Heaps) → IsGone p hs → IsLive p hs → ⊥ }
@@ -227,7 +227,7 @@ pub fn a_state_is_read_back<T: Tables>(heaps: &HeapsOf<T>)
 
 /// Heaps and a call decide the result, and the heaps that are left. Heaps are twins where their spaces are in
 /// the same state, and live names have the same serials, however many accesses were counted: of twins a call
-/// returns the same, places and tickets included, and leaves twins. Only where memory is refused to a request
+/// returns the same, places included, and leaves twins. Only where memory is refused to a request
 /// of one of them, or to its `extend_heap`, the other may have a heap or nodes more.
 pub fn a_state_decides_each_step()
     ensures allocate { (size align : ℕ) (hs hs' ks ks' : Heaps) → size ≤ 4294967295 → IsWellFormed hs
@@ -241,7 +241,7 @@ pub fn a_state_decides_each_step()
     ensures free { (p : Place) (hs hs' ks ks' : Heaps) → IsWellFormed hs → AreTwins hs hs' → (r r' : Bool)
         → Frees p hs ks r → Frees p hs' ks' r' → (r ≡ r') × AreTwins ks ks' }
     ensures relocate { (p : Place) (align : ℕ) (hs hs' ks ks' : Heaps) → IsWellFormed hs → AreTwins hs hs'
-        → (r r' : Option Place) → Relocates p align hs ks r → Relocates p align hs' ks' r'
+        → (r r' : Option Granted) → Relocates p align hs ks r → Relocates p align hs' ks' r'
         → (r ≡ r') × AreTwins ks ks' }
     ensures drop_empty { (keep : ℕ) (hs hs' ks ks' : Heaps) → AreTwins hs hs' → (r r' : Option ℕ)
         → DropsEmpty keep hs ks r → DropsEmpty keep hs' ks' r' → (r ≡ r') × AreTwins ks ks' }
@@ -274,8 +274,8 @@ pub fn a_state_decides_each_step()
     ensures last_live { (k : ℕ) (hs hs' : Heaps) → IsWellFormed hs → AreTwins hs hs'
         → last_live_in k hs'.realm (heap_at k hs') ≡ last_live_in k hs.realm (heap_at k hs) }
     ensures live_before { (p : Place) (hs hs' : Heaps) → IsWellFormed hs → AreTwins hs hs' → IsLive p hs
-        → live_before_in p.heap hs'.realm p.ticket (heap_at p.heap hs')
-        ≡ live_before_in p.heap hs.realm p.ticket (heap_at p.heap hs) }
+        → live_before_in p.heap hs'.realm (ticket_of p) (heap_at p.heap hs')
+        ≡ live_before_in p.heap hs.realm (ticket_of p) (heap_at p.heap hs) }
 {}
 
 /// A copy and the heaps that it was made of answer each list of calls alike, and so do heaps that differ in

@@ -3,7 +3,7 @@
 //! A `Heaps` holds heaps by number, each a `GuardedOf`: usual ones, all of one size or each twice as large as
 //! the one before it, and larger ones, each of the size of the request that it was made for. Nothing is known
 //! of the buffers: the caller makes the buffer of a number when he is told that its heap is new, and drops it
-//! when he is told that the heap was dropped. A `Place` is the number of a heap and a ticket there. Every call
+//! when he is told that the heap was dropped. A `Place` is the number of a heap and a grant there. Every call
 //! takes any place, and one that is not live changes nothing.
 //!
 //! ```
@@ -24,6 +24,7 @@ ghost use Rattle.std.specs.Prelude.{ℕ, ◌≡◌, ◌↔◌, ◌+◌, ◌^◌,
 ghost use Rattle.std.specs.Prelude.{false, true, length, min, option_copied, option_map, replicate};
 ghost use Rattle.offset_allocator.specs.Ranges.{Range};
 ghost use Rattle.offset_heaps.specs.Heaps.{slot};
+ghost use Rattle.offset_heaps.specs.Places.{ticket_of};
 ghost use Rattle.offset_heaps.specs.Slots.{ResetsIn};
 ghost use Rattle.offset_heaps.specs.Soundness.{IsNoted, IsWide};
 
@@ -140,7 +141,7 @@ impl<T: Tables> HeapsOf<T> {
     /// first request that none has room for.
     ///
     /// The realm is kept in places: a place of another realm is never live here. The heaps have realms too,
-    /// which are kept in their tickets: the numbers above `given`, one after another.
+    /// which are kept in places too: the numbers above `given`, one after another.
     ///
     /// # Errors
     ///
@@ -225,11 +226,12 @@ impl<T: Tables> HeapsOf<T> {
 
     // The heap of a place.
     fn heap_of(&self, place: &Place) -> Option<&GuardedOf<T>>
-        ensures range { range_of place.now self.now ≡ range_in place.now.ticket (option_copied result) }
+        ensures range { range_of place.now self.now ≡ range_in (ticket_of place.now) (option_copied result) }
         ensures heap { IsSome result → option_copied result ≡ heap_at place.now.heap self.now }
     {
-        if place.realm == self.realm {
-            self.heap(place.heap)
+        let (number, realm, _) = place.split();
+        if realm == self.realm {
+            self.heap(number)
         } else {
             None
         }
@@ -248,7 +250,7 @@ impl<T: Tables> HeapsOf<T> {
     {
         match self.heap_of(&place) {
             None => false,
-            Some(heap) => heap.is_live(place.ticket),
+            Some(heap) => heap.is_live(place.ticket(0)),
         }
     }
 
@@ -263,7 +265,7 @@ impl<T: Tables> HeapsOf<T> {
     {
         match self.heap_of(&place) {
             None => None,
-            Some(heap) => heap.size_of(place.ticket),
+            Some(heap) => heap.size_of(place.ticket(0)),
         }
     }
 
@@ -279,7 +281,7 @@ impl<T: Tables> HeapsOf<T> {
     {
         match self.heap_of(&place) {
             None => None,
-            Some(heap) => heap.offset_of(place.ticket),
+            Some(heap) => heap.offset_of(place.ticket(0)),
         }
     }
 
@@ -303,17 +305,15 @@ impl<T: Tables> HeapsOf<T> {
         ensures step { result ≡ true → FreesIn place self.old self.new }
         ensures accesses { TakesFewAccesses self.old self.new }
     {
-        if place.realm != self.realm {
+        let (number, realm, ticket) = place.split();
+        if realm != self.realm {
             return false;
         }
-        if !self
-            .slots
-            .free(place.heap, place.ticket, &mut self.accesses)
-        {
+        if !self.slots.free(number, ticket, &mut self.accesses) {
             return false;
         }
         self.index
-            .note(&self.slots, place.heap, self.limits, &mut self.accesses);
+            .note(&self.slots, number, self.limits, &mut self.accesses);
         true
     }
 

@@ -1,12 +1,12 @@
 //! Second ranges in other heaps, so that a heap can be emptied; and which one is the emptiest. It changes one
 //! slot by a grant, and notes it in the index.
 ghost use Rattle.std.specs.Prelude.{ℕ, ◌≡◌, ◌↔◌, ◌+◌, ◌*◌, ◌%◌, ◌^◌, ◌<◌, ◌≤◌, None, Some, IfSome, MatchOption};
-ghost use Rattle.std.specs.Prelude.{length};
+ghost use Rattle.std.specs.Prelude.{false, length};
 ghost use Rattle.offset_heaps.specs.Heaps.{numbers};
 ghost use Rattle.offset_heaps.specs.Relocating.{IsEmptiest, NoneLive, TakesUnits};
 
 use crate::HeapsOf;
-use crate::place::Place;
+use crate::place::{Granted, Place};
 use crate::slots::units_for;
 use offset_allocator::{Accesses, Tables};
 
@@ -24,7 +24,7 @@ pub fn emptiest_counted<T: Tables>(heaps: &HeapsOf<T>, count: &mut Accesses) -> 
 
 impl<T: Tables> HeapsOf<T> {
     ghost use Rattle.offset_heaps.specs.Heaps.{Grants, IsSame, KeepsOthers, range_of};
-    ghost use Rattle.offset_heaps.specs.Relocating.{IsTaker, NoneTakes, granted, size_of};
+    ghost use Rattle.offset_heaps.specs.Relocating.{IsTaker, NoneTakes, size_of};
 
     // The first heap that takes a range of `size` units of the heap `own`, which has `live` live units.
     fn taker(&mut self, own: u32, size: u32, align: u32, live: u32) -> Option<u32>
@@ -54,10 +54,10 @@ impl<T: Tables> HeapsOf<T> {
         )
     }
 
-    /// Grants a second range of as many units as that of a live place, in another heap, and returns its
-    /// place. The old range stays live until it is freed: so the units can be copied while the old ones are
-    /// still read, and the copies never overlap. Done for all live ranges of the `emptiest` heap, by
-    /// `last_live` and `live_before`, it empties that heap, which `drop_empty` then drops.
+    /// Grants a second range of as many units as that of a live place, in another heap, and returns its place
+    /// and its offset; its heap is never a new one. The old range stays live until it is freed: so the units can
+    /// be copied while the old ones are still read, and the copies never overlap. Done for all live ranges of the
+    /// `emptiest` heap, by `last_live` and `live_before`, it empties that heap, which `drop_empty` then drops.
     ///
     /// The heap is the first one, by number, that has room, other than the place's own, and in which at least
     /// as many units are live. A range of no units, which `shrink` may leave, needs room for one; since it adds
@@ -81,24 +81,24 @@ impl<T: Tables> HeapsOf<T> {
     /// let mesh = heaps.allocate(300).unwrap().place;
     /// heaps.free(old);
     /// let moved = heaps.relocate(mesh).unwrap();
-    /// assert_eq!((mesh.heap, moved.heap), (1, 0));
+    /// assert_eq!((mesh.heap, moved.place.heap, moved.offset), (1, 0, 500));
     /// ```
-    pub fn relocate(&mut self, place: Place) -> Option<Place>
+    pub fn relocate(&mut self, place: Place) -> Option<Granted>
         // It is refused exactly where no heap takes the range, and then all is as it was.
         ensures none { result ≡ None ↔ NoneTakes place 1 self.old }
         ensures same { result ≡ None → IsSame self.old self.new }
-        // The heap is the first that takes it.
-        ensures first { IfSome result (λ q. IsTaker place 1 self.old q.heap) }
+        // The heap is the first that takes it. None is made.
+        ensures first { IfSome result (λ g. IsTaker place 1 self.old g.place.heap) }
+        ensures found { IfSome result (λ g. g.is_new ≡ false) }
         // The new place was not live. It has as many units, and every other place keeps its range, if it has
         // one: so the old one does.
-        ensures not_live { IfSome result (λ q. range_of q self.old ≡ None) }
-        ensures range { IfSome result (λ q. range_of q self.new
-            ≡ Some (record { offset = q.ticket.offset; size = size_of place self.old })) }
-        ensures others { IfSome result (λ q. KeepsOthers q self.old self.new) }
+        ensures not_live { IfSome result (λ g. range_of g.place self.old ≡ None) }
+        ensures range { IfSome result (λ g. range_of g.place self.new
+            ≡ Some (record { offset = g.offset; size = size_of place self.old })) }
+        ensures others { IfSome result (λ g. KeepsOthers g.place self.old self.new) }
         ensures stays { range_of place self.new ≡ range_of place self.old }
         // The step of its heap: a grant of these units. All other heaps are as they were.
-        ensures grants { IfSome result (λ q. Grants (size_of place self.old) 1 self.old self.new
-            (granted q)) }
+        ensures grants { IfSome result (Grants (size_of place self.old) 1 self.old self.new) }
         ensures accesses { (bits : ℕ) → numbers self.old ≤ 2 ^ bits
             → self.new.accesses ≤ self.old.accesses + numbers self.old + 16 * bits + 32 }
     {
@@ -115,37 +115,36 @@ impl<T: Tables> HeapsOf<T> {
     /// let uniforms = heaps.allocate_aligned(200, 256).unwrap().place;
     /// heaps.free(old);
     /// let moved = heaps.relocate_aligned(uniforms, 256).unwrap();
-    /// assert_eq!((moved.heap, heaps.offset_of(moved)), (0, Some(512)));
+    /// assert_eq!((moved.place.heap, moved.offset), (0, 512));
     /// ```
-    pub fn relocate_aligned(&mut self, place: Place, align: u32) -> Option<Place>
+    pub fn relocate_aligned(&mut self, place: Place, align: u32) -> Option<Granted>
         requires alignment { 1 ≤ align }
         // It is refused exactly where no heap takes the range, and then all is as it was.
         ensures none { result ≡ None ↔ NoneTakes place align self.old }
         ensures same { result ≡ None → IsSame self.old self.new }
-        // The heap is the first that takes it.
-        ensures first { IfSome result (λ q. IsTaker place align self.old q.heap) }
+        // The heap is the first that takes it. None is made.
+        ensures first { IfSome result (λ g. IsTaker place align self.old g.place.heap) }
+        ensures found { IfSome result (λ g. g.is_new ≡ false) }
         // The new place was not live. It has as many units, from a multiple of `align` on, and every other
         // place keeps its range, if it has one: so the old one does.
-        ensures not_live { IfSome result (λ q. range_of q self.old ≡ None) }
-        ensures range { IfSome result (λ q. range_of q self.new
-            ≡ Some (record { offset = q.ticket.offset; size = size_of place self.old })) }
-        ensures aligned { IfSome result (λ q. q.ticket.offset % align ≡ 0) }
-        ensures others { IfSome result (λ q. KeepsOthers q self.old self.new) }
+        ensures not_live { IfSome result (λ g. range_of g.place self.old ≡ None) }
+        ensures range { IfSome result (λ g. range_of g.place self.new
+            ≡ Some (record { offset = g.offset; size = size_of place self.old })) }
+        ensures aligned { IfSome result (λ g. g.offset % align ≡ 0) }
+        ensures others { IfSome result (λ g. KeepsOthers g.place self.old self.new) }
         ensures stays { range_of place self.new ≡ range_of place self.old }
         // The step of its heap: a grant of these units. All other heaps are as they were.
-        ensures grants { IfSome result (λ q. Grants (size_of place self.old) align self.old self.new
-            (granted q)) }
+        ensures grants { IfSome result (Grants (size_of place self.old) align self.old self.new) }
         ensures accesses { (bits : ℕ) → numbers self.old ≤ 2 ^ bits
             → self.new.accesses ≤ self.old.accesses + numbers self.old + 16 * bits + 32 }
     {
-        if place.realm != self.realm {
+        let (own, realm, ticket) = place.split();
+        if realm != self.realm {
             return None;
         }
-        let (size, live) = self
-            .slots
-            .units_at(place.heap, place.ticket, &mut self.accesses)?;
-        let number = self.taker(place.heap, size, align, live)?;
-        Some(self.grant_at(number, size, align).place)
+        let (size, live) = self.slots.units_at(own, ticket, &mut self.accesses)?;
+        let number = self.taker(own, size, align, live)?;
+        Some(self.grant_at(number, size, align))
     }
 
     /// The number of the heap with the fewest live units of those that have a live range, the last such by

@@ -32,14 +32,13 @@ impl<T: Tables> HeapsOf<T> {
         ensures step { IfSome result (ResizesAt (new_size how) place self.old self.new) }
         ensures accesses { TakesFewAccesses self.old self.new }
     {
-        if place.realm != self.realm {
+        let (number, realm, ticket) = place.split();
+        if realm != self.realm {
             return None;
         }
-        let done = self
-            .slots
-            .resize(place.heap, place.ticket, how, &mut self.accesses)?;
+        let done = self.slots.resize(number, ticket, how, &mut self.accesses)?;
         self.index
-            .note(&self.slots, place.heap, self.limits, &mut self.accesses);
+            .note(&self.slots, number, self.limits, &mut self.accesses);
         Some(done)
     }
 

@@ -54,7 +54,7 @@ fn room_at<T: Tables>(heap: &GuardedOf<T>, number: u32, limits: Limits, align: u
     if align == 1 { one } else { two }
 }
 
-/// Whether the node limit of the heap of a number has to be raised for a call that may add so many blocks.
+/// Whether the node limit of the heap of a number has to be raised for a call that may add `blocks` blocks.
 pub(crate) fn must_raise<T: Tables>(
     heap: &GuardedOf<T>,
     number: u32,
@@ -89,7 +89,7 @@ pub(crate) fn double_limit<T: Tables>(
     Ok(())
 }
 
-// Doubles the node limit of the heap of a number, where it has to be raised for so many blocks.
+// Doubles the node limit of the heap of a number, where it has to be raised for `blocks` more blocks.
 fn raise_heap<T: Tables>(
     alloc: Global,
     heap: &mut GuardedOf<T>,
@@ -384,7 +384,7 @@ impl<T: Tables> Slots<T> {
         self.heaps[number as usize] = heap;
     }
 
-    /// Doubles the node limit of the heap of a number, where it has to be raised for a grant that may add so many
+    /// Doubles the node limit of the heap of a number, where it has to be raised for a grant that may add `blocks`
     /// blocks.
     pub(crate) fn raise(
         &mut self,

@@ -9,7 +9,7 @@ ghost use Rattle.offset_heaps.specs.Tight.{GrantsTight, IsFirstHolding, IsRefuse
 ghost use Rattle.offset_heaps.specs.Tight.{IsWhyTight, NoneHolds};
 
 use crate::HeapsOf;
-use crate::place::{Granted, Place};
+use crate::place::Granted;
 use crate::refusal::Refusal;
 use offset_allocator::{Accesses, Tables};
 
@@ -70,24 +70,17 @@ impl<T: Tables> HeapsOf<T> {
         requires holds { CanHoldIn self.old.limits number size align (heap_at number self.old) }
         requires stays { MustRaiseIn self.old.limits number (blocks_needed align)
             (heap_at number self.old) → ⊥ }
-        ensures grants { GrantsTight size align self.old self.new result.place }
+        ensures grants { GrantsTight size align self.old self.new result }
         ensures number { result.place.heap ≡ number }
         ensures found { result.is_new ≡ false }
-        ensures aligned { result.place.ticket.offset % align ≡ 0 }
+        ensures aligned { result.offset % align ≡ 0 }
         ensures accesses { (bits : ℕ) → numbers self.old ≤ 2 ^ bits
             → self.new.accesses ≤ self.old.accesses + 12 * bits + 10 }
     {
         let ticket = self.slots.fill(number, size, align, &mut self.accesses);
         self.index
             .note(&self.slots, number, self.limits, &mut self.accesses);
-        Granted {
-            place: Place {
-                heap: number,
-                realm: self.realm,
-                ticket,
-            },
-            is_new: false,
-        }
+        Granted::of(number, self.realm, ticket, false)
     }
 
     // Grants a request in the first heap that holds it, and raises its node limit first where it has to.
@@ -100,8 +93,8 @@ impl<T: Tables> HeapsOf<T> {
         ensures not_empty { result ≡ Err Refusal.Empty → ⊥ }
         ensures same { OnErr result (IsSame self.old self.new) }
         ensures found { IfOk result (λ g. (g.is_new ≡ false) × (g.place.heap ≡ number)) }
-        ensures grants { IfOk result (λ g. GrantsTight size align self.old self.new g.place) }
-        ensures aligned { IfOk result (λ g. g.place.ticket.offset % align ≡ 0) }
+        ensures grants { IfOk result (GrantsTight size align self.old self.new) }
+        ensures aligned { IfOk result (λ g. g.offset % align ≡ 0) }
         ensures accesses { (bits : ℕ) → numbers self.old ≤ 2 ^ bits
             → self.new.accesses ≤ self.old.accesses + 12 * bits + 11 }
     {
@@ -120,9 +113,9 @@ impl<T: Tables> HeapsOf<T> {
         ensures found { IfOk result (λ g. g.is_new ≡ false → IsFirstHolding size align g.place.heap self.old) }
         ensures made { IfOk result (λ g. g.is_new ≡ true
             → NoneHolds size align self.old × IsNext size g.place.heap self.old) }
-        ensures fills { IfOk result (λ g. g.is_new ≡ false → GrantsTight size align self.old self.new g.place) }
+        ensures fills { IfOk result (λ g. g.is_new ≡ false → GrantsTight size align self.old self.new g) }
         ensures grants { IfOk result (λ g. g.is_new ≡ true → Grants size align self.old self.new g) }
-        ensures aligned { IfOk result (λ g. g.place.ticket.offset % align ≡ 0) }
+        ensures aligned { IfOk result (λ g. g.offset % align ≡ 0) }
         ensures accesses { (bits : ℕ) → numbers self.old ≤ 2 ^ bits
             → self.new.accesses ≤ self.old.accesses + numbers self.old + 16 * bits + 32 }
     {
@@ -154,9 +147,9 @@ impl<T: Tables> HeapsOf<T> {
             → NoneHolds size 1 self.old × IsNext size g.place.heap self.old) }
         ensures not_live { IfOk result (λ g. range_of g.place self.old ≡ None) }
         ensures range { IfOk result (λ g. range_of g.place self.new
-            ≡ Some (record { offset = g.place.ticket.offset; size = size })) }
+            ≡ Some (record { offset = g.offset; size = size })) }
         ensures others { IfOk result (λ g. KeepsOthers g.place self.old self.new) }
-        ensures fills { IfOk result (λ g. g.is_new ≡ false → GrantsTight size 1 self.old self.new g.place) }
+        ensures fills { IfOk result (λ g. g.is_new ≡ false → GrantsTight size 1 self.old self.new g) }
         ensures grants { IfOk result (λ g. g.is_new ≡ true → Grants size 1 self.old self.new g) }
         ensures accesses { (bits : ℕ) → numbers self.old ≤ 2 ^ bits
             → self.new.accesses ≤ self.old.accesses + numbers self.old + 16 * bits + 32 }
@@ -203,12 +196,12 @@ impl<T: Tables> HeapsOf<T> {
         // place keeps its range, if it has one.
         ensures not_live { IfOk result (λ g. range_of g.place self.old ≡ None) }
         ensures range { IfOk result (λ g. range_of g.place self.new
-            ≡ Some (record { offset = g.place.ticket.offset; size = size })) }
-        ensures aligned { IfOk result (λ g. g.place.ticket.offset % align ≡ 0) }
+            ≡ Some (record { offset = g.offset; size = size })) }
+        ensures aligned { IfOk result (λ g. g.offset % align ≡ 0) }
         ensures others { IfOk result (λ g. KeepsOthers g.place self.old self.new) }
         // The step of that heap, which was there, or of one that is made as by `allocate_aligned`. All other heaps
         // are as they were.
-        ensures fills { IfOk result (λ g. g.is_new ≡ false → GrantsTight size align self.old self.new g.place) }
+        ensures fills { IfOk result (λ g. g.is_new ≡ false → GrantsTight size align self.old self.new g) }
         ensures grants { IfOk result (λ g. g.is_new ≡ true → Grants size align self.old self.new g) }
         ensures accesses { (bits : ℕ) → numbers self.old ≤ 2 ^ bits
             → self.new.accesses ≤ self.old.accesses + numbers self.old + 16 * bits + 32 }

@@ -1,8 +1,8 @@
 //! Walks from one live range of a heap to the next in space. It changes nothing.
 ghost use Rattle.std.specs.Prelude.{◌≡◌, None, option_map};
-ghost use Rattle.offset_guarded.specs.Guard.{Ticket};
 ghost use Rattle.offset_heaps.specs.Heaps.{IsLive, heap_at};
 ghost use Rattle.offset_heaps.specs.Numbering.{first_live_in, live_after_in};
+ghost use Rattle.offset_heaps.specs.Places.{place_of, ticket_of};
 ghost use Rattle.offset_heaps.specs.Relocating.{last_live_in, live_before_in};
 
 use crate::HeapsOf;
@@ -13,19 +13,11 @@ use offset_guarded::Ticket;
 impl<T: Tables> HeapsOf<T> {
     // The place of a ticket in the heap of a number.
     fn place_at(&self, heap: u32, ticket: Option<Ticket>) -> Option<Place>
-        ensures { result ≡ option_map (λ (t : Ticket). record {
-          heap = heap;
-          realm = self.now.realm;
-          ticket = t;
-        }) ticket }
+        ensures { result ≡ option_map (place_of heap self.now.realm) ticket }
     {
         match ticket {
             None => None,
-            Some(ticket) => Some(Place {
-                heap,
-                realm: self.realm,
-                ticket,
-            }),
+            Some(ticket) => Some(Place::from_ticket(heap, self.realm, ticket)),
         }
     }
 
@@ -75,12 +67,15 @@ impl<T: Tables> HeapsOf<T> {
     /// ```
     pub fn live_before(&self, place: Place) -> Option<Place>
         ensures before { IsLive place self.now → result
-            ≡ live_before_in place.heap self.now.realm place.ticket (heap_at place.heap self.now) }
+            ≡ live_before_in place.heap self.now.realm (ticket_of place) (heap_at place.heap self.now) }
         ensures not_live { (IsLive place self.now → ⊥) → result ≡ None }
     {
         match self.heap_of(&place) {
             None => None,
-            Some(guarded) => self.place_at(place.heap, guarded.live_before(place.ticket)),
+            Some(guarded) => {
+                let (number, _, ticket) = place.split();
+                self.place_at(number, guarded.live_before(ticket))
+            }
         }
     }
 
@@ -94,12 +89,15 @@ impl<T: Tables> HeapsOf<T> {
     /// ```
     pub fn live_after(&self, place: Place) -> Option<Place>
         ensures after { IsLive place self.now → result
-            ≡ live_after_in place.heap self.now.realm place.ticket (heap_at place.heap self.now) }
+            ≡ live_after_in place.heap self.now.realm (ticket_of place) (heap_at place.heap self.now) }
         ensures not_live { (IsLive place self.now → ⊥) → result ≡ None }
     {
         match self.heap_of(&place) {
             None => None,
-            Some(guarded) => self.place_at(place.heap, guarded.live_after(place.ticket)),
+            Some(guarded) => {
+                let (number, _, ticket) = place.split();
+                self.place_at(number, guarded.live_after(ticket))
+            }
         }
     }
 }

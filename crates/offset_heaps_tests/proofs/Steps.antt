@@ -4,7 +4,6 @@ use Rattle.std.proofs.lemmas.Bool.{cases_Bool}
 use Rattle.std.specs.Prelude.{OnErr}
 use Rattle.std.specs.declared.alloc.AllocError.{AllocError}
 use Rattle.offset_heaps.specs.declared.place.Granted.{Granted}
-use Rattle.offset_heaps.specs.declared.place.Place.{Place}
 use Rattle.offset_heaps.specs.declared.refusal.Refusal.{Refusal}
 use Rattle.offset_heaps.specs.Heaps.{Heaps, FreesIn, Grants, IsSame, Puts, heap_at}
 use Rattle.offset_allocator.specs.Moving.Compacting.{Move}
@@ -14,18 +13,18 @@ use Rattle.offset_guarded.specs.Guard.{Guard}
 use Rattle.offset_heaps.specs.Changing.{CompactsHeap, MakesRoomAt, ResizesAt, NewSize}
 use Rattle.offset_heaps.specs.Extending.{ExtendsHeap}
 use Rattle.offset_heaps.specs.Histories.{IsStep}
+use Rattle.offset_heaps.specs.Places.{Place}
 use Rattle.offset_heaps.specs.Tight.{GrantsTight}
 use Rattle.offset_heaps.proofs.{Longer.realm_longer, Raising.raised_realm}
-use Rattle.offset_heaps.specs.Relocating.{granted}
 
 module _ (hs ks : Heaps) where
   pub grants : (size align : ℕ) (r : Result Granted Refusal) → OnErr r (IsSame hs ks) → IfOk r (Grants size align hs ks) → IsStep hs ks
   grants size align (Ok g) same step = inr (inl (size, align, g, step))
   grants size align (Err e) same step = inl same
 
-  pub relocates : (n align : ℕ) (r : Option Place) → (r ≡ None → IsSame hs ks) → IfSome r (λ q. Grants n align hs ks (granted q)) → IsStep hs ks
+  pub relocates : (n align : ℕ) (r : Option Granted) → (r ≡ None → IsSame hs ks) → IfSome r (Grants n align hs ks) → IsStep hs ks
   relocates n align None same step = inl (same refl)
-  relocates n align (Some q) same step = inr (inl (n, align, granted q, step))
+  relocates n align (Some g) same step = inr (inl (n, align, g, step))
 
   pub frees : (p : Place) (b : Bool) → (b ≡ false → IsSame hs ks) → (b ≡ true → FreesIn p hs ks) → IsStep hs ks
   frees p false same step = inl (same refl)
@@ -60,7 +59,7 @@ module _ (hs ks : Heaps) where
           let s = step (ap is_some e) in
           inr (inr (inr (inr (inr (inl (k, record { before = s.before; after = s.after; heap = s.heap; by = ap (λ (g : Guard). g.realm) s.by.serials; heaps = s.heaps }))))))
 
-  pub fills : (size align : ℕ) (r : Result Granted Refusal) → OnErr r (IsSame hs ks) → IfOk r (λ g. g.is_new ≡ false → GrantsTight size align hs ks g.place)
+  pub fills : (size align : ℕ) (r : Result Granted Refusal) → OnErr r (IsSame hs ks) → IfOk r (λ g. g.is_new ≡ false → GrantsTight size align hs ks g)
       → IfOk r (λ g. g.is_new ≡ true → Grants size align hs ks g) → IsStep hs ks
   fills size align (Err e) same old new = inl same
   fills size align (Ok g) same old new = elim (cases_Bool g.is_new) [

@@ -33,14 +33,14 @@ pub fn free(heaps: &mut Heaps, place: Place) -> bool
 }
 
 /// Grants a second range in another heap.
-pub fn relocate(heaps: &mut Heaps, place: Place) -> Option<Place>
+pub fn relocate(heaps: &mut Heaps, place: Place) -> Option<Granted>
     ensures { Relocates place 1 heaps.old heaps.new result }
 {
     heaps.relocate(place)
 }
 
 /// Grants a second range in another heap, with an alignment.
-pub fn relocate_aligned(heaps: &mut Heaps, place: Place, align: u32) -> Option<Place>
+pub fn relocate_aligned(heaps: &mut Heaps, place: Place, align: u32) -> Option<Granted>
     requires { 1 ≤ align }
     ensures { Relocates place align heaps.old heaps.new result }
 {

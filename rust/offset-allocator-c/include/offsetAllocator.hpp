@@ -668,6 +668,9 @@ public:
 
     bool isSpent() const { return oag_is_spent(space); }
     uint32 realm() const { return oag_realm(space); }
+    // By multiples of it ranges can move and keep the alignments that were asked for; 0: there is none.
+    uint32 step() const { return oag_step(space); }
+    bool raiseStep(uint32 align) { return oag_raise_step(space, align); }
 
 private:
     explicit GuardedAllocator(oag_allocator *made) noexcept : space(made) {}

@@ -64,7 +64,7 @@ private:
 
 // Where the state of the space begins in that of an Allocator, and in that of a GuardedAllocator from a place on.
 inline size_t spaceIn(const Bytes &, const Allocator &) { return 0; }
-inline size_t spaceBehindTickets(const Bytes &bytes, size_t at) { return at + 8 * (6 + size_t(bytes.number(at + 16, 8))); }
+inline size_t spaceBehindTickets(const Bytes &bytes, size_t at) { return at + 8 * (7 + size_t(bytes.number(at + 16, 8))); }
 inline size_t spaceIn(const Bytes &bytes, const GuardedAllocator &) { return spaceBehindTickets(bytes, 0); }
 
 // An array that grows, without exceptions; the items are zero at first.
@@ -515,6 +515,8 @@ public:
         tape.write("reset\n");
         space.reset();
     }
+    // No line is written, since each move has its step in its line.
+    bool raiseStep(uint32 align) { return space.raiseStep(align); }
     // After it a line with the larger limit follows, and those after which its space is as this one, whose grants are numbered
     // from 1 again.
     bool raiseLimit(uint32 maxAllocs) {

@@ -167,7 +167,8 @@ typedef enum oa_found {
     OA_BAD_REALM = 11,     /* A realm of more than 32 bits. */
     OA_BAD_SERIAL = 12,    /* A serial that is above the number of grants, or none for a live range. */
     OA_BAD_PLACE = 13,     /* Of many heaps: the state of a heap does not begin where the one before it ends. */
-    OA_BAD_SIZE = 14       /* Of many heaps: a heap with fewer units, or another node limit, than the limits say. */
+    OA_BAD_SIZE = 14,      /* Of many heaps: a heap with fewer units, or another node limit, than the limits say. */
+    OA_BAD_STEP = 15       /* A step of more than 32 bits. */
 } oa_found;
 
 /* A space that was read, or null, and what is wrong. at: the place of the byte from which on the bytes are wrong, or their
@@ -324,8 +325,8 @@ bool oa_compact_by(oa_allocator *space, uint32_t step, void (*moved)(void *user,
  * the rest is 0. Handles, alignments and `moved` are as of oa_compact_by; all that the free blocks give up is one free block
  * behind the last range that moved.
  * Not done, and nothing changes, where no node is left and of the free blocks that would slide none is used up: a larger
- * budget, or a smaller step, may help; also where `step` is 0, or if the allocator is null. Cost: 5 accesses a block, 42 for
- * each range that the budget allows, and 60; at most 26 a block, and 60. */
+ * budget, or a smaller step, may help; also where `step` is 0, or if the allocator is null. Cost: 4 accesses a block, 42 for
+ * each range that the budget allows, and 60; at most 21 a block, and 40. */
 oa_progress oa_compact_within(oa_allocator *space, uint32_t step, uint32_t from, uint32_t most_units, uint32_t most_ranges,
                               void (*moved)(void *user, oa_move range), void *user);
 
@@ -627,6 +628,14 @@ bool oag_is_spent(const oag_allocator *space);
 
 /* The realm of its tickets; 0 for null. */
 uint32_t oag_realm(const oag_allocator *space);
+
+/* The step: the least common multiple of the alignments of all grants since the space was made or reset, by multiples of
+ * which its ranges can move and keep them; 1 at first, and 0 where it has more than 32 bits, or for null. */
+uint32_t oag_step(const oag_allocator *space);
+
+/* Takes an alignment into the step that no request says, as of sizes or places that were given. False, and nothing is
+ * changed, where it is 0, or for null. */
+bool oag_raise_step(oag_allocator *space, uint32_t align);
 
 /* As oa_would_begin. */
 oa_beginning oag_would_begin(const oag_allocator *space, uint32_t size, uint32_t align);

@@ -88,8 +88,9 @@ const NO_LIMITS: HeapLimits = HeapLimits { size: 0, max_allocs: 0, most: 0, most
 const NOTHING_AT_ALL: All = All { heaps: 0, largest_free_region: 0, units: 0, live_units: 0, free_units: 0 };
 
 fn at(found: Option<Place>) -> At {
-    found.map_or(NOWHERE, |Place { heap, realm, ticket }| {
-        At { ticket: guard(Some(ticket)), heap, realm }
+    found.map_or(NOWHERE, |place| {
+        // a ticket has no offset in C
+        At { ticket: guard(Some(place.ticket(0))), heap: place.heap, realm: place.realm }
     })
 }
 
@@ -105,13 +106,18 @@ fn why(refusal: Option<Refusal>) -> Why {
 
 fn answer(result: Result<Granted, Refusal>) -> Answer {
     match result {
-        Ok(Granted { place, is_new }) => Answer { place: at(Some(place)), is_new, refusal: Why::Granted },
+        Ok(granted) => Answer { place: at(Some(granted.place)), is_new: granted.is_new, refusal: Why::Granted },
         Err(refusal) => Answer { place: NOWHERE, is_new: false, refusal: why(Some(refusal)) },
     }
 }
 
 fn place(At { ticket: guard, heap, realm }: At) -> Place {
-    Place { heap, realm, ticket: ticket(guard) }
+    Place::from_ticket(heap, realm, ticket(guard))
+}
+
+// The place of a second range.
+fn second(granted: Option<Granted>) -> Option<Place> {
+    granted.map(|granted| granted.place)
 }
 
 // Calls C with the number of a heap and each move in it, where it passed a function.
@@ -215,10 +221,10 @@ exports! {
         heaps.offset_of(place(at)).unwrap_or(NO_SPACE)
     } else NO_SPACE;
 
-    fn oah_relocate([heaps: &mut ManyHeaps], from: At) -> At { at(heaps.relocate(place(from))) } else NOWHERE;
+    fn oah_relocate([heaps: &mut ManyHeaps], from: At) -> At { at(second(heaps.relocate(place(from)))) } else NOWHERE;
 
     fn oah_relocate_aligned([heaps: &mut ManyHeaps], from: At, align: u32) -> At {
-        if align != 0 { at(heaps.relocate_aligned(place(from), align)) } else { NOWHERE }
+        if align != 0 { at(second(heaps.relocate_aligned(place(from), align))) } else { NOWHERE }
     } else NOWHERE;
 
     fn oah_emptiest([heaps: &ManyHeaps],) -> u32 { heaps.emptiest().unwrap_or(NO_SPACE) } else NO_SPACE;

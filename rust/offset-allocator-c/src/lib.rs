@@ -199,6 +199,7 @@ pub enum Found {
     Serial,
     Place,
     Size,
+    Step,
 }
 
 /// A space that was read, or what is wrong with the bytes, and where.
@@ -350,6 +351,7 @@ fn guarded_fault(kind: offset_allocator_guarded::StateFaultKind) -> Found {
         offset_allocator_guarded::StateFaultKind::Length => Found::Length,
         offset_allocator_guarded::StateFaultKind::Form => Found::Form,
         offset_allocator_guarded::StateFaultKind::Realm => Found::Realm,
+        offset_allocator_guarded::StateFaultKind::Step => Found::Step,
         offset_allocator_guarded::StateFaultKind::Checksum => Found::Checksum,
         offset_allocator_guarded::StateFaultKind::Serial => Found::Serial,
         offset_allocator_guarded::StateFaultKind::Allocator(kind) => fault(kind),
@@ -529,13 +531,7 @@ exports! {
     } else NOTHING;
 
     fn oa_free([space: &mut Space], allocation: Handle) -> bool {
-        match live(space, allocation) {
-            None => false,
-            Some(allocation) => {
-                space.free(allocation);
-                true
-            }
-        }
+        Allocation::from_parts(allocation.offset, allocation.metadata).is_some_and(|allocation| space.free_if_live(allocation))
     } else false;
 
     fn oa_is_live([space: &Space], allocation: Handle) -> bool { live(space, allocation).is_some() } else false;
@@ -926,6 +922,15 @@ exports! {
     fn oag_is_spent([space: &GuardedSpace],) -> bool { space.is_spent() } else true;
 
     fn oag_realm([space: &GuardedSpace],) -> u32 { space.realm() } else 0;
+
+    fn oag_step([space: &GuardedSpace],) -> u32 { space.step().unwrap_or(0) } else 0;
+
+    fn oag_raise_step([space: &mut GuardedSpace], align: u32) -> bool {
+        if align != 0 {
+            space.raise_step(align);
+        }
+        align != 0
+    } else false;
 
     fn oag_ticket_of([space: &GuardedSpace], allocation: Handle) -> Guard {
         guard(Allocation::from_parts(allocation.offset, allocation.metadata).and_then(|live| space.ticket(live)))

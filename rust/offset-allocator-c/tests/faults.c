@@ -59,12 +59,12 @@ static uint8_t *put_space(uint8_t *at, size_t fault) {
 
 /* The serials of the four names, and the space. */
 static uint8_t *put_tickets(uint8_t *at, uint64_t realm, size_t fault) {
-    const uint64_t numbers[] = {1263812943, 1, 4, 4, realm, 1, 2, 0, 3};
-    return put_space(put_all(at, numbers, 9), fault);
+    const uint64_t numbers[] = {1263812943, 2, 4, 4, realm, 1, 1, 2, 0, 3};
+    return put_space(put_all(at, numbers, 10), fault);
 }
 
 int main(void) {
-    const size_t own = 48 + 8 * 4 + 64, before = 96 + 8 * 2;
+    const size_t own = 56 + 8 * 4 + 64, before = 96 + 8 * 2;
     for (size_t n = 0; n < FAULTS; n++) {
         oa_state *bytes = oa_state_new(64);
         put_space(oa_state_bytes(bytes), n);
@@ -89,12 +89,12 @@ int main(void) {
         oah_drop(heaps.heaps);
         /* a serial that was not given, in the second heap */
         if (faults[n].place == -2) {
-            put64(oa_state_bytes(bytes) + before + own + 40, 5);
+            put64(oa_state_bytes(bytes) + before + own + 48, 5);
             CHECK(oah_read_state(bytes, 2, 6).found == OA_BAD_CHECKSUM);
-            const uint64_t wrong[] = {1263812943, 1, 4, 4, 2, 1, 5, 0, 3};
-            put_all(oa_state_bytes(bytes) + before + own, wrong, 9);
+            const uint64_t wrong[] = {1263812943, 2, 4, 4, 2, 1, 1, 5, 0, 3};
+            put_all(oa_state_bytes(bytes) + before + own, wrong, 10);
             heaps = oah_read_state(bytes, 2, 6);
-            CHECK(!heaps.heaps && heaps.found == OA_BAD_SERIAL && heaps.at == before + own + 48);
+            CHECK(!heaps.heaps && heaps.found == OA_BAD_SERIAL && heaps.at == before + own + 56);
         }
         oa_state_drop(bytes);
     }

@@ -129,9 +129,9 @@ static void states(void) {
     oah_place a = oah_allocate(heaps, 60).place;
     CHECK(oah_allocate(heaps, 60).is_new && oah_give_up(heaps, 1));
     oa_state *state = oah_write_state(heaps);
-    /* one block is live and one is free, and each of 2 nodes was granted or may be: 48 and at most 16, and 32, 16 and 4 */
+    /* one block is live and one is free, and each of 2 nodes was granted or may be: 56 and at most 16, and 32, 16 and 4 */
     size_t own = oa_state_size(state) - 96 - 3 * 8;
-    CHECK(own == 48 + 8 * 2 + 32 + 2 * 8 + 4);
+    CHECK(own == 56 + 8 * 2 + 32 + 2 * 8 + 4);
     uint64_t numbers[] = {1397244239, 3, 100, 100, 4, 4, 2, 1, 2, 9, 0, own, own, own}, sum = 0;
     for (int i = 0; i < 14; i++) {
         sum = sum * 1099511628211u + numbers[i];

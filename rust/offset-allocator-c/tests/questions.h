@@ -20,10 +20,11 @@
     row(free_units, freeUnits, 100, 80, 77, 0) \
     row(live_units, liveUnits, 0, 20, 23, 0)
 
-/* those of tickets alone: no serial but the first few is given */
+/* those of tickets alone: no serial but the first few is given, and no alignment was asked for */
 #define QUESTIONS_OF_TICKETS(row) \
     row(is_spent, isSpent, false, false, false, true) \
-    row(realm, realm, 5, 5, 5, 0)
+    row(realm, realm, 5, 5, 5, 0) \
+    row(step, step, 1, 1, 1, 0)
 
 /* What a row says of a state, for a file that says how it asks: ASK. */
 #define FRESH(name, in_cpp, fresh, used, full, none) CHECK(ASK(name, in_cpp) == (fresh));

@@ -509,6 +509,7 @@ static void tickets() {
     GuardedAllocator g = GuardedAllocator::withRealm(100, 16, 3), other = GuardedAllocator::withRealm(100, 16, 4);
     Ticket t = g.allocate(10), foreign = other.allocate(10), none;
     CHECK(g && t && !none && t != none && t == t && t.serial == 1 && t.realm == 3 && g.realm() == 3 && !g.isSpent());
+    CHECK(g.step() == 1 && g.raiseStep(4) && !g.raiseStep(0) && g.step() == 4);
     CHECK(g.isLive(t) && g.sizeOf(t) == 10 && g.offsetOf(t) == 0 && !g.isLive(none) && !g.isLive(foreign) && !g.free(foreign));
     CHECK(g.free(t) && !g.free(t));
     Ticket u = g.allocate(20);
@@ -640,15 +641,15 @@ static void states() {
     GuardedAllocator copy = guarded.clone();
     guarded.free(t);
     CHECK(copy.isLive(t) && !guarded.isLive(t));
-    CHECK(copy.save(level) && level.size() == 48 + 2 * 8 + 32 + 2 * 8 + 4);
+    CHECK(copy.save(level) && level.size() == 56 + 2 * 8 + 32 + 2 * 8 + 4);
     GuardedAllocator::Loaded restored = GuardedAllocator::load(level.data(), level.size());
     CHECK(restored.found == OA_SPACE_READ && restored.space.isLive(t) && restored.space.realm() == 5);
     CHECK(restored.space.allocate(20) == copy.allocate(20) && restored.space.free(t) && !restored.space.free(t));
-    level[47] ^= 1;
+    level[55] ^= 1;
     GuardedAllocator::Loaded lost = GuardedAllocator::load(level.data(), level.size());
-    CHECK(!lost.space && lost.found == OA_BAD_CHECKSUM && lost.at == 56);
-    CHECK(GuardedAllocator::load(level.data(), 47).found == OA_BAD_LENGTH && !GuardedAllocator::load(nullptr, 0).space);
-    CHECK(!lost.space.save(level) && level.size() == 116);
+    CHECK(!lost.space && lost.found == OA_BAD_CHECKSUM && lost.at == 64);
+    CHECK(GuardedAllocator::load(level.data(), 55).found == OA_BAD_LENGTH && !GuardedAllocator::load(nullptr, 0).space);
+    CHECK(!lost.space.save(level) && level.size() == 124);
 }
 
 // Behind 30 live units are 70 free ones, which are filed as 64.

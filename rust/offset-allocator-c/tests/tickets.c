@@ -196,20 +196,20 @@ static void from_the_end(void) {
 /* what is written is read back, with the same tickets */
 static void states(void) {
     /* the tickets of a space of 100 units and a limit of 5 with one grant of 40 units in realm 7: the form, the version,
-     * two serials, one grant, the realm, 1 for the name 0 and 0 for the name 1; the checksum is worked out below */
+     * two serials, one grant, the realm, the step, 1 for the name 0 and 0 for the name 1; the checksum is worked out below */
     static const uint8_t first[] = {
-        'O', 'A', 'T', 'K', 0, 0, 0, 0, 1, 0, 0, 0, 0, 0, 0, 0, 2, 0, 0, 0, 0, 0, 0, 0, 1, 0, 0, 0, 0, 0, 0, 0,
-        7, 0, 0, 0, 0, 0, 0, 0, 1, 0, 0, 0, 0, 0, 0, 0, 0, 0, 0, 0, 0, 0, 0, 0};
-    static const uint64_t numbers[] = {1263812943, 1, 2, 1, 7, 1, 0};
+        'O', 'A', 'T', 'K', 0, 0, 0, 0, 2, 0, 0, 0, 0, 0, 0, 0, 2, 0, 0, 0, 0, 0, 0, 0, 1, 0, 0, 0, 0, 0, 0, 0,
+        7, 0, 0, 0, 0, 0, 0, 0, 1, 0, 0, 0, 0, 0, 0, 0, 1, 0, 0, 0, 0, 0, 0, 0, 0, 0, 0, 0, 0, 0, 0, 0};
+    static const uint64_t numbers[] = {1263812943, 2, 2, 1, 7, 1, 1, 0};
     oag_allocator *space = oag_with_realm(100, 5, 7);
     oag_ticket a = oag_allocate(space, 40);
     oa_state *state = oag_write_state(space);
-    /* 48 and 8 a serial, then 32, two blocks and a free one */
-    CHECK(oa_state_size(state) == 48 + 2 * 8 + 32 + 2 * 8 + 4 && memcmp(oa_state_bytes(state), first, 56) == 0);
+    /* 56 and 8 a serial, then 32, two blocks and a free one */
+    CHECK(oa_state_size(state) == 56 + 2 * 8 + 32 + 2 * 8 + 4 && memcmp(oa_state_bytes(state), first, 64) == 0);
     uint64_t sum = 0;
-    for (int i = 0; i < 7; i++) sum = sum * 1099511628211u + numbers[i];
-    for (int i = 0; i < 8; i++) CHECK(oa_state_bytes(state)[56 + i] == (uint8_t) (sum >> 8 * i));
-    CHECK(memcmp(oa_state_bytes(state) + 64, "OAST", 4) == 0);
+    for (int i = 0; i < 8; i++) sum = sum * 1099511628211u + numbers[i];
+    for (int i = 0; i < 8; i++) CHECK(oa_state_bytes(state)[64 + i] == (uint8_t) (sum >> 8 * i));
+    CHECK(memcmp(oa_state_bytes(state) + 72, "OAST", 4) == 0);
     CHECK(oag_free(space, a));
     oag_read read = oag_read_state(state, 5);
     CHECK(read.found == OA_SPACE_READ && read.at == oa_state_size(state) && oag_realm(read.space) == 7);
@@ -219,31 +219,31 @@ static void states(void) {
     CHECK(b.serial == 2 && oag_offset_of(read.space, b) == 40 && oag_free(read.space, a) && !oag_free(read.space, a));
     oag_drop(read.space);
     read = oag_read_state(state, 4);
-    CHECK(!read.space && read.found == OA_BAD_LIMIT && read.at == 64 + 12);
+    CHECK(!read.space && read.found == OA_BAD_LIMIT && read.at == 72 + 12);
     /* each byte of the tickets, changed alone */
     static const oa_found found[] = {OA_BAD_FORM, OA_BAD_FORM, OA_BAD_LENGTH, OA_BAD_CHECKSUM, OA_BAD_CHECKSUM};
-    for (int i = 0; i < 64; i++) {
+    for (int i = 0; i < 72; i++) {
         oa_state_bytes(state)[i] ^= 128;
         read = oag_read_state(state, 5);
-        oa_found wanted = i >= 36 && i < 40 ? OA_BAD_REALM : i >= 40 ? OA_BAD_CHECKSUM : found[i / 8];
+        oa_found wanted = i >= 36 && i < 40 ? OA_BAD_REALM : i >= 44 && i < 48 ? OA_BAD_STEP : i >= 40 ? OA_BAD_CHECKSUM : found[i / 8];
         CHECK(!read.space && read.found == wanted);
-        CHECK(read.at == (wanted == OA_BAD_FORM ? 0u : wanted == OA_BAD_REALM ? 32u : wanted == OA_BAD_LENGTH ? 116u : 56u));
+        CHECK(read.at == (wanted == OA_BAD_FORM ? 0u : wanted == OA_BAD_REALM ? 32u : wanted == OA_BAD_STEP ? 40u : wanted == OA_BAD_LENGTH ? 124u : 64u));
         oa_state_bytes(state)[i] ^= 128;
     }
-    oa_state_bytes(state)[64] ^= 1;
+    oa_state_bytes(state)[72] ^= 1;
     read = oag_read_state(state, 5);
-    CHECK(!read.space && read.found == OA_BAD_FORM && read.at == 64);
-    oa_state_bytes(state)[64] ^= 1;
-    /* a serial above the number of grants, and none for a live range; the checksum is right again */
+    CHECK(!read.space && read.found == OA_BAD_FORM && read.at == 72);
+    oa_state_bytes(state)[72] ^= 1;
+    /* a serial above the number of grants, none for a live range, and a state of another version; the checksum is right again */
     static const struct { int place; uint64_t number; oa_found found; size_t at; } wrong[] = {
-        {5, 2, OA_BAD_SERIAL, 40}, {6, 2, OA_BAD_SERIAL, 48}, {3, 0, OA_BAD_SERIAL, 40}, {5, 0, OA_BAD_SERIAL, 40},
-        {4, 4294967296u, OA_BAD_REALM, 32}, {3, 2, OA_SPACE_READ, 116}};
-    for (int k = 0; k < 6; k++) {
-        oa_state *changed = oa_state_new(116);
-        memcpy(oa_state_bytes(changed), oa_state_bytes(state), 116);
+        {6, 2, OA_BAD_SERIAL, 48}, {7, 2, OA_BAD_SERIAL, 56}, {3, 0, OA_BAD_SERIAL, 48}, {6, 0, OA_BAD_SERIAL, 48},
+        {4, 4294967296u, OA_BAD_REALM, 32}, {5, 4294967296u, OA_BAD_STEP, 40}, {1, 1, OA_BAD_FORM, 0}, {3, 2, OA_SPACE_READ, 124}};
+    for (int k = 0; k < 8; k++) {
+        oa_state *changed = oa_state_new(124);
+        memcpy(oa_state_bytes(changed), oa_state_bytes(state), 124);
         sum = 0;
-        for (int i = 0; i < 8; i++) {
-            uint64_t number = i == 7 ? sum : i == wrong[k].place ? wrong[k].number : numbers[i];
+        for (int i = 0; i < 9; i++) {
+            uint64_t number = i == 8 ? sum : i == wrong[k].place ? wrong[k].number : numbers[i];
             for (int j = 0; j < 8; j++) oa_state_bytes(changed)[8 * i + j] = (uint8_t) (number >> 8 * j);
             sum = sum * 1099511628211u + number;
         }
@@ -300,6 +300,29 @@ static void tight(void) {
     /* 50 units from 32 on: 40 begin at 40, and 40 at a multiple of 48 at 48, where 34 are left */
     CHECK(oag_free(space, rest) && oag_allocate_at(space, 82, 18).serial);
     CHECK(oag_refusal_tight(space, 40) == OA_GRANTED && oag_refusal_tight_aligned(space, 40, 20) == OA_GRANTED && oag_refusal_tight_aligned(space, 40, 48) == OA_FRAGMENTED);
+    oag_drop(space);
+}
+
+/* the step of grants, of a copy and of a state */
+static void steps(void) {
+    oag_allocator *space = oag_with_realm(4294967295u, 16, 5);
+    CHECK(oag_step(space) == 1 && oag_step(NULL) == 0 && !oag_raise_step(NULL, 2) && !oag_raise_step(space, 0));
+    CHECK(oag_allocate(space, 10).serial && oag_step(space) == 1);
+    CHECK(oag_allocate_aligned(space, 10, 12).serial && oag_step(space) == 12);
+    oag_ticket last = oag_allocate_tight_aligned(space, 10, 32);
+    CHECK(last.serial && oag_step(space) == 96 && oag_allocate_aligned(space, 10, 48).serial && oag_step(space) == 96);
+    CHECK(!oag_allocate_aligned(space, 4294967295u, 5).serial && oag_step(space) == 96);
+    CHECK(oag_raise_step(space, 20) && oag_step(space) == 480);
+    oag_allocator *copy = oag_clone(space);
+    oa_state *state = oag_write_state(space);
+    CHECK(oag_step(copy) == 480 && oag_raise_step(space, 4294967291u) && oag_step(space) == 0 && oag_raise_step(space, 2) && oag_step(space) == 0);
+    oag_read read = oag_read_state(state, 16);
+    CHECK(oag_step(read.space) == 480 && oag_raise_limit(read.space, 32) && oag_step(read.space) == 480);
+    oag_reset(space);
+    CHECK(oag_step(space) == 1);
+    oa_state_drop(state);
+    oag_drop(read.space);
+    oag_drop(copy);
     oag_drop(space);
 }
 
@@ -441,6 +464,7 @@ int main(void) {
     tight();
     places();
     reads();
+    steps();
     questions();
     nulls();
     dumps();

@@ -5,6 +5,7 @@
 use crate::GuardedOf;
 use crate::refusal::Refusal;
 use crate::serials::Serials;
+use crate::step::joined;
 use crate::ticket::Ticket;
 use offset_allocator::{Accesses, Allocation, AllocatorOf, Tables};
 
@@ -94,7 +95,10 @@ impl<T: Tables> GuardedOf<T> {
         }
         match self.space.allocate_aligned(size, align) {
             None => None,
-            Some(handle) => Some(ticket_for(&self.space, &mut self.serials, self.realm, handle)),
+            Some(handle) => {
+                self.step = joined(self.step, align);
+                Some(ticket_for(&self.space, &mut self.serials, self.realm, handle))
+            }
         }
     }
 
@@ -150,7 +154,10 @@ impl<T: Tables> GuardedOf<T> {
         }
         match self.space.allocate_tight_aligned(size, align) {
             None => None,
-            Some(handle) => Some(ticket_for(&self.space, &mut self.serials, self.realm, handle)),
+            Some(handle) => {
+                self.step = joined(self.step, align);
+                Some(ticket_for(&self.space, &mut self.serials, self.realm, handle))
+            }
         }
     }
 
@@ -247,7 +254,10 @@ impl<T: Tables> GuardedOf<T> {
         }
         match self.space.relocate_aligned(handle, align) {
             None => None,
-            Some(second) => Some(ticket_for(&self.space, &mut self.serials, self.realm, second)),
+            Some(second) => {
+                self.step = joined(self.step, align);
+                Some(ticket_for(&self.space, &mut self.serials, self.realm, second))
+            }
         }
     }
 

@@ -46,6 +46,7 @@ mod restore;
 mod save;
 mod serials;
 mod state;
+mod step;
 mod ticket;
 mod values;
 mod walks;
@@ -72,6 +73,8 @@ pub struct GuardedOf<T: Tables> {
     space: AllocatorOf<T>,
     serials: Serials,
     realm: u32,
+    // what `step` says, or 0 where there is none
+    step: u32,
 }
 
 impl<T: Tables> GuardedOf<T> {
@@ -114,11 +117,12 @@ impl<T: Tables> GuardedOf<T> {
             space,
             serials,
             realm,
+            step: 1,
         })
     }
 
-    /// A copy, with memory of its own, as `Allocator::try_clone` makes it, with the same realm and serials:
-    /// each ticket that is live here is live there. Serials go on from the same number in both, so a later
+    /// A copy, with memory of its own, as `Allocator::try_clone` makes it, with the same realm, serials
+    /// and step: each ticket that is live here is live there. Serials go on from the same number in both, so a later
     /// grant of one may have a ticket that is live in the other, for another range: use one copy in place of
     /// the other, as a snapshot, and not beside it.
     ///
@@ -143,11 +147,12 @@ impl<T: Tables> GuardedOf<T> {
             space,
             serials,
             realm: self.realm,
+            step: self.step,
         })
     }
 
     /// The same under another node limit, at least as large, as `Allocator::raised` makes it: a copy with the
-    /// same realm and serials, and with `max_allocs` in place of the limit. Put it in place of this one, and
+    /// same realm, serials and step, and with `max_allocs` in place of the limit. Put it in place of this one, and
     /// all tickets go on.
     ///
     /// The limit is at most `T::Index::MAX - 2`. It reserves what `with_realm` does for that limit,
@@ -182,6 +187,7 @@ impl<T: Tables> GuardedOf<T> {
             space,
             serials,
             realm: self.realm,
+            step: self.step,
         })
     }
 
@@ -226,15 +232,22 @@ impl<T: Tables> GuardedOf<T> {
         self.serials.is_spent()
     }
 
-    // The handle of a live ticket.
+    // The handle of a ticket that has the realm, and the serial that its name was last granted with.
     #[inline(always)]
-    fn handle(&self, ticket: Ticket) -> Option<Allocation<T::Index>> {
+    fn handle_fitting(&self, ticket: Ticket) -> Option<Allocation<T::Index>> {
         if ticket.realm() != self.realm || ticket.serial() != self.serials.at(ticket.name()) {
             return None;
         }
         let Some(handle) = Allocation::from_parts(ticket.offset, ticket.name()) else {
             return None;
         };
+        Some(handle)
+    }
+
+    // The handle of a live ticket.
+    #[inline(always)]
+    fn handle(&self, ticket: Ticket) -> Option<Allocation<T::Index>> {
+        let handle = self.handle_fitting(ticket)?;
         if self.space.is_live(handle) {
             Some(handle)
         } else {
@@ -337,17 +350,14 @@ impl<T: Tables> GuardedOf<T> {
     /// ```
     #[inline(always)]
     pub fn free(&mut self, ticket: Ticket) -> bool {
-        match self.handle(ticket) {
+        match self.handle_fitting(ticket) {
             None => false,
-            Some(handle) => {
-                self.space.free(handle);
-                true
-            }
+            Some(handle) => self.space.free_if_live(handle),
         }
     }
 
     /// Makes the whole space one free block again, as `Allocator::reset` does. No earlier ticket is ever live
-    /// again.
+    /// again. The step is 1.
     ///
     /// ```
     /// # use offset_allocator_guarded::*;
@@ -360,6 +370,7 @@ impl<T: Tables> GuardedOf<T> {
     /// ```
     pub fn reset(&mut self) {
         self.space.reset();
+        self.step = 1;
     }
 }
 

@@ -7,7 +7,7 @@ use core::fmt;
 pub(crate) const FORM: u64 = 1263812943;
 
 /// The version of the form.
-pub(crate) const VERSION: u64 = 1;
+pub(crate) const VERSION: u64 = 2;
 
 /// What is wrong with the bytes of a state, and where.
 #[derive(Clone, Copy, PartialEq, Debug)]
@@ -20,8 +20,8 @@ pub struct StateFault {
 }
 
 /// What is wrong with the bytes of a state: of the numbers of tickets the first that applies of `Length`, for
-/// fewer than 48 bytes, `Form`, `Length` again, for the counts, `Realm` and `Checksum`; then what is wrong with
-/// the space; and then with the first serial that is wrong. The place is that of the number that is wrong, if
+/// fewer than 56 bytes, `Form`, `Length` again, for the counts, `Realm`, `Step` and `Checksum`; then what is wrong
+/// with the space; and then with the first serial that is wrong. The place is that of the number that is wrong, if
 /// nothing else is said.
 #[derive(Clone, Copy, PartialEq, Debug)]
 pub enum StateFaultKind {
@@ -31,6 +31,8 @@ pub enum StateFaultKind {
     Form,
     /// The realm has more than 32 bits.
     Realm,
+    /// The step has more than 32 bits.
+    Step,
     /// The checksum is not that of the numbers of tickets.
     Checksum,
     /// The serial of a name: it is above the number of grants; or, where none is, there is none for a live
@@ -48,6 +50,7 @@ impl fmt::Display for StateFaultKind {
             StateFaultKind::Length => write!(f, "fewer bytes than the counts say"),
             StateFaultKind::Form => write!(f, "no state with tickets, or one of another version"),
             StateFaultKind::Realm => write!(f, "a realm of more than 32 bits"),
+            StateFaultKind::Step => write!(f, "a step of more than 32 bits"),
             StateFaultKind::Checksum => write!(f, "a checksum that is not that of the tickets"),
             StateFaultKind::Serial => write!(
                 f,

@@ -28,7 +28,7 @@ fn count() -> u64 {
 fn parts(state: &[u8]) -> (Vec<u64>, Vec<u8>) {
     let number = |place: usize| u64::from_le_bytes(state[8 * place..8 * place + 8].try_into().unwrap());
     let stored = number(2) as usize;
-    ((0..5 + stored).map(number).collect(), state[48 + 8 * stored..].to_vec())
+    ((0..6 + stored).map(number).collect(), state[56 + 8 * stored..].to_vec())
 }
 
 fn joined(numbers: &[u64], rest: &[u8]) -> Vec<u8> {
@@ -37,11 +37,17 @@ fn joined(numbers: &[u64], rest: &[u8]) -> Vec<u8> {
     all.chain(rest.iter().copied()).collect()
 }
 
-// A space, every ticket that it granted, and for each name the serial of its last grant.
+// A space, every ticket that it granted, for each name the serial of its last grant, and the step.
 struct Worked<T: Tables<Index = u32>> {
     space: GuardedOf<T>,
     held: Vec<Ticket>,
     last: HashMap<u32, u64>,
+    step: Option<u32>,
+}
+
+// The least common multiple, where it has 32 bits.
+fn common(step: u32, align: u32) -> Option<u32> {
+    (1..=u64::from(align)).map(|it| it * u64::from(step)).find(|it| it % u64::from(align) == 0).and_then(|it| it.try_into().ok())
 }
 
 impl<T: Tables<Index = u32>> Worked<T> {
@@ -65,7 +71,12 @@ impl<T: Tables<Index = u32>> Worked<T> {
                 self.grant(granted)
             }
             (3, _) => {
-                let granted = self.space.allocate_aligned(size, 1 + random.below(40));
+                let align = 1 + random.below(40);
+                let granted = self.space.allocate_aligned(size, align);
+                if granted.is_some() {
+                    self.step = self.step.and_then(|it| common(it, align));
+                }
+                assert_eq!(self.space.step(), self.step);
                 self.grant(granted)
             }
             (4, _) => {
@@ -77,8 +88,15 @@ impl<T: Tables<Index = u32>> Worked<T> {
             _ => {
                 match random.below(60) {
                     0 => self.space.compact(|_| {}),
-                    1 => self.space.reset(),
+                    1 => {
+                        self.space.reset();
+                        self.step = Some(1);
+                    }
                     2 => return (u64::from(self.space.extend(size)), None),
+                    3 => {
+                        self.space.raise_step(1 + size);
+                        self.step = self.step.and_then(|it| common(it, 1 + size));
+                    }
                     _ => {}
                 }
                 (u64::from(self.space.allocator().storage_report().largest_free_region), None)
@@ -90,7 +108,7 @@ impl<T: Tables<Index = u32>> Worked<T> {
 fn worked<T: Tables<Index = u32>>(random: &mut Random) -> Worked<T> {
     let (size, limit, realm) = (random.below(5_000), 2 + random.below(60), random.next() as u32);
     let space = GuardedOf::with_realm(Global, size, limit, realm).unwrap();
-    let mut made = Worked { space, held: Vec::new(), last: HashMap::new() };
+    let mut made = Worked { space, held: Vec::new(), last: HashMap::new(), step: Some(1) };
     for _ in 0..random.below(120) {
         made.call(random);
     }
@@ -112,13 +130,14 @@ fn goes_on<T: Tables<Index = u32>>(seed: u64, rounds: u64) {
         let names = own.last.keys().max().map_or(0, |it| it + 1);
         assert!(stored >= names && stored <= own.space.allocator().max_allocs());
         let serials: Vec<u64> = (0..stored).map(|it| own.last.get(&it).copied().unwrap_or(0)).collect();
-        let header = [0x4b54_414f, 1, u64::from(stored), own.held.len() as u64, u64::from(own.space.realm())];
+        let step = own.step.map_or(0, u64::from);
+        let header = [0x4b54_414f, 2, u64::from(stored), own.held.len() as u64, u64::from(own.space.realm()), step];
         assert_eq!(numbers, [&header[..], &serials].concat());
         assert_eq!(rest, <Vec<u8>>::from(own.space.allocator().write_state(Global).unwrap()));
         assert_eq!(joined(&numbers, &rest), state);
         let space = known(GuardedOf::<T>::read_state(Global, &state, own.space.allocator().max_allocs())).unwrap();
         assert_eq!(written(&space), state);
-        let mut read = Worked { space, held: own.held.clone(), last: own.last.clone() };
+        let mut read = Worked { space, held: own.held.clone(), last: own.last.clone(), step: own.step };
         for ticket in &own.held {
             assert_eq!(read.space.is_live(*ticket), own.space.is_live(*ticket));
             let range = (own.space.size_of(*ticket), own.space.offset_of(*ticket));
@@ -141,23 +160,26 @@ fn a_space_that_was_read_goes_on_alike() {
 
 // What is wrong with numbers of tickets whose checksum is right, before a space with these live names.
 fn fault_of(numbers: &[u64], live: &[u32], length: usize) -> Option<(usize, StateFaultKind)> {
-    let serials = &numbers[5..];
-    if (numbers[0], numbers[1]) != (1_263_812_943, 1) {
+    let serials = &numbers[6..];
+    if (numbers[0], numbers[1]) != (1_263_812_943, 2) {
         return Some((0, StateFaultKind::Form));
     }
-    if numbers[2] > (length as u64 - 48) / 8 {
+    if numbers[2] > (length as u64 - 56) / 8 {
         return Some((length, StateFaultKind::Length));
     }
     if numbers[4] >= 1 << 32 {
         return Some((32, StateFaultKind::Realm));
     }
+    if numbers[5] >= 1 << 32 {
+        return Some((40, StateFaultKind::Step));
+    }
     if let Some(place) = serials.iter().position(|it| *it > numbers[3]) {
-        return Some((40 + 8 * place, StateFaultKind::Serial));
+        return Some((48 + 8 * place, StateFaultKind::Serial));
     }
     let mut bare: Vec<u32> = live.iter().copied().filter(|it| serials.get(*it as usize).is_none_or(|it| *it == 0)).collect();
     bare.sort_unstable();
     let name = *bare.first()? as usize;
-    Some((if name < serials.len() { 40 + 8 * name } else { 16 }, StateFaultKind::Serial))
+    Some((if name < serials.len() { 48 + 8 * name } else { 16 }, StateFaultKind::Serial))
 }
 
 // Changes some of the numbers.
@@ -169,11 +191,11 @@ fn change(numbers: &mut Vec<u64>, random: &mut Random) {
             1 => numbers[place] = random.next(),
             2 => numbers[place] = numbers[place].wrapping_add(1),
             3 => numbers[place] = numbers[place].wrapping_sub(1),
-            // the number of grants, and the realm
+            // the number of grants, and the realm or the step
             4 => numbers[3] = numbers[3].wrapping_add(random.next() >> random.below(64)),
-            5 => numbers[4] = random.next() >> random.below(64),
+            5 => numbers[4 + random.below(2) as usize] = random.next() >> random.below(64),
             // one serial fewer, or more
-            6 if numbers.len() > 5 => {
+            6 if numbers.len() > 6 => {
                 numbers.pop();
                 numbers[2] = numbers[2].wrapping_sub(1);
             }
@@ -200,7 +222,7 @@ fn changed_states_are_read_or_refused() {
         change(&mut numbers, &mut random);
         let state = joined(&numbers, &rest);
         // as many numbers as the third says are in their place: else the checksum is that of others
-        let is_counted = numbers[2] == numbers.len() as u64 - 5;
+        let is_counted = numbers[2] == numbers.len() as u64 - 6;
         let live: Vec<u32> = own.space.allocator().blocks().filter_map(|it| it.allocation).map(|it| it.to_parts().1).collect();
         match known(GuardedOf::<ByNode<u32>>::read_state(Global, &state, 1_000)) {
             Err(StateFault { at, kind }) => {
@@ -215,7 +237,8 @@ fn changed_states_are_read_or_refused() {
                 read += 1;
                 assert!(is_counted && fault_of(&numbers, &live, state.len()).is_none(), "{numbers:?}");
                 assert_eq!(written(&space), state);
-                let mut other = Worked { space, held: Vec::new(), last: HashMap::new() };
+                let step = space.step();
+                let mut other = Worked { space, held: Vec::new(), last: HashMap::new(), step };
                 // what is freed here is never live again
                 let mut freed = Vec::new();
                 for handle in own.space.allocator().blocks().filter_map(|it| it.allocation) {
@@ -237,7 +260,7 @@ fn changed_states_are_read_or_refused() {
     }
     println!("{read} of {} read; faults: {kinds:?}", count());
     assert!(read > count() / 20);
-    assert_eq!(kinds.keys().map(String::as_str).collect::<Vec<_>>(), ["Checksum", "Form", "Length", "Realm", "Serial"]);
+    assert_eq!(kinds.keys().map(String::as_str).collect::<Vec<_>>(), ["Checksum", "Form", "Length", "Realm", "Serial", "Step"]);
 }
 
 // One byte more or fewer, or another bit.
@@ -250,7 +273,7 @@ fn changed_bytes_are_refused() {
         let read = |state: &[u8]| known(GuardedOf::<ByNode<u32>>::read_state(Global, state, 1_000));
         let cut = random.below(state.len() as u32) as usize;
         let fault = read(&state[..cut]).err().unwrap();
-        let tickets = 48 + 8 * parts(&state).0[2] as usize;
+        let tickets = 56 + 8 * parts(&state).0[2] as usize;
         let kind = if cut < tickets { StateFaultKind::Length } else { StateFaultKind::Allocator(SpaceFault::Length) };
         assert_eq!((fault.at, fault.kind), (cut, kind));
         state.push(0);
@@ -271,16 +294,16 @@ fn made_up_bytes_are_refused() {
         let length = random.below(160) as usize;
         let mut made: Vec<u8> = (0..length).map(|_| if random.below(3) == 0 { random.next() as u8 } else { 0 }).collect();
         if length >= 16 && random.below(2) == 0 {
-            made[..16].copy_from_slice(b"OATK\0\0\0\0\x01\0\0\0\0\0\0\0");
+            made[..16].copy_from_slice(b"OATK\0\0\0\0\x02\0\0\0\0\0\0\0");
         }
         assert!(known(GuardedOf::<ByNode<u32>>::read_state(Global, &made, u32::MAX)).is_err());
     }
     // a node limit is no number to request memory by before the caller admits it
     let space: GuardedOf<ByNode<u32>> = GuardedOf::with_realm(Global, 10, 100, 7).unwrap();
     let fault = known(GuardedOf::<ByNode<u32>>::read_state(Global, &written(&space), 99)).err().unwrap();
-    assert_eq!((fault.at, fault.kind), (48 + 12, StateFaultKind::Allocator(SpaceFault::Limit)));
+    assert_eq!((fault.at, fault.kind), (56 + 12, StateFaultKind::Allocator(SpaceFault::Limit)));
     let error: Box<dyn std::error::Error> = fault.into();
-    assert_eq!(error.to_string(), "a node limit that is not admitted, at byte 60");
+    assert_eq!(error.to_string(), "a node limit that is not admitted, at byte 68");
 }
 
 #[test]

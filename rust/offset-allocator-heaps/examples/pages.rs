@@ -31,7 +31,7 @@ impl Store {
             }
             self.buffers.insert(number, vec![0; size]);
         }
-        let from = granted.place.ticket.offset as usize;
+        let from = granted.offset as usize;
         self.buffers.get_mut(&number).unwrap()[from..from + bytes.len()].copy_from_slice(bytes);
         Ok(granted.place)
     }

@@ -5,7 +5,7 @@
 
 use crate::index::LARGER_KEY;
 use crate::limits::usual_room;
-use crate::place::{Granted, Place};
+use crate::place::Granted;
 use crate::refusal::Refusal;
 use crate::{HeapsOf, fresh};
 use offset_allocator::Tables;
@@ -58,7 +58,7 @@ impl<T: Tables> HeapsOf<T> {
             .first_at_least(LARGER_KEY as u64, &mut self.accesses)
     }
 
-    // Doubles the node limit of the heap of a number, where it has to be raised for a grant that may add so many
+    // Doubles the node limit of the heap of a number, where it has to be raised for a grant that may add `blocks`
     // blocks.
     pub(crate) fn raise(&mut self, number: u32, blocks: u32) -> Result<(), AllocError> {
         self.slots.raise(self.alloc, number, self.limits, blocks, &mut self.accesses)
@@ -70,14 +70,7 @@ impl<T: Tables> HeapsOf<T> {
         let ticket = self.slots.grant(number, size, align, &mut self.accesses);
         self.index
             .note(&self.slots, number, self.limits, &mut self.accesses);
-        Granted {
-            place: Place {
-                heap: number,
-                realm: self.realm,
-                ticket,
-            },
-            is_new: false,
-        }
+        Granted::of(number, self.realm, ticket, false)
     }
 
     // Grants a request in the first heap that has room for it, and raises its node limit first where it has to.
@@ -94,14 +87,7 @@ impl<T: Tables> HeapsOf<T> {
         self.made += 1;
         self.index
             .note(&self.slots, number, self.limits, &mut self.accesses);
-        Granted {
-            place: Place {
-                heap: number,
-                realm: self.realm,
-                ticket,
-            },
-            is_new: true,
-        }
+        Granted::of(number, self.realm, ticket, true)
     }
 
     // Makes the usual heap of a number for a request that it has room for.

@@ -21,12 +21,12 @@ fn ends_free<T: Tables>(heap: &GuardedOf<T>) -> bool {
     }
 }
 
-// Whether the node limit of the heap of a number has to be raised for so many units more.
+// Whether the node limit of the heap of a number has to be raised for `more` units.
 fn must_extend<T: Tables>(heap: &GuardedOf<T>, number: u32, limits: Limits, more: u32) -> bool {
     more > 0 && must_raise(heap, number, limits, 1) && !ends_free(heap)
 }
 
-// Doubles the node limit of the heap of a number, where it has to be raised for so many units more.
+// Doubles the node limit of the heap of a number, where it has to be raised for `more` units.
 fn raise_for<T: Tables>(
     alloc: Global,
     heap: &mut GuardedOf<T>,

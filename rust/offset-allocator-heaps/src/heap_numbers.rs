@@ -125,22 +125,11 @@ impl<T: Tables> HeapsOf<T> {
     pub fn place_after(&self, place: Place) -> Option<Place> {
         // what is read recalls that numbers have 32 bits
         let _ = &self.limits;
-        let (heap, realm, ticket) = (place.heap, place.realm, place.ticket);
-        let here = Place {
-            heap,
-            realm,
-            ticket,
-        };
-        if !self.is_live(here) {
+        if !self.is_live(place) {
             return None;
         }
-        let here = Place {
-            heap,
-            realm,
-            ticket,
-        };
-        match self.live_after(here) {
-            None => self.place_from(heap + 1),
+        match self.live_after(place) {
+            None => self.place_from(place.heap + 1),
             Some(next) => Some(next),
         }
     }

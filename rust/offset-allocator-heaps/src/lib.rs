@@ -5,7 +5,7 @@
 //! A `Heaps` holds heaps by number, each a `GuardedOf`: usual ones, all of one size or each twice as large as
 //! the one before it, and larger ones, each of the size of the request that it was made for. Nothing is known
 //! of the buffers: the caller makes the buffer of a number when he is told that its heap is new, and drops it
-//! when he is told that the heap was dropped. A `Place` is the number of a heap and a ticket there. Every call
+//! when he is told that the heap was dropped. A `Place` is the number of a heap and a grant there. Every call
 //! takes any place, and one that is not live changes nothing.
 //!
 //! ```
@@ -122,7 +122,7 @@ impl<T: Tables> HeapsOf<T> {
     /// first request that none has room for.
     ///
     /// The realm is kept in places: a place of another realm is never live here. The heaps have realms too,
-    /// which are kept in their tickets: the numbers above `given`, one after another.
+    /// which are kept in places too: the numbers above `given`, one after another.
     ///
     /// # Errors
     ///
@@ -223,8 +223,9 @@ impl<T: Tables> HeapsOf<T> {
 
     // The heap of a place.
     fn heap_of(&self, place: &Place) -> Option<&GuardedOf<T>> {
-        if place.realm == self.realm {
-            self.heap(place.heap)
+        let (number, realm, _) = place.split();
+        if realm == self.realm {
+            self.heap(number)
         } else {
             None
         }
@@ -246,7 +247,7 @@ impl<T: Tables> HeapsOf<T> {
     pub fn is_live(&self, place: Place) -> bool {
         match self.heap_of(&place) {
             None => false,
-            Some(heap) => heap.is_live(place.ticket),
+            Some(heap) => heap.is_live(place.ticket(0)),
         }
     }
 
@@ -264,7 +265,7 @@ impl<T: Tables> HeapsOf<T> {
     pub fn size_of(&self, place: Place) -> Option<u32> {
         match self.heap_of(&place) {
             None => None,
-            Some(heap) => heap.size_of(place.ticket),
+            Some(heap) => heap.size_of(place.ticket(0)),
         }
     }
 
@@ -283,7 +284,7 @@ impl<T: Tables> HeapsOf<T> {
     pub fn offset_of(&self, place: Place) -> Option<u32> {
         match self.heap_of(&place) {
             None => None,
-            Some(heap) => heap.offset_of(place.ticket),
+            Some(heap) => heap.offset_of(place.ticket(0)),
         }
     }
 
@@ -302,17 +303,15 @@ impl<T: Tables> HeapsOf<T> {
     /// # Ok::<(), AllocError>(())
     /// ```
     pub fn free(&mut self, place: Place) -> bool {
-        if place.realm != self.realm {
+        let (number, realm, ticket) = place.split();
+        if realm != self.realm {
             return false;
         }
-        if !self
-            .slots
-            .free(place.heap, place.ticket, &mut self.accesses)
-        {
+        if !self.slots.free(number, ticket, &mut self.accesses) {
             return false;
         }
         self.index
-            .note(&self.slots, place.heap, self.limits, &mut self.accesses);
+            .note(&self.slots, number, self.limits, &mut self.accesses);
         true
     }
 

@@ -64,7 +64,7 @@ impl<T: Tables> HeapsOf<T> {
     /// let limits = Limits { size: 1000, first_size: 1000, max_allocs: 100, first_allocs: 8, most: 2, most_larger: 1 };
     /// let mut heaps = Heaps::<u32>::with_realm(Global, limits, 7)?;
     /// let place = heaps.allocate(300).unwrap().place;
-    /// assert_eq!((place.realm, place.ticket.realm()), (7, 1));
+    /// assert_eq!((place.realm, place.heap_realm()), (7, 1));
     /// # Ok::<(), AllocError>(())
     /// ```
     #[track_caller]

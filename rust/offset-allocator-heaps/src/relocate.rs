@@ -4,7 +4,7 @@
 //! slot by a grant, and notes it in the index.
 
 use crate::HeapsOf;
-use crate::place::Place;
+use crate::place::{Granted, Place};
 use crate::slots::units_for;
 use offset_allocator::{Accesses, Tables};
 
@@ -35,10 +35,10 @@ impl<T: Tables> HeapsOf<T> {
         )
     }
 
-    /// Grants a second range of as many units as that of a live place, in another heap, and returns its
-    /// place. The old range stays live until it is freed: so the units can be copied while the old ones are
-    /// still read, and the copies never overlap. Done for all live ranges of the `emptiest` heap, by
-    /// `last_live` and `live_before`, it empties that heap, which `drop_empty` then drops.
+    /// Grants a second range of as many units as that of a live place, in another heap, and returns its place
+    /// and its offset; its heap is never a new one. The old range stays live until it is freed: so the units can
+    /// be copied while the old ones are still read, and the copies never overlap. Done for all live ranges of the
+    /// `emptiest` heap, by `last_live` and `live_before`, it empties that heap, which `drop_empty` then drops.
     ///
     /// The heap is the first one, by number, that has room, other than the place's own, and in which at least
     /// as many units are live. A range of no units, which `shrink` may leave, needs room for one; since it adds
@@ -66,10 +66,10 @@ impl<T: Tables> HeapsOf<T> {
     /// let mesh = heaps.allocate(300).unwrap().place;
     /// heaps.free(old);
     /// let moved = heaps.relocate(mesh).unwrap();
-    /// assert_eq!((mesh.heap, moved.heap), (1, 0));
+    /// assert_eq!((mesh.heap, moved.place.heap, moved.offset), (1, 0, 500));
     /// # Ok::<(), AllocError>(())
     /// ```
-    pub fn relocate(&mut self, place: Place) -> Option<Place> {
+    pub fn relocate(&mut self, place: Place) -> Option<Granted> {
         self.relocate_aligned(place, 1)
     }
 
@@ -91,20 +91,19 @@ impl<T: Tables> HeapsOf<T> {
     /// let uniforms = heaps.allocate_aligned(200, 256).unwrap().place;
     /// heaps.free(old);
     /// let moved = heaps.relocate_aligned(uniforms, 256).unwrap();
-    /// assert_eq!((moved.heap, heaps.offset_of(moved)), (0, Some(512)));
+    /// assert_eq!((moved.place.heap, moved.offset), (0, 512));
     /// # Ok::<(), AllocError>(())
     /// ```
     #[track_caller]
-    pub fn relocate_aligned(&mut self, place: Place, align: u32) -> Option<Place> {
+    pub fn relocate_aligned(&mut self, place: Place, align: u32) -> Option<Granted> {
         assert!(1 <= align, "the alignment must be at least 1");
-        if place.realm != self.realm {
+        let (own, realm, ticket) = place.split();
+        if realm != self.realm {
             return None;
         }
-        let (size, live) = self
-            .slots
-            .units_at(place.heap, place.ticket, &mut self.accesses)?;
-        let number = self.taker(place.heap, size, align, live)?;
-        Some(self.grant_at(number, size, align).place)
+        let (size, live) = self.slots.units_at(own, ticket, &mut self.accesses)?;
+        let number = self.taker(own, size, align, live)?;
+        Some(self.grant_at(number, size, align))
     }
 
     /// The number of the heap with the fewest live units of those that have a live range, the last such by

@@ -18,14 +18,13 @@ pub(crate) enum Resize {
 impl<T: Tables> HeapsOf<T> {
     // Makes the range of a place smaller or larger in place.
     fn resize(&mut self, place: Place, how: Resize) -> Option<bool> {
-        if place.realm != self.realm {
+        let (number, realm, ticket) = place.split();
+        if realm != self.realm {
             return None;
         }
-        let done = self
-            .slots
-            .resize(place.heap, place.ticket, how, &mut self.accesses)?;
+        let done = self.slots.resize(number, ticket, how, &mut self.accesses)?;
         self.index
-            .note(&self.slots, place.heap, self.limits, &mut self.accesses);
+            .note(&self.slots, number, self.limits, &mut self.accesses);
         Some(done)
     }
 

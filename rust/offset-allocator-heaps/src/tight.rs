@@ -4,7 +4,7 @@
 //! changes one slot, and notes it in the index.
 
 use crate::HeapsOf;
-use crate::place::{Granted, Place};
+use crate::place::Granted;
 use crate::refusal::Refusal;
 use offset_allocator::{Accesses, Tables};
 
@@ -51,14 +51,7 @@ impl<T: Tables> HeapsOf<T> {
         let ticket = self.slots.fill(number, size, align, &mut self.accesses);
         self.index
             .note(&self.slots, number, self.limits, &mut self.accesses);
-        Granted {
-            place: Place {
-                heap: number,
-                realm: self.realm,
-                ticket,
-            },
-            is_new: false,
-        }
+        Granted::of(number, self.realm, ticket, false)
     }
 
     // Grants a request in the first heap that holds it, and raises its node limit first where it has to.

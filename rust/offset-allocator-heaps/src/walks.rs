@@ -12,11 +12,7 @@ impl<T: Tables> HeapsOf<T> {
     fn place_at(&self, heap: u32, ticket: Option<Ticket>) -> Option<Place> {
         match ticket {
             None => None,
-            Some(ticket) => Some(Place {
-                heap,
-                realm: self.realm,
-                ticket,
-            }),
+            Some(ticket) => Some(Place::from_ticket(heap, self.realm, ticket)),
         }
     }
 
@@ -78,7 +74,10 @@ impl<T: Tables> HeapsOf<T> {
     pub fn live_before(&self, place: Place) -> Option<Place> {
         match self.heap_of(&place) {
             None => None,
-            Some(guarded) => self.place_at(place.heap, guarded.live_before(place.ticket)),
+            Some(guarded) => {
+                let (number, _, ticket) = place.split();
+                self.place_at(number, guarded.live_before(ticket))
+            }
         }
     }
 
@@ -98,7 +97,10 @@ impl<T: Tables> HeapsOf<T> {
     pub fn live_after(&self, place: Place) -> Option<Place> {
         match self.heap_of(&place) {
             None => None,
-            Some(guarded) => self.place_at(place.heap, guarded.live_after(place.ticket)),
+            Some(guarded) => {
+                let (number, _, ticket) = place.split();
+                self.place_at(number, guarded.live_after(ticket))
+            }
         }
     }
 }

@@ -39,5 +39,5 @@ fn vec_and_string_are_those_of_std() {
             own
         }
     }
-    assert_eq!([of_spaces::bytes().len(), of_tickets::bytes().len(), of_heaps::bytes().len()], [45, 93, 105]);
+    assert_eq!([of_spaces::bytes().len(), of_tickets::bytes().len(), of_heaps::bytes().len()], [45, 101, 105]);
 }

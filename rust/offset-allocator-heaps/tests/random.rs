@@ -9,7 +9,7 @@
 mod random;
 
 use offset_allocator::{ByField, ByNode, Tables};
-use offset_allocator_heaps::{Global, Granted, Heaps, HeapsOf, Limits, Place, Refusal, Ticket};
+use offset_allocator_heaps::{Global, Granted, Heaps, HeapsOf, Limits, Place, Refusal};
 use random::Xorshift as Numbers;
 use std::cmp::Ordering;
 use std::collections::{BTreeMap, HashMap};
@@ -40,11 +40,11 @@ fn class_value(units: u32) -> u32 {
     value
 }
 
-// What distinguishes places: the offsets of their tickets do not.
+// What distinguishes places.
 type Key = (u32, u32, u32, u64, u32);
 
 fn key(p: Place) -> Key {
-    (p.heap, p.realm, p.ticket.name(), p.ticket.serial(), p.ticket.realm())
+    (p.heap, p.realm, p.name(), p.serial(), p.heap_realm())
 }
 
 // Live ranges in space order, by offset, whether they have units, and name: of one offset those of no units come first.
@@ -73,7 +73,7 @@ struct Run<T: Tables> {
 impl<T: Tables> Run<T> {
     fn new(limits: Limits, state: u64) -> Self {
         let count = (limits.most + limits.most_larger) as usize;
-        let nowhere = Place { heap: 0, realm: 0, ticket: Ticket::from_parts(0, 0, 0, 0).unwrap() };
+        let nowhere = Place::from_parts(0, 0, 0, 0, 0).unwrap();
         Run {
             heaps: HeapsOf::with_realm(Global, limits, REALM).unwrap(),
             limits,
@@ -163,7 +163,7 @@ impl<T: Tables> Run<T> {
                 assert_eq!(why, said);
                 self.counts[0] += 1;
             }
-            (Ok((number, is_new)), Ok(Granted { place, is_new: said })) => {
+            (Ok((number, is_new)), Ok(Granted { place, offset, is_new: said })) => {
                 assert_eq!((number, is_new), (place.heap as usize, said));
                 assert_eq!(place.realm, REALM);
                 if is_new {
@@ -173,7 +173,7 @@ impl<T: Tables> Run<T> {
                     self.counts[14] += u64::from(usual && self.model[..number].iter().any(|h| h.is_none()));
                     let limit = if usual { self.limits.first_allocs } else { 4 };
                     self.model[number] = Some(Heap { units, limit, ranges: BTreeMap::new() });
-                    assert_eq!(place.ticket.realm(), self.made);
+                    assert_eq!(place.heap_realm(), self.made);
                     self.counts[1 + !usual as usize] += 1;
                 }
                 if raises {
@@ -182,7 +182,7 @@ impl<T: Tables> Run<T> {
                     heap.limit = most.min(2 * heap.limit);
                     self.counts[10] += 1;
                 }
-                self.grant(place, size, align);
+                self.grant(place, offset, size, align);
                 self.counts[3] += 1;
             }
             (expected, result) => panic!("{expected:?} expected of {size} at {align}: {result:?}"),
@@ -190,13 +190,12 @@ impl<T: Tables> Run<T> {
     }
 
     // A range that was granted in a heap that is there.
-    fn grant(&mut self, place: Place, size: u32, align: u32) {
+    fn grant(&mut self, place: Place, offset: u32, size: u32, align: u32) {
         let heap = self.model[place.heap as usize].as_mut().unwrap();
         assert_eq!(self.heaps.heap(place.heap).unwrap().allocator().max_allocs(), heap.limit);
-        let offset = place.ticket.offset;
         assert!(offset as u64 + size as u64 <= heap.units as u64);
         assert_eq!(offset % align, 0);
-        let own = (offset, size > 0, place.ticket.name());
+        let own = (offset, size > 0, place.name());
         if let Some((&(from, ..), &units)) = heap.ranges.range(..own).next_back() {
             assert!(from + units <= offset);
         }
@@ -228,15 +227,15 @@ impl<T: Tables> Run<T> {
         let takes = |n: usize, size: u32| n != own && !self.must_raise(n, align.min(2)) && fits(n, size) && fuller(n, size);
         let expected = live.and_then(|(_, size)| (0..self.model.len()).find(|&n| takes(n, size)));
         let second = if align == 1 { self.heaps.relocate(place) } else { self.heaps.relocate_aligned(place, align) };
-        assert_eq!(second.map(|p| p.heap as usize), expected);
+        assert_eq!(second.map(|granted| (granted.place.heap as usize, granted.is_new)), expected.map(|number| (number, false)));
         if let (Some(second), Some((_, size))) = (second, live) {
-            assert_eq!((second.realm, second.ticket.realm() <= self.made), (REALM, true));
-            self.grant(second, size, align);
+            assert_eq!((second.place.realm, second.place.heap_realm() <= self.made), (REALM, true));
+            self.grant(second.place, second.offset, size, align);
             self.counts[8] += 1;
             self.counts[15] += u64::from(size == 0);
         }
         self.ask(place);
-        second
+        second.map(|granted| granted.place)
     }
 
     // The places of a heap from its end on.
@@ -251,7 +250,7 @@ impl<T: Tables> Run<T> {
         let heap = self.model.get(number as usize).and_then(|h| h.as_ref());
         let expected: Vec<(u32, u32)> = heap.iter().flat_map(|h| h.ranges.iter().rev()).map(|(&(at, ..), &n)| (at, n)).collect();
         assert_eq!(ranges, expected);
-        assert!(found.iter().all(|p| p.heap == number && p.realm == REALM && p.ticket.offset == self.live[&key(*p)].0));
+        assert!(found.iter().all(|p| p.heap == number && p.realm == REALM && self.heaps.offset_of(*p) == Some(self.live[&key(*p)].0)));
         found
     }
 
@@ -275,19 +274,17 @@ impl<T: Tables> Run<T> {
     // A place that was given, at times with a part changed.
     fn place(&mut self) -> Place {
         let at = self.numbers.below(64) as usize;
-        let mut place = self.given[at];
-        let (offset, name, serial, realm) = place.ticket.to_parts();
+        let (mut heap, mut realm, mut name, mut serial, mut heap_realm) = self.given[at].to_parts();
         match self.numbers.below(24) {
-            0 => place.heap = self.numbers.below(self.model.len() as u64 + 2) as u32,
-            1 => place.realm = self.numbers.below(9) as u32,
-            2 => place.ticket = Ticket::from_parts(offset, self.numbers.below(14) as u32, serial, realm).unwrap(),
-            3 => place.ticket = Ticket::from_parts(offset, name, self.numbers.below(40), realm).unwrap(),
-            4 => place.ticket = Ticket::from_parts(offset, name, serial, self.numbers.below(self.made as u64 + 2) as u32).unwrap(),
-            5 => place.ticket.offset = self.numbers.next() as u32,
-            6 => place.heap = u32::MAX,
+            0 => heap = self.numbers.below(self.model.len() as u64 + 2) as u32,
+            1 => realm = self.numbers.below(9) as u32,
+            2 => name = self.numbers.below(14) as u32,
+            3 => serial = self.numbers.below(40),
+            4 => heap_realm = self.numbers.below(self.made as u64 + 2) as u32,
+            5 => heap = u32::MAX,
             _ => {}
         }
-        place
+        Place::from_parts(heap, realm, name, serial, heap_realm).unwrap()
     }
 
     // A range becomes smaller or larger in place, where the free units behind it, or the nodes, allow it.
@@ -308,7 +305,7 @@ impl<T: Tables> Run<T> {
             let mut after = None;
             loop {
                 let block = blocks.next().unwrap();
-                if block.allocation.is_some_and(|it| it.name() == place.ticket.name()) {
+                if block.allocation.is_some_and(|it| it.name() == place.name()) {
                     assert_eq!((block.offset, block.size), (at, size));
                     break after;
                 }
@@ -327,8 +324,8 @@ impl<T: Tables> Run<T> {
         assert_eq!(found, expected);
         if found == Some(true) {
             let ranges = &mut self.model[place.heap as usize].as_mut().unwrap().ranges;
-            assert_eq!(ranges.remove(&(at, size > 0, place.ticket.name())), Some(size));
-            ranges.insert((at, wanted > 0, place.ticket.name()), wanted);
+            assert_eq!(ranges.remove(&(at, size > 0, place.name())), Some(size));
+            ranges.insert((at, wanted > 0, place.name()), wanted);
             self.live.insert(key(place), (at, wanted));
         }
         self.ask(place);
@@ -415,10 +412,6 @@ impl<T: Tables> Run<T> {
             assert!(heap.ranges.range(..(from, false, 0)).next_back().is_none_or(|(&(at, ..), &units)| at + units <= to));
             heap.ranges.insert((to, size > 0, moved.2), size);
             self.live.insert(moved, (to, size));
-            let place = self.places[&moved];
-            let mut slid = place;
-            slid.ticket.offset = to;
-            self.places.insert(moved, slid);
         }
     }
 
@@ -433,8 +426,9 @@ impl<T: Tables> Run<T> {
         assert_eq!(heaps, self.model.iter().enumerate().filter_map(there).collect::<Vec<_>>());
         let (mut found, mut next) = (vec![], self.heaps.first_place());
         while let Some(place) = next {
-            assert_eq!(self.live[&key(place)].0, place.ticket.offset);
-            found.push((place.heap as usize, place.ticket.offset));
+            let offset = self.heaps.offset_of(place).unwrap();
+            assert_eq!((offset, self.places[&key(place)]), (self.live[&key(place)].0, place));
+            found.push((place.heap as usize, offset));
             next = self.heaps.place_after(place);
         }
         let ranges = |(n, h): (usize, &Option<Heap>)| h.iter().flat_map(|h| h.ranges.keys()).map(|&(at, ..)| (n, at)).collect::<Vec<_>>();
@@ -445,7 +439,7 @@ impl<T: Tables> Run<T> {
     fn empty(&mut self) {
         let number = self.numbers.below(self.model.len() as u64) as u32;
         let mut places: Vec<Place> = self.live.keys().filter(|k| k.0 == number).map(|k| self.places[k]).collect();
-        places.sort_by_key(|p| p.ticket.serial());
+        places.sort_by_key(|p| p.serial());
         places.into_iter().for_each(|place| self.free_place(place));
     }
 
@@ -460,7 +454,7 @@ impl<T: Tables> Run<T> {
         assert_eq!(self.heaps.free(place), live.is_some());
         if let Some((offset, size)) = live {
             let heap = self.model[place.heap as usize].as_mut().unwrap();
-            assert_eq!(heap.ranges.remove(&(offset, size > 0, place.ticket.name())), Some(size));
+            assert_eq!(heap.ranges.remove(&(offset, size > 0, place.name())), Some(size));
             self.counts[4] += 1;
         }
         self.ask(place);
@@ -658,16 +652,16 @@ fn larger_heaps() {
     let page = heaps.allocate(960).unwrap();
     assert_eq!((page.place.heap, page.is_new), (0, true));
     let large = heaps.allocate(961).unwrap();
-    assert_eq!((large.place.heap, large.is_new, large.place.ticket.offset), (1, true, 0));
+    assert_eq!((large.place.heap, large.is_new, large.offset), (1, true, 0));
     let all = heaps.allocate_aligned(u32::MAX, 1 << 31).unwrap();
-    assert_eq!((all.place.heap, all.is_new, all.place.ticket.offset), (2, true, 0));
+    assert_eq!((all.place.heap, all.is_new, all.offset), (2, true, 0));
     assert_eq!(heaps.allocate(2_000), Err(Refusal::Full));
     assert_eq!(heaps.totals().free_units, 40);
     assert!(heaps.free(large.place));
     assert_eq!(heaps.drop_empty(0), Some(1));
     // its number is used again, and the old place is not live
     let next = heaps.allocate(2_000).unwrap();
-    assert_eq!((next.place.heap, next.place.ticket.realm()), (1, 4));
+    assert_eq!((next.place.heap, next.place.heap_realm()), (1, 4));
     assert!(!heaps.is_live(large.place));
     assert!(!heaps.free(large.place));
     assert!(heaps.is_live(next.place));
@@ -722,7 +716,7 @@ fn a_range_comes_back() {
     assert!(heaps.free(gone) && heaps.free(also));
     let squares = |heaps: &Heaps<u32>| (0..3).map(|n| heaps.heap(n).unwrap().allocator().live_units().pow(2)).sum::<u32>();
     let mut go = |place: Place| {
-        let second = heaps.relocate(place).unwrap();
+        let second = heaps.relocate(place).unwrap().place;
         assert!(heaps.free(place));
         (second, second.heap, squares(&heaps))
     };
@@ -741,9 +735,9 @@ fn aligned_pages() {
     let limits = Limits { size: 1_024, first_size: 1_024, max_allocs: 4, first_allocs: 4, most: 2, most_larger: 0 };
     let mut heaps = Heaps::<u32>::with_realm(Global, limits, 3).unwrap();
     let first = heaps.allocate_aligned(1_024, 256).unwrap();
-    assert_eq!((first.place.heap, first.is_new, first.place.ticket.offset), (0, true, 0));
+    assert_eq!((first.place.heap, first.is_new, first.offset), (0, true, 0));
     let second = heaps.allocate_aligned(1_024, 1 << 31).unwrap();
-    assert_eq!((second.place.heap, second.is_new, second.place.ticket.offset), (1, true, 0));
+    assert_eq!((second.place.heap, second.is_new, second.offset), (1, true, 0));
     assert_eq!(heaps.allocate_aligned(1_024, 256), Err(Refusal::Full));
     assert_eq!(heaps.allocate_aligned(1_025, 256), Err(Refusal::TooLarge));
 }

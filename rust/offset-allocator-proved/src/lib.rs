@@ -67,7 +67,7 @@ pub use handle::Allocation;
 pub use index::{NodeIndex, NodeIndexNonMax};
 pub use layouts::by_field::ByField;
 pub use layouts::by_node::ByNode;
-pub use moves::budget::Progress;
+pub use moves::over_frames::Progress;
 pub use moves::pieces::{MovePieces, Piece};
 pub use moves::room::RoomCost;
 pub use nonmax::{NonMaxU16, NonMaxU32};
@@ -316,6 +316,31 @@ impl<T: Tables> AllocatorOf<T> {
     pub fn free(&mut self, allocation: Allocation<T::Index>) {
         assert!(self.is_live(allocation), "the handle must be live: {:?}", { allocation });
         self.release(allocation.name());
+    }
+
+    /// Frees the range of any handle, as `free` does, if it is live, and returns whether it was: so a caller who
+    /// does not know asks once. A handle that is not live changes nothing.
+    ///
+    /// It makes at most 128 accesses to the tables, and those of `is_live`, at most 8, which are not counted here;
+    /// it takes no memory.
+    ///
+    /// ```
+    /// # use offset_allocator_proved::*;
+    /// # let alloc = Global;
+    /// let mut space = Allocator::<u32>::new(alloc, 1000)?;
+    /// let mesh = space.allocate(300).unwrap();
+    /// assert!(space.free_if_live(mesh));
+    /// assert!(!space.free_if_live(mesh));
+    /// assert_eq!(space.free_units(), 1000);
+    /// # Ok::<(), AllocError>(())
+    /// ```
+    pub fn free_if_live(&mut self, allocation: Allocation<T::Index>) -> bool {
+        let name = allocation.name();
+        let live = self.is_live(allocation);
+        if live {
+            self.release(name);
+        }
+        live
     }
 
     /// Whether the handle is live here: its name is the name of a used block. `free` asks for exactly this.

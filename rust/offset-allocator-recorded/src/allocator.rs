@@ -70,6 +70,12 @@ impl<T: Tables, W: Write> Recorded<AllocatorOf<T>, W> {
         self.space.free(allocation);
     }
 
+    /// `AllocatorOf::free_if_live`: for a handle that is not live, `free 0` is written.
+    pub fn free_if_live(&mut self, allocation: Allocation<T::Index>) -> bool {
+        self.tape.write(format_args!("free {}", self.number(allocation)));
+        self.space.free_if_live(allocation)
+    }
+
     /// `AllocatorOf::shrink`: for a handle that is not live, `shrink 0` is written, and it panics.
     #[track_caller]
     pub fn shrink(&mut self, allocation: Allocation<T::Index>, size: u32) -> bool {

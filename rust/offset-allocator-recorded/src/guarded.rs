@@ -206,6 +206,11 @@ impl<T: Tables, W: Write> Recorded<GuardedOf<T>, W> {
         self.space.reset();
     }
 
+    /// `GuardedOf::raise_step`. No line is written, since each move has its step in its line.
+    pub fn raise_step(&mut self, align: u32) {
+        self.space.raise_step(align);
+    }
+
     /// `GuardedOf::raised` in place of this space: a larger node limit, with all that is live. A `space` line is written, with
     /// the lines after which its space is as this one, whose grants are numbered from 1 again.
     ///

@@ -312,7 +312,7 @@ impl<T: Tables, W: Write> RecordedHeaps<T, W> {
             if names.try_reserve(1).is_err() {
                 return self.tape.fail(io::ErrorKind::OutOfMemory.into());
             }
-            names.insert(place.ticket.name(), name);
+            names.insert(place.name(), name);
         }
     }
 
@@ -326,7 +326,7 @@ impl<T: Tables, W: Write> RecordedHeaps<T, W> {
     /// let mut heaps = RecordedHeaps::new(Heaps::<u32>::new(Global, limits).unwrap(), Vec::new()).unwrap();
     /// let mut meshes = Beside::new(Global);
     /// let rock = heaps.allocate(300).unwrap().place;
-    /// assert!(meshes.put(heaps.heap(rock.heap).unwrap(), rock.ticket, "mesh: rock").is_ok());
+    /// assert!(meshes.put(heaps.heap(rock.heap).unwrap(), rock.ticket(0), "mesh: rock").is_ok());
     /// heaps.name_all(rock.heap, &meshes, |name| name);
     /// let text = String::from_utf8(heaps.finish().1.unwrap()).unwrap();
     /// assert_eq!(text, "heap 0 space 1000 nodes 16 index 32\nheap 0 alloc 300\n#! heap 0 name 1 mesh: rock\n");
@@ -336,14 +336,14 @@ impl<T: Tables, W: Write> RecordedHeaps<T, W> {
         for (ticket, value) in beside.leaks().iter().flatten() {
             let is_named = self.grants.get(&heap).is_some_and(|grants| grants.1.contains_key(&ticket.name()));
             if !is_named {
-                self.name_live(Place { heap, realm, ticket: *ticket }, name(value));
+                self.name_live(Place::from_ticket(heap, realm, *ticket), name(value));
             }
         }
     }
 
     // The number of the grant of a place: 0, which no grant has, where it is not live.
     fn number(&self, place: Place) -> u32 {
-        let live = self.heaps.is_live(place).then_some(place.ticket.name());
+        let live = self.heaps.is_live(place).then_some(place.name());
         self.grants.get(&place.heap).map_or(0, |grants| grants.0.number(live))
     }
 
@@ -364,12 +364,12 @@ impl<T: Tables, W: Write> RecordedHeaps<T, W> {
         let out = |_| io::Error::from(io::ErrorKind::OutOfMemory);
         self.grants.try_reserve(1).map_err(out)?;
         let (numbers, names) = self.grants.entry(place.heap).or_default();
-        numbers.grant(place.ticket.name())?;
-        names.remove(&place.ticket.name());
+        numbers.grant(place.name())?;
+        names.remove(&place.name());
         // one of blanks alone is none
         if let Some(name) = name.filter(|name| !name.trim_ascii().is_empty()) {
             names.try_reserve(1).map_err(out)?;
-            names.insert(place.ticket.name(), name);
+            names.insert(place.name(), name);
         }
         Ok(())
     }
@@ -447,7 +447,7 @@ impl<T: Tables, W: Write> RecordedHeaps<T, W> {
     }
 
     /// `HeapsOf::relocate`.
-    pub fn relocate(&mut self, place: Place) -> Option<Place> {
+    pub fn relocate(&mut self, place: Place) -> Option<Granted> {
         self.relocate_aligned(place, 1)
     }
 
@@ -455,14 +455,15 @@ impl<T: Tables, W: Write> RecordedHeaps<T, W> {
     /// a request of the heap that takes it, with the name of the first, and where that was. For a place that is not live
     /// `none relocate` is written.
     #[track_caller]
-    pub fn relocate_aligned(&mut self, place: Place, align: u32) -> Option<Place> {
+    pub fn relocate_aligned(&mut self, place: Place, align: u32) -> Option<Granted> {
         let size = self.heaps.size_of(place);
         let found = self.heaps.relocate_aligned(place, align);
         match (size, found) {
             (None, _) => self.tape.write(format_args!("none relocate")),
             (Some(size), None) => self.tape.write(format_args!("none relocate {size} {align}")),
-            (Some(size), Some(second)) => {
-                let named = self.grants.get(&place.heap).and_then(|grants| grants.1.get(&place.ticket.name()));
+            (Some(size), Some(granted)) => {
+                let second = granted.place;
+                let named = self.grants.get(&place.heap).and_then(|grants| grants.1.get(&place.name()));
                 let is_named = named.is_some();
                 let of = format!("(of grant {}, heap {})", self.number(place), place.heap);
                 let name = named.map_or_else(|| of.clone(), |name| format!("{name} {of}"));
@@ -472,7 +473,7 @@ impl<T: Tables, W: Write> RecordedHeaps<T, W> {
                 }
                 // where a range comes from is no name of its own
                 if let Some((_, names)) = self.grants.get_mut(&second.heap).filter(|_| !is_named) {
-                    names.remove(&second.ticket.name());
+                    names.remove(&second.name());
                 }
             }
         }

@@ -45,7 +45,7 @@ fn heaps_become_larger_and_are_filled() {
     let [hole, rock] = [21, 70].map(|size| heaps.allocate(size).unwrap().place);
     // a request of 21 units is rounded up to 22, and of the last 9 units 4 begin at a multiple of 16
     assert!(heaps.free(hole) && heaps.name("fills").allocate_tight(21).unwrap().place.heap == 0);
-    assert_eq!(heaps.allocate_tight_aligned(4, 16).unwrap().place.ticket.offset, 96);
+    assert_eq!(heaps.allocate_tight_aligned(4, 16).unwrap().offset, 96);
     let other = heaps.allocate_tight(90).unwrap();
     assert_eq!((other.place.heap, other.is_new), (1, true));
     assert_eq!(heaps.allocate_tight(11), Err(Refusal::Full));
@@ -79,13 +79,13 @@ fn each_call_of_heaps_is_a_line() {
     assert_eq!(heaps.allocate(0), Err(Refusal::Empty));
     assert_eq!(heaps.name("too large").allocate_aligned(5001, 8), Err(Refusal::Full));
     // behind 300 units 24 from 320 on, and of the 656 units from 344 on none are granted to 660, rounded up to 704
-    assert_eq!(heaps.allocate_aligned(24, 64).unwrap().place.ticket.offset, 320);
+    assert_eq!(heaps.allocate_aligned(24, 64).unwrap().offset, 320);
     let page = heaps.allocate(660).unwrap();
     assert_eq!((page.place.heap, page.is_new), (1, true));
     // 660 units are live in heap 1, and 324 in heap 0; behind them 340 units, 336 from a multiple of 8 on
     assert_eq!(heaps.relocate(page.place), None);
     let moved = heaps.relocate_aligned(rock.place, 8).unwrap();
-    assert_eq!((moved.heap, moved.ticket.offset), (1, 664));
+    assert_eq!((moved.place.heap, moved.offset, moved.is_new), (1, 664, false));
     assert!(heaps.free(rock.place) && !heaps.free(rock.place));
     assert_eq!(heaps.relocate(rock.place), None);
     assert!(!heaps.drop_heap(1) && !heaps.drop_heap(7) && !heaps.give_up(7));
@@ -318,8 +318,9 @@ fn random_heaps<T: Tables>(seed: u64) -> (usize, usize) {
                 expected.push(match heaps.relocate_aligned(place, 1 + random.below(20)) {
                     None => if is_live { "none" } else { "gone" }.to_owned(),
                     Some(second) => {
-                        places.push(second);
-                        format!("heap {} at {}", second.heap, heaps.offset_of(second).unwrap())
+                        places.push(second.place);
+                        assert_eq!(heaps.offset_of(second.place), Some(second.offset));
+                        format!("heap {} at {}", second.place.heap, second.offset)
                     }
                 });
             }

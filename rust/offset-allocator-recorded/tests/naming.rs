@@ -143,7 +143,7 @@ fn a_second_range_has_the_name_of_the_first() {
     let mut tables = [Beside::new(Global), Beside::new(Global)];
     let places = [60, 30, 90].map(|size| heaps.allocate(size).unwrap().place);
     for (place, name) in places.iter().zip(["rock", "moss", "sky"]) {
-        assert!(tables[place.heap as usize].put(heaps.heap(place.heap).unwrap(), place.ticket, name).is_ok());
+        assert!(tables[place.heap as usize].put(heaps.heap(place.heap).unwrap(), place.ticket(0), name).is_ok());
     }
     for (number, table) in [0, 1].into_iter().zip(&tables) {
         heaps.name_all(number, table, |name| name);
@@ -182,8 +182,8 @@ fn what_has_no_name_of_its_own_gets_one() {
     let places = [60, 5, 90].map(|size| heaps.allocate(size).unwrap().place);
     let second = heaps.relocate(places[1]).unwrap();
     let (mut first, mut other) = (Beside::new(Global), Beside::new(Global));
-    assert!(first.put(heaps.heap(0).unwrap(), places[0].ticket, "rock").is_ok());
-    assert!(other.put(heaps.heap(1).unwrap(), second.ticket, "moss").is_ok());
+    assert!(first.put(heaps.heap(0).unwrap(), places[0].ticket(0), "rock").is_ok());
+    assert!(other.put(heaps.heap(1).unwrap(), second.place.ticket(second.offset), "moss").is_ok());
     heaps.name_all(0, &first, |name| name);
     heaps.name_all(1, &other, |name| name);
     let text = String::from_utf8(heaps.finish().1.unwrap()).unwrap();

@@ -1,14 +1,14 @@
 -- A compaction within a budget: where it begins, and how far it comes.
 use Rattle.offset_allocator.proofs.Common.{◌≡◌, ◌≢◌, ℕ, ◌+◌, ◌<◌, ◌≤◌, Bool, true, false, not, ◌&&◌, nat_le, List, [], ◌∷◌, ◌++◌, Some, None, if◌then◌else◌, refl, sym, ap, subst, ◌∙◌, arith, nat_tests, Block, units}
-use Rattle.offset_allocator.proofs.Common.{◌⊎◌, inl, inr, cases_lt, ◌↔◌, ◌%◌, nat_eq, ap₂, ends_used, first_or, last_or, one, true≢false, count_used, used_units, append_assoc, ChainCells, IsChain, IsSpace, HasPlace, blocks, Option}
-use Rattle.offset_allocator.proofs.{Linking.Places.placed, Tallies.tally_append}
+use Rattle.offset_allocator.proofs.Common.{◌⊎◌, inl, inr, cases_lt, ◌↔◌, ◌%◌, nat_eq, ap₂, ends_used, first_or, last_or, one, count_used, used_units, append_assoc, ChainCells, IsChain, IsSpace, HasPlace, blocks, Option}
+use Rattle.std.proofs.lemmas.Bool.{and_parts}
+use Rattle.offset_allocator.proofs.{Common.leb-true, Common.not-true, Linking.Places.placed, Tallies.tally_append}
 use Rattle.offset_allocator.proofs.Moving.Stepping.{emptied_free, emptied_used, freed_here, freed_now, freed_still}
 use Rattle.offset_allocator.specs.Moving.Spans.{all_steps}
-use Rattle.offset_allocator.proofs.{Sound.Fields, Moving.Rooms.apart_few, Views.ViewApart.apart_parts, Common.AreCoalesced, Common.max, Common.◌*◌, Moving.Compacting.live_append, Moving.Stepped.stepped_fewer, Moving.Stepped.stepped_length, Moving.Stepped.stepped_live}
-use Rattle.offset_allocator.proofs.Common.{View, IsWellFormed, append-nil, free_block, length, length-append, live, starts_free}
-use Rattle.offset_allocator.specs.declared.moves.budget.{Progress.Progress, Reach.Reach}
-use Rattle.offset_allocator.specs.{Accesses.Costs}
-use Rattle.offset_allocator.specs.Moving.{BySteps.CanFollow, BySteps.given_up, BySteps.stepped, BySteps.used_up}
+use Rattle.offset_allocator.proofs.{Sound.Fields, Moving.Runs.apart_few, Views.ViewApart.apart_parts, Common.AreCoalesced, Common.max, Common.◌*◌, Moving.Stepped.stepped_fewer, Moving.Stepped.stepped_length, Moving.Stepped.stays_live}
+use Rattle.offset_allocator.proofs.Common.{View, IsWellFormed, length, length-append, live, starts_free}
+use Rattle.offset_allocator.specs.declared.moves.over_frames.{Progress.Progress, Reach.Reach}
+use Rattle.offset_allocator.specs.Moving.{BySteps.CanFollow, BySteps.stepped, BySteps.used_up}
 use Rattle.offset_allocator.specs.Moving.Budget.{first_from, start_of, IsWithin, IsRunWithin, SlidesWithin, StopsAt}
 
 -- one block more in front
@@ -115,16 +115,17 @@ used_fit (b ∷ rest) = go b.used (used_fit rest)
     go true h = omega (arith, h)
     go false h = omega (arith, h)
 
--- what is found first
-pub record IsBegun (bs : List Block) (x : ℕ) : Type 0 where
+-- the block that is found has a step
+pub record IsBegun (s : ℕ) (bs : List Block) (x : ℕ) : Type 0 where
   pub front : List Block
   pub first : Block
   pub rest : List Block
   pub is : bs ≡ front ++ first ∷ rest
   pub name : first.name ≡ x
   pub free : first.used ≡ false
+  pub whole : s ≤ first.size
 
-pub begun : (s from o : ℕ) (bs : List Block) (x : ℕ) → first_from s from o bs ≡ Some x → IsBegun bs x
+pub begun : (s from o : ℕ) (bs : List Block) (x : ℕ) → first_from s from o bs ≡ Some x → IsBegun s bs x
 begun s from o [] x e = absurd (cc)
 begun s from o (b ∷ []) x e = absurd (cc)
 begun s from o (b ∷ c ∷ bs) x e = go (not b.used && (nat_le s b.size && nat_le from (o + b.size))) refl (λ h. begun s from (o + b.size) (c ∷ bs) x h)
@@ -132,22 +133,19 @@ begun s from o (b ∷ c ∷ bs) x e = go (not b.used && (nat_le s b.size && nat_
     some : c ∷ bs ≢ []
     some q = absurd (cc)
 
-    left : (u v : Bool) → (not u && v) ≡ true → u ≡ false
-    left true v q = absurd (true≢false (sym q))
-    left false v q = refl
-
-    go : (t : Bool) → (not b.used && (nat_le s b.size && nat_le from (o + b.size))) ≡ t → (first_from s from (o + b.size) (c ∷ bs) ≡ Some x → IsBegun (c ∷ bs) x) → IsBegun (b ∷ c ∷ bs) x
+    go : (t : Bool) → (not b.used && (nat_le s b.size && nat_le from (o + b.size))) ≡ t → (first_from s from (o + b.size) (c ∷ bs) ≡ Some x → IsBegun s (c ∷ bs) x) → IsBegun s (b ∷ c ∷ bs) x
     go true t rest = record {
       front = [];
       first = b;
       rest = c ∷ bs;
       is = refl;
       name = let h : Some b.name ≡ Some x = sym (from_here s from o b (c ∷ bs) some true (sym t)) ∙ e in cc;
-      free = left b.used (nat_le s b.size && nat_le from (o + b.size)) t;
+      free = not-true b.used (and_parts (not b.used) (nat_le s b.size && nat_le from (o + b.size)) t).0;
+      whole = leb-true s b.size (and_parts (nat_le s b.size) (nat_le from (o + b.size)) (and_parts (not b.used) (nat_le s b.size && nat_le from (o + b.size)) t).1).0;
     }
     go false t rest =
-        let i : IsBegun (c ∷ bs) x = rest (sym (from_here s from o b (c ∷ bs) some false (sym t)) ∙ e) in
-        record { front = b ∷ i.front; first = i.first; rest = i.rest; is = ap (λ l. b ∷ l) i.is; name = i.name; free = i.free }
+        let i : IsBegun s (c ∷ bs) x = rest (sym (from_here s from o b (c ∷ bs) some false (sym t)) ∙ e) in
+        record { front = b ∷ i.front; first = i.first; rest = i.rest; is = ap (λ l. b ∷ l) i.is; name = i.name; free = i.free; whole = i.whole }
 
 -- after a run comes no free block
 pub stops_apart : (u r : ℕ) (bs back : List Block) → StopsAt u r bs back → starts_free back ≡ false
@@ -164,15 +162,9 @@ few_left t m v w limit front run back is can =
       | inr e ↦ omega (arith, w.room, n, limit, stepped_fewer t run e)
     ]
 
-module _ (s from u r : ℕ) where
-  -- the live blocks stay
-  pub slides_live : (v w : View) (p : Progress) → SlidesWithin s from u r v w p → live w.blocks ≡ live v.blocks
-  slides_live v w p h =
-      let run : List Block = h.first ∷ h.rest in
-      ap (λ (q : View). live q.blocks) h.view ∙ live_append h.front ((stepped s run ++ free_block h.name (given_up s run) ∷ []) ++ h.back)
-      ∙ ap (λ l. live h.front ++ l) (live_append (stepped s run ++ free_block h.name (given_up s run) ∷ []) h.back
-      ∙ ap (λ l. l ++ live h.back) (live_append (stepped s run) (free_block h.name (given_up s run) ∷ []) ∙ append-nil (live (stepped s run)) ∙ stepped_live s run)
-      ∙ sym (live_append run h.back)) ∙ sym (live_append h.front (run ++ h.back)) ∙ sym (ap live h.reached.is)
+-- the live blocks stay
+pub slides_live : (s from u r : ℕ) (v w : View) (p : Progress) → SlidesWithin s from u r v w p → live w.blocks ≡ live v.blocks
+slides_live s from u r v w p h = stays_live s h.name v w h.front (h.first ∷ h.rest) h.back h.reached.is h.view
 
 -- one more free block of whole steps at the end
 pub added_whole : (s : ℕ) (bs : List Block) (c : Block) → all_steps s (bs ++ c ∷ []) ≡ all_steps s bs + one (not c.used && nat_eq (c.size % s) 0)
@@ -267,25 +259,27 @@ pub record Run (f : Fields) (x : ℕ) (admits : Bool) (reach : Reach) (v : View)
   pub reached : IsRunWithin s from u r v front first rest back
   pub progress : reach.progress ≡ record { units = used_units rest; ranges = count_used rest; next = start_of (units (front ++ first ∷ rest)) back }
 
+-- a run has about as many live blocks as free ones
+pub run_few : (v : View) → IsWellFormed v → (front : List Block) (run back : List Block) → v.blocks ≡ front ++ (run ++ back) → length run ≤ 2 * count_used run + 1
+run_few v w front run back is = apart_few run (apart_parts run back (apart_parts front (run ++ back) (subst AreCoalesced is w.apart)).1).0
+
 -- the run is no longer than the budget allows
 pub few_rest : (u r : ℕ) (v : View) → IsWellFormed v → (front : List Block) (b : Block) (rest back : List Block) → v.blocks ≡ front ++ ((b ∷ rest) ++ back) → b.used ≡ false → IsWithin u r rest
     → length rest ≤ 2 * max 1 r
 few_rest u r v w front b rest back is free within =
-    let n = apart_few (b ∷ rest) (apart_parts (b ∷ rest) back (apart_parts front ((b ∷ rest) ++ back) (subst AreCoalesced is w.apart)).1).0 in elim within [
+    let n = run_few v w front (b ∷ rest) back is in elim within [
       | inl alone ↦ omega (arith, n, alone, ap one free)
       | inr few ↦ omega (arith, n, few.1, ap one free)
     ]
 
 -- what the search for the first block and that for the run count
 pub searches_cost : {a k₁ k₂ : ℕ} (u r : ℕ) (bs : List Block) (v : View) → IsWellFormed v → (front : List Block) (b : Block) (rest back after : List Block) → bs ≡ v.blocks → a ≡ v.accesses
-    → bs ≡ front ++ b ∷ after → after ≡ rest ++ back → b.used ≡ false → IsWithin u r rest → Costs 0 (5 * length bs) a k₁ → k₁ ≤ k₂ → k₂ ≤ k₁ + 3 * length rest + 5
-    → (v.accesses ≤ k₂) × (k₂ ≤ v.accesses + (8 * length v.blocks + 5)) × (k₂ ≤ v.accesses + (5 * length v.blocks + 6 * max 1 r + 5))
+    → bs ≡ front ++ b ∷ after → after ≡ rest ++ back → b.used ≡ false → IsWithin u r rest → (a ≤ k₁) × (k₁ + 3 ≤ a + 4 * length bs) → k₁ ≤ k₂ → k₂ ≤ k₁ + 3 * length rest + 5
+    → (v.accesses ≤ k₂) × (k₂ ≤ v.accesses + (4 * length v.blocks + 3 * length rest + 2)) × (k₂ ≤ v.accesses + (4 * length v.blocks + 6 * max 1 r + 2))
 searches_cost u r bs v w front b rest back after now old is parts free within first more run =
     let all = ap (λ (l : List Block). length l) now in
-    let n = ap (λ (l : List Block). length l) is in
-    let m = ap (λ (l : List Block). length l) parts in
     let few = few_rest u r v w front b rest back (sym now ∙ is ∙ ap (λ (l : List Block). front ++ b ∷ l) parts) free within in (
       omega (arith, old, first.0, more),
-      omega (arith, old, all, n, m, first.1, run, length-append front (b ∷ after), length-append rest back),
+      omega (arith, old, all, first.1, run),
       omega (arith, old, all, first.1, run, few),
     )

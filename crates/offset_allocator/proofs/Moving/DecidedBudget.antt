@@ -6,7 +6,7 @@ use Rattle.offset_allocator.proofs.Common.{Block, View, units, one, count_used, 
 use Rattle.offset_allocator.specs.Moving.BySteps.{CanFollow, given_up, moves_by, stepped, used_up}
 use Rattle.offset_allocator.specs.Moving.Budget.{CompactsWithin, IsRunWithin, IsWithin, SlidesWithin, StopsAt, first_from, start_of}
 use Rattle.offset_allocator.specs.{Names.names_of, Relations.SameState}
-use Rattle.offset_allocator.specs.declared.moves.budget.Progress.{Progress}
+use Rattle.offset_allocator.specs.declared.moves.over_frames.Progress.{Progress}
 
 -- one place has a name
 there : (x : ℕ) (gs : List Block) (c : Block) (cs : List Block) → c.name ≡ x → 1 ≤ count_named x (gs ++ c ∷ cs)

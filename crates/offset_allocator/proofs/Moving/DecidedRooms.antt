@@ -3,7 +3,7 @@ use Rattle.offset_allocator.proofs.{Decided.both_leave, Decided.both_stay, Decid
 use Rattle.offset_allocator.proofs.{Views.ViewApart.right_false, Common.Move, Common.first_free}
 use Rattle.offset_allocator.proofs.Common.{◌≡◌, ℕ, ◌≤◌, ◌⊎◌, Bool, true, false, not, List, [], ◌∷◌, ◌++◌, Option, Some, None, refl, sym, ap, ap₂, subst, ◌∙◌, inl, inr, arith, drop, sum, FoldsTo}
 use Rattle.offset_allocator.proofs.Common.{cases_lt, true≢false, Block, View, one, units, count_used, free_sizes, free_block, starts_free, ends_used, AreCoalesced, IsWellFormed, replace, live, moves}
-use Rattle.offset_allocator.specs.{Names.free_blocks, Relations.SameState, Moving.Room.IsAtMost, Moving.Room.IsLess, Moving.Room.IsLeastCost, Moving.Room.CostMore, Moving.Room.MakesRoom}
+use Rattle.offset_allocator.specs.{Names.free_blocks, Relations.SameState, Moving.Room.IsAtMost, Moving.Room.IsLess, Moving.Room.IsLeastCost, Moving.Room.IsRun, Moving.Room.MakesRoom}
 use Rattle.offset_allocator.specs.{Moving.Room.SlidesRun, Moving.Room.cost_of}
 use Rattle.offset_allocator.specs.declared.moves.room.RoomCost.{RoomCost}
 
@@ -53,9 +53,9 @@ meet (f ∷ fs) xs (g ∷ gs) ys e =
 
 -- ---- runs
 -- of two runs that serve at one cost neither begins later, since those that begin later cost more
-begins_later : (want : ℕ) (front run back front' run' back' : List Block) → IsPast front (run ++ back) front' (run' ++ back') → cost_of run ≡ cost_of run' → starts_free run' ≡ true → ends_used run' ≡ false
-    → want ≤ sum (free_sizes run') → CostMore want (cost_of run) (drop 1 (run ++ back)) → ⊥
-begins_later want front run back front' run' back' p same begins ends serves later =
+begins_later : (Serve : List Block → Type 0) (front run back front' run' back' : List Block) → IsPast front (run ++ back) front' (run' ++ back') → cost_of run ≡ cost_of run' → starts_free run' ≡ true
+    → ends_used run' ≡ false → Serve run' → ((q : List Block) → IsRun q (drop 1 (run ++ back)) → Serve q → IsLess (cost_of run) (cost_of q)) → ⊥
+begins_later Serve front run back front' run' back' p same begins ends serves later =
     none_less (cost_of run) (subst (IsLess (cost_of run)) (sym same) (later run' (record {
       front = p.between;
       back = back';
@@ -83,39 +83,50 @@ ends_later run back run' back' p same begins ends apart =
     let used : one p.block.used ≡ 1 = taken_one p.block.used (right_false (ends_free run) (not p.block.used) sides.2 (ends_some run begins ends)) in
     omega (arith, ap (λ (c : RoomCost). c.ranges) same, ap count_used p.front, tally_append (λ (b : Block). one b.used) run (p.block ∷ p.between), used)
 
-module _ (want : ℕ) (v : View) (known : IsWellFormed v) (a : ℕ) (w w' : View) (f : SlidesRun want v w) (k : SlidesRun want (record v { accesses = a }) w') (same : cost_of f.run ≡ cost_of k.run) where
-  begins_same : (f.front ≡ k.front) × (f.run ++ f.back ≡ k.run ++ k.back)
-  begins_same = elim (meet f.front (f.run ++ f.back) k.front (k.run ++ k.back) (sym f.is ∙ k.is)) [
+-- so they are one
+module _ (Serve : List Block → Type 0) (bs front run back front' run' back' : List Block) (apart : AreCoalesced bs) (is : bs ≡ front ++ (run ++ back)) (is' : bs ≡ front' ++ (run' ++ back'))
+    (begins : starts_free run ≡ true) (begins' : starts_free run' ≡ true) (ends : ends_used run ≡ false) (ends' : ends_used run' ≡ false) (serves : Serve run) (serves' : Serve run')
+    (later : (q : List Block) → IsRun q (drop 1 (run ++ back)) → Serve q → IsLess (cost_of run) (cost_of q))
+    (later' : (q : List Block) → IsRun q (drop 1 (run' ++ back')) → Serve q → IsLess (cost_of run') (cost_of q)) (same : cost_of run ≡ cost_of run') where
+  begins_same : (front ≡ front') × (run ++ back ≡ run' ++ back')
+  begins_same = elim (meet front (run ++ back) front' (run' ++ back') (sym is ∙ is')) [
     | inl m ↦ m
-    | inr (inl p) ↦ absurd (begins_later want f.front f.run f.back k.front k.run k.back p same k.begins k.ends k.serves f.later)
-    | inr (inr p) ↦ absurd (begins_later want k.front k.run k.back f.front f.run f.back p (sym same) f.begins f.ends f.serves k.later)
+    | inr (inl p) ↦ absurd (begins_later Serve front run back front' run' back' p same begins' ends' serves' later)
+    | inr (inr p) ↦ absurd (begins_later Serve front' run' back' front run back p (sym same) begins ends serves later')
   ]
 
-  ends_same : (f.run ≡ k.run) × (f.back ≡ k.back)
-  ends_same = elim (meet f.run f.back k.run k.back begins_same.1) [
+  ends_same : (run ≡ run') × (back ≡ back')
+  ends_same = elim (meet run back run' back' begins_same.1) [
     | inl m ↦ m
-    | inr (inl p) ↦ absurd (ends_later f.run f.back k.run k.back p same f.begins f.ends (apart_parts f.front (f.run ++ f.back) (subst AreCoalesced f.is known.apart)).1)
-    | inr (inr p) ↦ absurd (ends_later k.run k.back f.run f.back p (sym same) k.begins k.ends (apart_parts k.front (k.run ++ k.back) (subst AreCoalesced k.is known.apart)).1)
+    | inr (inl p) ↦ absurd (ends_later run back run' back' p same begins ends (apart_parts front (run ++ back) (subst AreCoalesced is apart)).1)
+    | inr (inr p) ↦ absurd (ends_later run' back' run back p (sym same) begins' ends' (apart_parts front' (run' ++ back') (subst AreCoalesced is' apart)).1)
   ]
+
+  pub one_run : (front ≡ front') × (run ≡ run') × (back ≡ back')
+  one_run = (begins_same.0, ends_same.0, ends_same.1)
+
+module _ (want : ℕ) (v : View) (known : IsWellFormed v) (a : ℕ) (w w' : View) (f : SlidesRun want v w) (k : SlidesRun want (record v { accesses = a }) w') (same : cost_of f.run ≡ cost_of k.run) where
+  both : (f.front ≡ k.front) × (f.run ≡ k.run) × (f.back ≡ k.back)
+  both = one_run (λ q. want ≤ sum (free_sizes q)) v.blocks f.front f.run f.back k.front k.run k.back known.apart f.is k.is f.begins k.begins f.ends k.ends f.serves k.serves f.later k.later same
 
   same_name : f.name ≡ k.name
-  same_name = let q = sym f.first ∙ ap first_free ends_same.0 ∙ k.first in cc
+  same_name = let q = sym f.first ∙ ap first_free both.1 ∙ k.first in cc
 
   abbrev slid : View → List Block → List Block → List Block → ℕ → View
   slid z front run back x = replace z front run (live run ++ free_block x (sum (free_sizes run)) ∷ []) back
 
   same_slid : slid v f.front f.run f.back f.name ≡ slid v k.front k.run k.back k.name
   same_slid =
-      ap₂ (λ (front run : List Block). slid v front run f.back f.name) begins_same.0 ends_same.0
-      ∙ ap₂ (λ (back : List Block) (x : ℕ). slid v k.front k.run back x) ends_same.1 same_name
+      ap₂ (λ (front run : List Block). slid v front run f.back f.name) both.0 both.1
+      ∙ ap₂ (λ (back : List Block) (x : ℕ). slid v k.front k.run back x) both.2 same_name
 
   slides_same : SameState w w'
   slides_same = both_leave (slid v f.front f.run f.back f.name) (slid (record v { accesses = a }) k.front k.run k.back k.name) w w' f.view k.view
       (ap (λ (z : View). record z { accesses = a }) (sym same_slid))
-      (same_renamed v (drop 1 (free_blocks f.run)) (drop 1 (free_blocks k.run)) [] [] w w' (ap (λ (l : List Block). drop 1 (free_blocks l)) ends_same.0) refl f.names k.names).1
+      (same_renamed v (drop 1 (free_blocks f.run)) (drop 1 (free_blocks k.run)) [] [] w w' (ap (λ (l : List Block). drop 1 (free_blocks l)) both.1) refl f.names k.names).1
 
   same_moves : moves (units f.front) (units f.front) f.run ≡ moves (units k.front) (units k.front) k.run
-  same_moves = ap₂ (λ (front run : List Block). moves (units front) (units front) run) begins_same.0 ends_same.0
+  same_moves = ap₂ (λ (front run : List Block). moves (units front) (units front) run) both.0 both.1
 
 -- steps that are each decided are so one after the other
 pub folds_same : {F A : Type 0} (R : F → A → F → Type 0) → ((f g h : F) (x : A) → R f x g → R f x h → g ≡ h) → (f : F) (xs : List A) (g h : F) → FoldsTo R f xs g → FoldsTo R f xs h → g ≡ h

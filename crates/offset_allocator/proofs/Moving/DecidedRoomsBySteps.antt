@@ -1,12 +1,12 @@
 -- What room costs by whole steps is one cost, and in the same state room is made by the same moves, which leave the same
 -- state.
-use Rattle.offset_allocator.proofs.{Decided.both_leave, Decided.both_stay, Decided.one_name, Views.ViewApart.apart_parts}
-use Rattle.offset_allocator.proofs.Moving.DecidedRooms.{IsPast, Notes, ends_later, folds_same, meet, none_less, one_most}
-use Rattle.offset_allocator.proofs.Common.{◌≡◌, ℕ, true, false, List, [], ◌∷◌, ◌++◌, Option, Some, None, refl, sym, ap, ap₂, subst, ◌∙◌, inl, inr, arith, drop, length, FoldsTo}
-use Rattle.offset_allocator.proofs.Common.{cases_lt, Block, View, units, free_block, replace, starts_free, ends_used, AreCoalesced, IsWellFormed, Move}
+use Rattle.offset_allocator.proofs.{Decided.both_leave, Decided.both_stay, Decided.one_name}
+use Rattle.offset_allocator.proofs.Moving.DecidedRooms.{Notes, folds_same, one_most, one_run}
+use Rattle.offset_allocator.proofs.Common.{◌≡◌, ℕ, List, [], ◌∷◌, ◌++◌, Option, Some, None, refl, sym, ap, ap₂, subst, ◌∙◌, inl, inr, arith, length, FoldsTo}
+use Rattle.offset_allocator.proofs.Common.{cases_lt, Block, View, units, free_block, replace, IsWellFormed, Move}
 use Rattle.offset_allocator.specs.Moving.BySteps.{given_up, moves_by, stepped, used_up}
-use Rattle.offset_allocator.specs.Moving.Room.{IsAtMost, IsLess, cost_of}
-use Rattle.offset_allocator.specs.Moving.RoomBySteps.{CostMoreBy, IsLeastCostBy, MakesRoomBy, Serves, SlidesRunBy, names_short}
+use Rattle.offset_allocator.specs.Moving.Room.{IsAtMost, cost_of}
+use Rattle.offset_allocator.specs.Moving.RoomBySteps.{IsLeastCostBy, MakesRoomBy, Serves, SlidesRunBy, names_short}
 use Rattle.offset_allocator.specs.{Names.names_of, Relations.SameState}
 use Rattle.offset_allocator.specs.declared.moves.room.RoomCost.{RoomCost}
 
@@ -17,33 +17,10 @@ least_by_decided s want short bs (Some c) None a b = absurd (b a.0.0 a.0.1 a.0.2
 least_by_decided s want short bs (Some c) (Some d) a b =
     ap Some (one_most c d (subst (IsAtMost c) (sym b.0.3) (a.1 b.0.0 b.0.1 b.0.2)) (subst (IsAtMost d) (sym a.0.3) (b.1 a.0.0 a.0.1 a.0.2)))
 
--- of two runs that serve at one cost neither begins later, since those that begin later cost more
-begins_later : (s want short : ℕ) (front run back front' run' back' : List Block) → IsPast front (run ++ back) front' (run' ++ back') → cost_of run ≡ cost_of run' → starts_free run' ≡ true
-    → ends_used run' ≡ false → Serves s want short run' → CostMoreBy s want short (cost_of run) (drop 1 (run ++ back)) → ⊥
-begins_later s want short front run back front' run' back' p same begins ends serves later =
-    none_less (cost_of run) (subst (IsLess (cost_of run)) (sym same) (later run' (record {
-      front = p.between;
-      back = back';
-      is = ap (drop 1) p.back;
-      begins = begins;
-      ends = ends;
-    }) serves))
-
 module _ (s want short : ℕ) (v : View) (known : IsWellFormed v) (a : ℕ) (w w' : View) (f : SlidesRunBy s want short v w) (k : SlidesRunBy s want short (record v { accesses = a }) w')
     (same : cost_of f.run ≡ cost_of k.run) where
-  begins_same : (f.front ≡ k.front) × (f.run ++ f.back ≡ k.run ++ k.back)
-  begins_same = elim (meet f.front (f.run ++ f.back) k.front (k.run ++ k.back) (sym f.is ∙ k.is)) [
-    | inl m ↦ m
-    | inr (inl p) ↦ absurd (begins_later s want short f.front f.run f.back k.front k.run k.back p same k.begins k.ends k.serves f.later)
-    | inr (inr p) ↦ absurd (begins_later s want short k.front k.run k.back f.front f.run f.back p (sym same) f.begins f.ends f.serves k.later)
-  ]
-
-  ends_same : (f.run ≡ k.run) × (f.back ≡ k.back)
-  ends_same = elim (meet f.run f.back k.run k.back begins_same.1) [
-    | inl m ↦ m
-    | inr (inl p) ↦ absurd (ends_later f.run f.back k.run k.back p same f.begins f.ends (apart_parts f.front (f.run ++ f.back) (subst AreCoalesced f.is known.apart)).1)
-    | inr (inr p) ↦ absurd (ends_later k.run k.back f.run f.back p (sym same) k.begins k.ends (apart_parts k.front (k.run ++ k.back) (subst AreCoalesced k.is known.apart)).1)
-  ]
+  both : (f.front ≡ k.front) × (f.run ≡ k.run) × (f.back ≡ k.back)
+  both = one_run (Serves s want short) v.blocks f.front f.run f.back k.front k.run k.back known.apart f.is k.is f.begins k.begins f.ends k.ends f.serves k.serves f.later k.later same
 
   name : (f.name ≡ k.name) × (f.left ≡ k.left)
   name = one_name (length v.blocks) v.unused f.name k.name f.left k.left f.taken k.taken
@@ -53,16 +30,16 @@ module _ (s want short : ℕ) (v : View) (known : IsWellFormed v) (a : ℕ) (w w
 
   same_slid : slid v f.front f.run f.back f.name ≡ slid v k.front k.run k.back k.name
   same_slid =
-      ap₂ (λ (front run : List Block). slid v front run f.back f.name) begins_same.0 ends_same.0
-      ∙ ap₂ (λ (back : List Block) (x : ℕ). slid v k.front k.run back x) ends_same.1 name.0
+      ap₂ (λ (front run : List Block). slid v front run f.back f.name) both.0 both.1
+      ∙ ap₂ (λ (back : List Block) (x : ℕ). slid v k.front k.run back x) both.2 name.0
 
   slides_same : SameState w w'
   slides_same = both_leave (slid v f.front f.run f.back f.name) (slid (record v { accesses = a }) k.front k.run k.back k.name) w w' f.view k.view
       (ap (λ (z : View). record z { accesses = a }) (sym same_slid))
-      (f.names ∙ ap₂ (λ (l : List ℕ) (bs : List Block). l ++ names_of (used_up s bs)) name.1 ends_same.0 ∙ sym k.names)
+      (f.names ∙ ap₂ (λ (l : List ℕ) (bs : List Block). l ++ names_of (used_up s bs)) name.1 both.1 ∙ sym k.names)
 
   same_moves : moves_by s (units f.front) (units f.front) f.run ≡ moves_by s (units k.front) (units k.front) k.run
-  same_moves = ap₂ (λ (front run : List Block). moves_by s (units front) (units front) run) begins_same.0 ends_same.0
+  same_moves = ap₂ (λ (front run : List Block). moves_by s (units front) (units front) run) both.0 both.1
 
 makes_same : {F : Type 0} (R : F → Move → F → Type 0) → ((f g h : F) (m : Move) → R f m g → R f m h → g ≡ h) → (s want short : ℕ) (v : View) → IsWellFormed v → (a : ℕ) (w w' : View) (f g g' : F)
     (c : Option RoomCost) → MakesRoomBy R s want short v f c w g → MakesRoomBy R s want short (record v { accesses = a }) f c w' g' → (g ≡ g') × SameState w w'

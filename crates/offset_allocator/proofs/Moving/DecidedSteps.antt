@@ -1,27 +1,10 @@
 -- A compaction by whole steps: in the same state it leaves the same state.
 use Rattle.offset_allocator.proofs.{Decided.both_leave, Decided.both_stay, Decided.one_name, Moving.Stepping.run_here}
-use Rattle.offset_allocator.proofs.Common.{◌≡◌, ◌≢◌, ℕ, ◌<◌, ◌≤◌, Bool, true, false, not, ◌&&◌, nat_le, List, [], ◌∷◌, ◌++◌, length, refl, sym, ap, ap₂, subst, ◌∙◌, arith, inl, inr, AllByRecursion, le-leb}
+use Rattle.offset_allocator.proofs.Common.{◌≡◌, ◌≢◌, ℕ, ◌<◌, ◌≤◌, Bool, true, false, not, ◌&&◌, nat_le, List, [], ◌∷◌, ◌++◌, length, refl, sym, ap, ap₂, subst, ◌∙◌, inl, inr, AllByRecursion, le-leb}
 use Rattle.offset_allocator.proofs.Common.{lt-leb, Block, View, free_block, replace}
+use Rattle.std.proofs.lemmas.List.{append_cancel_right}
 use Rattle.offset_allocator.specs.Moving.BySteps.{run_by, stepped, given_up, used_up, SlidesBy, CompactsBy}
 use Rattle.offset_allocator.specs.{Names.names_of, Relations.SameState}
-
-same_split : (s : ℕ) (fs gs : List Block) (b c : Block) (bs cs : List Block) → fs ++ b ∷ bs ≡ gs ++ c ∷ cs → AllByRecursion (λ d. d.used ≡ false → d.size < s) fs
-    → AllByRecursion (λ d. d.used ≡ false → d.size < s) gs → b.used ≡ false → c.used ≡ false → s ≤ b.size → s ≤ c.size → (fs ≡ gs) × (b ≡ c) × (bs ≡ cs)
-same_split s [] [] b c bs cs e f g u v l m = let q : b ∷ bs ≡ c ∷ cs = e in (refl, cc, cc)
-same_split s [] (d ∷ gs) b c bs cs e f g u v l m =
-    let q : b ∷ bs ≡ d ∷ (gs ++ c ∷ cs) = e in
-    let same : b ≡ d = cc in
-    absurd (omega (arith, l, g.0 (ap (λ (k : Block). k.used) (sym same) ∙ u), ap (λ (k : Block). k.size) same))
-same_split s (d ∷ fs) [] b c bs cs e f g u v l m =
-    let q : d ∷ (fs ++ b ∷ bs) ≡ c ∷ cs = e in
-    let same : d ≡ c = cc in
-    absurd (omega (arith, m, f.0 (ap (λ (k : Block). k.used) same ∙ v), ap (λ (k : Block). k.size) same))
-same_split s (d ∷ fs) (k ∷ gs) b c bs cs e f g u v l m =
-    let q : d ∷ (fs ++ b ∷ bs) ≡ k ∷ (gs ++ c ∷ cs) = e in
-    let same : d ≡ k = cc in
-    let rest : fs ++ b ∷ bs ≡ gs ++ c ∷ cs = cc in
-    let r = same_split s fs gs b c bs cs rest f.1 g.1 u v l m in
-    (ap₂ (λ (i : Block) (t : List Block). i ∷ t) same r.0, r.1, r.2)
 
 -- there is one where such a block is
 pub whole_there : (s : ℕ) (fs : List Block) (b : Block) (bs : List Block) → AllByRecursion (λ d. d.used ≡ false → d.size < s) fs → b.used ≡ false → s ≤ b.size → bs ≢ []
@@ -37,15 +20,18 @@ whole_there s (d ∷ fs) b bs f u l more = run_here s d (fs ++ b ∷ bs) (some f
     none true q = ap (λ t. not t && nat_le s d.size) q
     none false q = ap (λ t. not t && nat_le s d.size) q ∙ lt-leb s d.size (f.0 q)
 
+pub steps_run : {s : ℕ} {v w : View} (h : SlidesBy s v w) → run_by s v.blocks ≡ h.first ∷ h.rest
+steps_run {s} h = ap (run_by s) h.is ∙ whole_there s h.front h.first h.rest h.few h.free h.whole h.more
+
 steps_whole : {s : ℕ} {v w : View} → SlidesBy s v w → run_by s v.blocks ≢ []
-steps_whole {s} {v} {w} h e = let q = sym (whole_there s h.front h.first h.rest h.few h.free h.whole h.more) ∙ ap (run_by s) (sym h.is) ∙ e in absurd (cc)
+steps_whole h e = let q = sym (steps_run h) ∙ e in absurd (cc)
 
 module _ (s : ℕ) (v : View) (a : ℕ) (w w' : View) (f : SlidesBy s v w) (k : SlidesBy s (record v { accesses = a }) w') where
-  at : (f.front ≡ k.front) × (f.first ≡ k.first) × (f.rest ≡ k.rest)
-  at = same_split s f.front k.front f.first k.first f.rest k.rest (sym f.is ∙ k.is) f.few k.few f.free k.free f.whole k.whole
-
   run : f.first ∷ f.rest ≡ k.first ∷ k.rest
-  run = ap₂ (λ (b : Block) (bs : List Block). b ∷ bs) at.1 at.2
+  run = sym (steps_run f) ∙ steps_run k
+
+  front : f.front ≡ k.front
+  front = append_cancel_right f.front k.front (f.first ∷ f.rest) (sym f.is ∙ k.is ∙ ap (λ (l : List Block). k.front ++ l) (sym run))
 
   name : (f.name ≡ k.name) × (f.left ≡ k.left)
   name = one_name (length v.blocks) v.unused f.name k.name f.left k.left f.taken k.taken
@@ -55,7 +41,7 @@ module _ (s : ℕ) (v : View) (a : ℕ) (w w' : View) (f : SlidesBy s v w) (k : 
 
   steps_same : SameState w w'
   steps_same = both_leave (moved v f.front (f.first ∷ f.rest) f.name) (moved (record v { accesses = a }) k.front (k.first ∷ k.rest) k.name) w w' f.view k.view
-      (ap₂ (λ (front bs : List Block). moved (record v { accesses = a }) front bs k.name) (sym at.0) (sym run)
+      (ap₂ (λ (front bs : List Block). moved (record v { accesses = a }) front bs k.name) (sym front) (sym run)
       ∙ ap (moved (record v { accesses = a }) f.front (f.first ∷ f.rest)) (sym name.0))
       (f.names ∙ ap₂ (λ (l : List ℕ) (bs : List Block). l ++ names_of (used_up s bs)) name.1 run ∙ sym k.names)
 

@@ -2,7 +2,7 @@
 use Rattle.offset_allocator.proofs.Common.{◌≡◌, ◌≢◌, ◌↔◌, ℕ, zero, suc, ◌+◌, ◌-◌, ◌*◌, ◌/◌, ◌%◌, ◌^◌, ◌<◌, ◌≤◌, Bool, true, false, not, ◌&&◌, nat_le, List, [], ◌∷◌, ◌++◌, refl, sym, ap, subst, ◌∙◌, inl, inr, arith}
 use Rattle.offset_allocator.proofs.Common.{if◌then◌else◌, append-nil, append_assoc, true≢false, leb-false, AllByRecursion, Block, View, free_block, free_part, free_sizes, largest, value, down, units, IsWellFormed, CanGrant, AdmitsBlocks}
 use Rattle.offset_allocator.proofs.{Refusals.fit_small, Classes.down_law, Classes.value_down, Classes.value_grows, Tallies.units-append, Views.ViewFits.fits_exactly, Views.ViewFits.largest_small}
-use Rattle.offset_allocator.proofs.Moving.{DecidedSteps.whole_there, Stepping.run_here, Stepping.stepped_free, Stepping.stepped_used, Stepping.given_free}
+use Rattle.offset_allocator.proofs.Moving.{DecidedSteps.steps_run, Stepping.run_here, Stepping.stepped_free, Stepping.stepped_used, Stepping.given_free}
 use Rattle.offset_allocator.specs.Moving.BySteps.{kept, stepped, given_up, run_by, SlidesBy, CompactsBy}
 use Rattle.std.proofs.Math.Nat.{mod-lt, mod-add-div'}
 
@@ -75,7 +75,7 @@ module _ (s : ℕ) (some : 1 ≤ s) where
     run = h.first ∷ h.rest
 
     pub run_is : run_by s v.blocks ≡ h.first ∷ h.rest
-    run_is = ap (run_by s) h.is ∙ whole_there s h.front h.first h.rest h.few h.free h.whole h.more
+    run_is = steps_run h
 
     abbrev stays : List Block
     stays = h.front ++ stepped s run

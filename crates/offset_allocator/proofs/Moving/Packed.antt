@@ -1,9 +1,9 @@
--- What holds after the live ranges are packed, and of the moves that pack them.
+-- What holds after the live ranges are packed.
 use Rattle.offset_allocator.proofs.{Classes.down_law, Moving.Compacting.live_are_used, Moving.Compacting.AreUsed, Refusals.fit_small, Moving.Sliding.live_used, Moving.Sliding.live_idle}
 use Rattle.offset_allocator.proofs.{Tallies.hit_cases, Views.ViewFits.fits_exactly, Views.ViewFits.largest_small}
 use Rattle.offset_allocator.proofs.Common.{◌≡◌, sym, append-nil, ◌↔◌, ℕ, ◌+◌, ◌≤◌, Bool, true, false, Option, Some, None, List, [], ◌∷◌, ◌++◌, sum, if◌then◌else◌, nat_eq, option_map, option_and_then}
-use Rattle.offset_allocator.proofs.Common.{refl, ap, ◌∙◌, arith, AllByRecursion, cases_eq, nat_tests, sum_by-cons, value, down, largest, Block, View, Place, one, place_of, count_named, free_sizes}
-use Rattle.offset_allocator.proofs.Common.{units, IsWellFormed, CanGrant, AdmitsBlocks, Range, Move, live, moves, move_of, gathered, AreBetween, AreSafe, KeepsSizes, Compacts, common_steps}
+use Rattle.offset_allocator.proofs.Common.{refl, ap, ◌∙◌, arith, nat_tests, sum_by-cons, value, down, largest, Block, View, Place, one, place_of, count_named, free_sizes}
+use Rattle.offset_allocator.proofs.Common.{units, IsWellFormed, CanGrant, AdmitsBlocks, Range, live, gathered, KeepsSizes, Compacts, common_steps}
 
 -- the units that a name holds, if it is live
 abbrev units_at : Option Place → Option ℕ
@@ -85,36 +85,3 @@ compacted_grants v w n well some c =
       λ h. (h.0, let small : n ≤ 4294967295 = omega (arith, fit_small n w well h.1, well.fits) in omega (arith, (fits_exactly w well n small well.fits some).0 h.1, is)),
       λ h. (h.0, (fits_exactly w well n (largest_small w well well.fits n some (omega (arith, h.1, is))) well.fits some).1 (omega (arith, h.1, is))),
     )
-
--- moves
-later : (n from to : ℕ) (bs : List Block) → n ≤ from → AllByRecursion (λ k. n ≤ k.from) (moves from to bs)
-later n from to [] l = tt
-later n from to (b ∷ bs) l =
-    let ih = later n (from + b.size) (to + b.size) bs (omega (arith, l)) in
-    let other = later n (from + b.size) to bs (omega (arith, l)) in
-    elim b.used as (λ u. AllByRecursion (λ (k : Move). n ≤ k.from) (if u then move_of from to b ++ moves (from + b.size) (to + b.size) bs else moves (from + b.size) to bs)) [
-      | true ↦ grind (arith, common_steps)
-      | false ↦ other
-    ]
-
-pub safe : (from to : ℕ) (bs : List Block) → to ≤ from → AreSafe (moves from to bs)
-safe from to [] l = tt
-safe from to (b ∷ bs) l =
-    let ih = safe (from + b.size) (to + b.size) bs (omega (arith, l)) in
-    let other = safe (from + b.size) to bs (omega (arith, l)) in
-    let rest = later (to + b.size) (from + b.size) (to + b.size) bs (omega (arith, l)) in
-    elim b.used as (λ u. AreSafe (if u then move_of from to b ++ moves (from + b.size) (to + b.size) bs else moves (from + b.size) to bs)) [
-      | true ↦ grind (arith, common_steps, cases_eq, nat_tests)
-      | false ↦ other
-    ]
-
--- they lie between the first offset of the packed blocks and the end of those that they are of
-pub between : (first end from to : ℕ) (bs : List Block) → first ≤ to → to ≤ from → from + units bs ≤ end → AreBetween first end (moves from to bs)
-between first end from to [] l d e = tt
-between first end from to (b ∷ bs) l d e =
-    let ih = between first end (from + b.size) (to + b.size) bs (omega (arith, l)) (omega (arith, d)) (omega (arith, e)) in
-    let other = between first end (from + b.size) to bs l (omega (arith, d)) (omega (arith, e)) in
-    elim b.used as (λ u. AreBetween first end (if u then move_of from to b ++ moves (from + b.size) (to + b.size) bs else moves (from + b.size) to bs)) [
-      | true ↦ grind (arith, common_steps, cases_eq, nat_tests)
-      | false ↦ other
-    ]

@@ -3,13 +3,13 @@ use Rattle.offset_allocator.proofs.Common.{◌≡◌, ◌≢◌, ℕ, zero, suc,
 use Rattle.offset_allocator.proofs.Common.{append-nil, append_assoc, le-leb, Block, View, free_block, free_part, count_named, units, first_or, IsWellFormed}
 use Rattle.std.proofs.lemmas.List.{map-append}
 use Rattle.std.proofs.Math.Nat.{mod-le, mod-eq_of_lt, mod-add-div', add-mul-mod_self_right}
-use Rattle.offset_allocator.proofs.Moving.{DecidedBudget.same_named, DecidedSteps.whole_there, Passes.at, Passes.begins, Passes.left_is}
+use Rattle.offset_allocator.proofs.Moving.{DecidedBudget.same_named, DecidedSteps.steps_run, Budgeted.none_left, Passes.at, Passes.begins, Passes.left_is}
 use Rattle.offset_allocator.proofs.Moving.Stepping.{given_free, given_used, stepped_free, stepped_used}
 use Rattle.offset_allocator.specs.Moving.BySteps.{kept, stepped, given_up, run_by, CompactsBy}
 use Rattle.offset_allocator.specs.Moving.Budget.{first_from, start_of}
 use Rattle.offset_allocator.specs.Moving.Passes.{IsPass, nothing, ends, goes_on, nameless}
 use Rattle.offset_allocator.specs.Relations.{SameState}
-use Rattle.offset_allocator.specs.declared.moves.budget.Progress.{Progress}
+use Rattle.offset_allocator.specs.declared.moves.over_frames.Progress.{Progress}
 
 nameless-append : (xs ys : List Block) → nameless (xs ++ ys) ≡ nameless xs ++ nameless ys
 nameless-append xs ys = map-append (λ (b : Block). if b.used then b else free_block 0 b.size) xs ys
@@ -157,7 +157,7 @@ pass_leaves s some {from} {v} {x} known (goes_on {u = u} {r = r} {o = o} {w = w}
         })
 
 -- from the start of the space on it begins as `compact_by` does
-from_start : (s o : ℕ) (bs : List Block) → first_from s 0 o bs ≡ first_or None (run_by s bs)
+pub from_start : (s o : ℕ) (bs : List Block) → first_from s 0 o bs ≡ first_or None (run_by s bs)
 from_start s o [] = refl
 from_start s o (b ∷ []) = refl
 from_start s o (b ∷ c ∷ bs) =
@@ -170,10 +170,6 @@ from_start s o (b ∷ c ∷ bs) =
     go true false ih = ih
     go false u ih = ih
 
-none_runs : (bs : List Block) → first_or None bs ≡ None → bs ≡ []
-none_runs [] e = refl
-none_runs (b ∷ bs) e = absurd (cc)
-
 pub pass_compacts : (s : ℕ) → 1 ≤ s → (v w x : View) → IsWellFormed v → IsPass s 0 v w → CompactsBy s v x true → nameless w.blocks ≡ nameless x.blocks
 pass_compacts s some v w x known pass by = go (pass_leaves s some known pass) by
   where
@@ -184,13 +180,13 @@ pass_compacts s some v w x known pass by = go (pass_leaves s some known pass) by
     go (inl n) (inl e) = ap nameless (same v w n.1 ∙ sym (same v x e.1))
     go (inl n) (inr e) =
         let h = e.1 in
-        let none : run_by s v.blocks ≡ [] = none_runs (run_by s v.blocks) (sym (from_start s 0 v.blocks) ∙ n.0) in
-        let q : h.first ∷ h.rest ≡ [] = sym (ap (run_by s) h.is ∙ whole_there s h.front h.first h.rest h.few h.free h.whole h.more) ∙ none in
+        let none : run_by s v.blocks ≡ [] = none_left (run_by s v.blocks) (sym (from_start s 0 v.blocks) ∙ n.0) in
+        let q : h.first ∷ h.rest ≡ [] = sym (steps_run h) ∙ none in
         absurd (cc)
     go (inr l) (inl e) = let q : Some l.first.name ≡ None = sym l.begins ∙ from_start s 0 v.blocks ∙ ap (first_or None) e.0 in absurd (cc)
     go (inr l) (inr e) =
         let h = e.1 in
-        let run : run_by s v.blocks ≡ h.first ∷ h.rest = ap (run_by s) h.is ∙ whole_there s h.front h.first h.rest h.few h.free h.whole h.more in
+        let run = steps_run h in
         let name : l.first.name ≡ h.first.name = let q : Some l.first.name ≡ Some h.first.name = sym l.begins ∙ from_start s 0 v.blocks ∙ ap (first_or None) run in cc in
         let at = same_named l.front h.front l.first h.first l.rest h.rest (sym l.is ∙ h.is) (λ y. subst (λ (bs : List Block). count_named y bs ≤ 1) l.is (known.distinct y)) name in
         l.left ∙ ap₂ (λ fs bs. slid_all s fs bs) at.0 (ap₂ (λ (b : Block) bs. b ∷ bs) at.1 at.2)

@@ -1,47 +1,14 @@
 -- A pass of compactions within a budget: each call goes on behind the ranges that the one before it moved. By steps of one
 -- unit none is refused.
 use Rattle.offset_allocator.proofs.Common.{◌≡◌, ◌≢◌, ℕ, ◌+◌, ◌<◌, ◌≤◌, Bool, true, false, not, ◌&&◌, nat_le, Some, None, List, [], ◌∷◌, ◌++◌, refl, sym, ap, ap₂, subst, ◌∙◌, inl, inr, arith}
-use Rattle.offset_allocator.proofs.Common.{append_assoc, true≢false, le-leb, leb-true, not-true, Block, View, free_block, units, count_used, count_named, one, starts_free, IsWellFormed, AreCoalesced}
+use Rattle.offset_allocator.proofs.Common.{append_assoc, true≢false, le-leb, Block, View, free_block, units, count_used, count_named, one, starts_free, IsWellFormed, AreCoalesced}
 use Rattle.offset_allocator.proofs.{Tallies.tally_append, Tallies.units-append, Views.ViewApart.apart_parts}
-use Rattle.offset_allocator.proofs.Moving.{Budgeted.from_here, Budgeted.from_past, DecidedBudget.same_named, Done.given_enough, Stepped.IsWhole, Stepped.stepped_units, Stepped.whole_is, Stepping.freed_now, Stepping.given_free}
-use Rattle.std.proofs.lemmas.Bool.{and_parts}
+use Rattle.offset_allocator.proofs.Moving.{Budgeted.begun, Budgeted.from_here, Budgeted.from_past, DecidedBudget.same_named, Done.given_enough, Stepped.IsWhole, Stepped.stepped_units, Stepped.whole_is, Stepping.freed_now, Stepping.given_free}
 use Rattle.offset_allocator.specs.Moving.BySteps.{CompactsBy, run_by, stepped, given_up, used_up}
 use Rattle.offset_allocator.specs.{Chain.first_or, Moving.Compacting.Move}
-use Rattle.std.proofs.Math.Nat.{mod-lt}
+use Rattle.std.proofs.Math.Nat.{mod-one}
 use Rattle.offset_allocator.specs.Moving.Budget.{CompactsWithin, IsRunWithin, SlidesWithin, StopsAt, first_from, start_of}
-use Rattle.offset_allocator.specs.declared.moves.budget.Progress.{Progress}
-
--- the block that is found has a step
-record IsFound (s : ℕ) (bs : List Block) (x : ℕ) : Type 0 where
-  front : List Block
-  first : Block
-  rest : List Block
-  is : bs ≡ front ++ first ∷ rest
-  name : first.name ≡ x
-  free : first.used ≡ false
-  whole : s ≤ first.size
-
-found : (s from o : ℕ) (bs : List Block) (x : ℕ) → first_from s from o bs ≡ Some x → IsFound s bs x
-found s from o [] x e = absurd (cc)
-found s from o (b ∷ []) x e = absurd (cc)
-found s from o (b ∷ c ∷ bs) x e = go (not b.used && (nat_le s b.size && nat_le from (o + b.size))) refl (λ h. found s from (o + b.size) (c ∷ bs) x h)
-  where
-    some : c ∷ bs ≢ []
-    some q = absurd (cc)
-
-    go : (t : Bool) → (not b.used && (nat_le s b.size && nat_le from (o + b.size))) ≡ t → (first_from s from (o + b.size) (c ∷ bs) ≡ Some x → IsFound s (c ∷ bs) x) → IsFound s (b ∷ c ∷ bs) x
-    go true t rest = record {
-      front = [];
-      first = b;
-      rest = c ∷ bs;
-      is = refl;
-      name = let h : Some b.name ≡ Some x = sym (from_here s from o b (c ∷ bs) some true (sym t)) ∙ e in cc;
-      free = not-true b.used (and_parts (not b.used) (nat_le s b.size && nat_le from (o + b.size)) t).0;
-      whole = leb-true s b.size (and_parts (nat_le s b.size) (nat_le from (o + b.size)) (and_parts (not b.used) (nat_le s b.size && nat_le from (o + b.size)) t).1).0;
-    }
-    go false t rest =
-        let i : IsFound s (c ∷ bs) x = rest (sym (from_here s from o b (c ∷ bs) some false (sym t)) ∙ e) in
-        record { front = b ∷ i.front; first = i.first; rest = i.rest; is = ap (λ l. b ∷ l) i.is; name = i.name; free = i.free; whole = i.whole }
+use Rattle.offset_allocator.specs.declared.moves.over_frames.Progress.{Progress}
 
 -- the next call begins where blocks are left
 pub started_at : (o : ℕ) (bs : List Block) (k : ℕ) → start_of o bs ≡ Some k → (bs ≢ []) × (o ≡ k)
@@ -51,7 +18,7 @@ started_at o (b ∷ bs) k e = ((λ q. absurd (cc)), cc)
 module _ (s from u r : ℕ) (some : 1 ≤ s) (v : View) (known : IsWellFormed v) (front : List Block) (first : Block) (rest back : List Block) (k : IsRunWithin s from u r v front first rest back) where
   first_found : (first.used ≡ false) × (s ≤ first.size)
   first_found =
-      let i = found s from 0 v.blocks first.name k.begins in
+      let i = begun s from 0 v.blocks first.name k.begins in
       let same = same_named i.front front i.first first i.rest (rest ++ back) (sym i.is ∙ k.is) (λ x. subst (λ (l : List Block). count_named x l ≤ 1) i.is (known.distinct x)) i.name in
       subst (λ (b : Block). (b.used ≡ false) × (s ≤ b.size)) same.1 (i.free, i.whole)
 
@@ -132,7 +99,7 @@ module _ (s from u r : ℕ) (some : 1 ≤ s) (v w : View) (known : IsWellFormed 
 
 -- by steps of one unit each free block is used up
 unit_freed : (b : Block) (bs : List Block) → b.used ≡ false → used_up 1 (b ∷ bs) ≢ []
-unit_freed b bs u = let one : 0 < 1 = omega arith in freed_now 1 b bs u (omega (arith, mod-lt b.size one))
+unit_freed b bs u = freed_now 1 b bs u (mod-one b.size)
 
 pub units_done : (v w : View) → CompactsBy 1 v w false → ⊥
 units_done v w h = go (run_by 1 v.blocks) refl

@@ -1,16 +1,17 @@
 -- What has to move for a request, beside the reason of its refusal.
-use Rattle.offset_allocator.proofs.{Advice.none_free, Advice.free_within, Taken.HasFit, Taken.fitting, Classes.value_rises, Classes.down_law, Classes.value_grows, Classes.value_down}
-use Rattle.offset_allocator.proofs.{Views.ViewFits.HasName, Views.ViewFits.there_listed, Views.ViewFits.there_middle, Views.ViewApart.apart_parts, Tallies.free_units, Tallies.free_sum}
-use Rattle.offset_allocator.proofs.{Tallies.units-append, Joints.free_units-append, Joints.free_units-free, Joints.free_units-used, Moving.Compacting.AreUsed, Moving.Compacting.IsFirst}
+use Rattle.offset_allocator.proofs.{Advice.none_free, Advice.free_within, Taken.HasFit, Taken.fitting, Classes.value_rises, Classes.value_grows, Classes.value_down}
+use Rattle.offset_allocator.proofs.{Views.ViewApart.apart_parts, Tallies.free_units, Tallies.free_sum}
+use Rattle.offset_allocator.proofs.{Joints.free_units-append, Joints.free_units-used, Moving.Compacting.AreUsed, Moving.Compacting.IsFirst}
 use Rattle.offset_allocator.proofs.{Moving.Compacting.first_is, Moving.Runs.single_run, Moving.Runs.run_some, Moving.Runs.run_within}
-use Rattle.offset_allocator.proofs.Common.{◌≡◌, ℕ, ◌^◌, ◌<◌, ◌≤◌, ◌⊎◌, Bool, true, false, not, ◌&&◌, Option, Some, None, List, [], ◌∷◌, ◌++◌, sum, if◌then◌else◌, refl, sym, ap, ap₂, subst, ◌∙◌, arith}
-use Rattle.offset_allocator.proofs.Common.{inl, inr, eq-zero-or-pos, true≢false, not-true, Block, View, IsWellFormed, AreCoalesced, CanGrant, IsWhy, free_sizes, starts_free, ends_used, count_used, one}
-use Rattle.offset_allocator.proofs.Common.{value, up, down, times, units, first_free}
-use Rattle.offset_allocator.proofs.{Common.AdmitsBlocks, Common.length, Common.◌↔◌, Moving.DecidedRoomsBySteps.least_by_decided, Moving.Rooms.apart_few, Moving.RoomsBySteps.fit_of, Moving.RoomsBySteps.found_by}
+use Rattle.offset_allocator.proofs.Common.{◌≡◌, ℕ, ◌≤◌, ◌⊎◌, Bool, true, false, not, Option, Some, None, List, [], ◌∷◌, ◌++◌, sum, if◌then◌else◌, refl, sym, ap, ap₂, subst, ◌∙◌, arith}
+use Rattle.offset_allocator.proofs.Common.{inl, inr, eq-zero-or-pos, true≢false, not-true, Block, View, IsWellFormed, AreCoalesced, CanGrant, IsWhy, free_sizes, ends_used, count_used}
+use Rattle.offset_allocator.proofs.Common.{value, up, down, first_free}
+use Rattle.offset_allocator.proofs.{Common.AdmitsBlocks, Common.length, Common.◌↔◌, Moving.DecidedRoomsBySteps.least_by_decided, Moving.Runs.apart_few, Moving.RoomsBySteps.fit_of, Moving.RoomsBySteps.found_by}
 use Rattle.offset_allocator.proofs.{Moving.Stepping.emptied_free, Moving.Stepping.given_free}
 use Rattle.offset_allocator.specs.Moving.RoomBySteps.{IsLeastCostBy, Serves, names_short}
 use Rattle.offset_allocator.specs.Moving.Room.{IsRun, IsAtMost, IsLeastCost, ranges_of}
 use Rattle.offset_allocator.specs.declared.reports.Refusal.TheVariants.{TooLarge, Space, Fragmented}
+use Rattle.offset_allocator.proofs.{Moving.OneStep.given_one, Moving.Rooms.last_used_up, Moving.RoomsBySteps.short_few}
 use Rattle.offset_allocator.specs.declared.moves.room.RoomCost.{RoomCost}
 
 -- nothing has to move where a free block is large enough
@@ -132,49 +133,6 @@ whole_run bs some = go (first_free bs) refl
           ),
         )
 
--- where no free block is enough, some range has to move
-module _ (v : View) (w : IsWellFormed v) (n : ℕ) (why : IsWhy 1 n v Fragmented) where
-  alone_fits : (b : Block) (front back : List Block) → v.blocks ≡ front ++ (b ∷ back) → b.used ≡ false → value (up n) ≤ b.size → HasFit n v
-  alone_fits b front back is idle l =
-      let small : b.size < 2 ^ 32 = omega (arith, w.whole, w.fits, ap units is, units-append front (b ∷ back)) in (
-        down b.size,
-        (down_law b.size (up n) small).1 l,
-        λ e. absurd (omega (
-          arith,
-          w.binned (down b.size) b.name,
-          ap (times b.name) e,
-          there_listed b v.blocks (subst (HasName b) (sym is) (there_middle front b back)) (ap not idle),
-        )),
-      )
-
-  -- it is not one free block
-  not_alone : (run : List Block) → IsRun run v.blocks → count_used run ≡ 0 → value (up n) ≤ sum (free_sizes run) → ⊥
-  not_alone run r z l = go run r.front r.back r.is r.begins z l
-    where
-      go : (run front back : List Block) → v.blocks ≡ front ++ (run ++ back) → starts_free run ≡ true → count_used run ≡ 0 → value (up n) ≤ sum (free_sizes run) → ⊥
-      go [] front back is s z l = true≢false (sym s)
-      go (b ∷ []) front back is s z l =
-          let idle : b.used ≡ false = not-true b.used s in
-          why.2 (why.0, alone_fits b front back is idle (omega (arith, l, free_sum (b ∷ []), free_units-free b [] idle)))
-      go (b ∷ d ∷ rest) front back is s z l = two d.used refl
-        where
-          apart : AreCoalesced (b ∷ d ∷ rest)
-          apart = (apart_parts (b ∷ d ∷ rest) back (apart_parts front ((b ∷ d ∷ rest) ++ back) (subst AreCoalesced is w.apart)).1).0
-
-          two : (u : Bool) → d.used ≡ u → ⊥
-          two true e = omega (arith, z, ap one e)
-          two false e = true≢false (sym (ap₂ (λ (x y : Bool). x && y) s (ap not e)) ∙ apart.0)
-
-  pub fragmented_moves : (c : Option RoomCost) → IsLeastCost (value (up n)) v.blocks c → 1 ≤ ranges_of c
-  fragmented_moves None h =
-      let t = whole_run v.blocks (omega (arith, why.1)) in
-      let few = h t.0 t.1 in
-      absurd (omega (arith, few, t.2, why.1))
-  fragmented_moves (Some d) h = elim (eq-zero-or-pos d.ranges) [
-    | inl z ↦ absurd (not_alone h.0.0 h.0.1 (omega (arith, z, ap (λ (c : RoomCost). c.ranges) h.0.3)) h.0.2)
-    | inr k ↦ omega (arith, k)
-  ]
-
 -- by steps, nothing has to move exactly where the request is granted
 module _ (v : View) (w : IsWellFormed v) (t k n : ℕ) where
   short_room : names_short k v ≤ 1 → AdmitsBlocks k v
@@ -199,3 +157,21 @@ module _ (v : View) (w : IsWellFormed v) (t k n : ℕ) where
       to (Some d) h e =
           let none : d ≡ record { units = 0; ranges = 0 } = cc in
           none_moves h.0.0 h.0.1 h.0.2 (ap (λ (c : RoomCost). c.ranges) (sym h.0.3 ∙ none))
+
+-- where no free block is enough, some range has to move
+module _ (v : View) (w : IsWellFormed v) (n : ℕ) (why : IsWhy 1 n v Fragmented) where
+  -- it is not one free block
+  not_alone : (run : List Block) → IsRun run v.blocks → count_used run ≡ 0 → value (up n) ≤ sum (free_sizes run) → ⊥
+  not_alone [] r z l = true≢false (sym r.begins)
+  not_alone (b ∷ bs) r z l = why.2 (none_moves v w 1 1 n (b ∷ bs) r
+      (record { units = omega (arith, l, given_one (b ∷ bs)); names = omega (arith, short_few 1 v why.0, last_used_up b bs r.ends) }) z)
+
+  pub fragmented_moves : (c : Option RoomCost) → IsLeastCost (value (up n)) v.blocks c → 1 ≤ ranges_of c
+  fragmented_moves None h =
+      let t = whole_run v.blocks (omega (arith, why.1)) in
+      let few = h t.0 t.1 in
+      absurd (omega (arith, few, t.2, why.1))
+  fragmented_moves (Some d) h = elim (eq-zero-or-pos d.ranges) [
+    | inl z ↦ absurd (not_alone h.0.0 h.0.1 (omega (arith, z, ap (λ (c : RoomCost). c.ranges) h.0.3)) h.0.2)
+    | inr k ↦ omega (arith, k)
+  ]

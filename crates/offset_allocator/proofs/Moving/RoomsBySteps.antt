@@ -1,14 +1,14 @@
 -- The whole allocator after a run has slid to its front by whole steps.
 use Rattle.offset_allocator.proofs.{Advice.free_within, Classes.down_law, Classes.past_words, Classes.value_down, Classes.value_grows, Filing.Filed.filed_in, Linking.Places.placed}
-use Rattle.offset_allocator.proofs.{Moving.Compacting.live_append, Moving.DecidedRooms.ends_some, Moving.Rooms.apart_few, Moving.Runs.few_units, Moving.Runs.run_within, Moving.Runs.want_is}
+use Rattle.offset_allocator.proofs.{Moving.DecidedRooms.ends_some, Moving.Runs.apart_few, Moving.Runs.few_units, Moving.Runs.run_within, Moving.Runs.want_is}
 use Rattle.offset_allocator.proofs.{Moving.Stepping.emptied_free, Moving.Stepping.given_free, Refusals.total_is, Sound.AreSound, Sound.Fields, Sound.shown, Sound.well_counted, Taken.HasFit, Taken.fitting}
 use Rattle.offset_allocator.proofs.{Tallies.free_sum, Tallies.units-append, Views.ViewApart.apart_parts, Views.ViewApart.ends_free, Views.ViewApart.right_false}
 use Rattle.offset_allocator.proofs.{Moving.Packed.live_sizes, Sound.known_sound, Common.Cells, Common.IsBinned, Common.KeepsSizes, Common.bins_in, Common.push, Common.push_all, Common.remove_all}
 use Rattle.offset_allocator.specs.{Accesses.Costs}
-use Rattle.offset_allocator.proofs.Moving.Stepped.{split_few, split_filed, split_steps, split_length, stepped_free_units, stepped_live, used_up_length}
+use Rattle.offset_allocator.proofs.Moving.Stepped.{split_few, split_filed, split_steps, split_length, stays_live, stepped_free_units, used_up_length}
 use Rattle.offset_allocator.proofs.Common.{◌≡◌, ◌≢◌, ℕ, ◌+◌, ◌-◌, ◌*◌, ◌%◌, ◌^◌, ◌<◌, ◌≤◌, false, not, ◌&&◌, Some, None, Option, List, [], ◌∷◌, ◌++◌, refl, sym, ap, ap₂, subst}
-use Rattle.offset_allocator.proofs.Common.{◌∙◌, arith, inl, inr, append_assoc, append-nil, cases_lt, length, length-append, sum, take, true≢false, not-true, common_steps, Block, View, units, used_units}
-use Rattle.offset_allocator.proofs.Common.{free_block, free_sizes, starts_free, ends_used, times, down, up, value, live, replace, FoldsTo, AreCoalesced, AreInBins, IsWellFormed, AdmitsBlocks, CanGrant, SameSpace, HasPlace, blocks, first_or, last_or, drop}
+use Rattle.offset_allocator.proofs.Common.{◌∙◌, arith, inl, inr, append_assoc, cases_lt, length, length-append, sum, take, true≢false, not-true, common_steps, Block, View, units, used_units}
+use Rattle.offset_allocator.proofs.Common.{count_used, free_block, free_sizes, starts_free, ends_used, times, down, up, value, live, replace, FoldsTo, AreCoalesced, AreInBins, IsWellFormed, AdmitsBlocks, CanGrant, SameSpace, HasPlace, blocks, first_or, last_or, drop}
 use Rattle.offset_allocator.specs.Moving.BySteps.{stepped, given_up, used_up, moves_by}
 use Rattle.offset_allocator.specs.Moving.Compacting.{Move}
 use Rattle.offset_allocator.specs.Moving.Room.{IsRun, IsAtMost, cost_of}
@@ -211,12 +211,7 @@ module _ (f : Fields) (s : AreSound f) (t want short : ℕ) (r : Run) (o : IsOpe
 
 -- the live blocks stay
 pub slides_by_live : (t want short : ℕ) (v w : View) → SlidesRunBy t want short v w → live w.blocks ≡ live v.blocks
-slides_by_live t want short v w h =
-    let free : Block = free_block h.name (given_up t h.run) in
-    let inner : live (stepped t h.run ++ free ∷ []) ≡ live h.run = live_append (stepped t h.run) (free ∷ []) ∙ append-nil (live (stepped t h.run)) ∙ stepped_live t h.run in
-    ap (λ (u : View). live u.blocks) h.view ∙ live_append h.front ((stepped t h.run ++ free ∷ []) ++ h.back)
-    ∙ ap (λ l. live h.front ++ l) (live_append (stepped t h.run ++ free ∷ []) h.back ∙ ap (λ l. l ++ live h.back) inner)
-    ∙ sym (ap live h.is ∙ live_append h.front (h.run ++ h.back) ∙ ap (λ l. live h.front ++ l) (live_append h.run h.back))
+slides_by_live t want short v w h = stays_live t h.name v w h.front h.run h.back h.is h.view
 
 -- ---- the request
 -- the class that is searched from is that of the units needed
@@ -308,7 +303,7 @@ module _ (f : Fields) (s : AreSound f) (t want short : ℕ) (r : Run) (o : IsOpe
         let w : View = shown new in
         let well = (known_sound new both.0 w refl).0 in
         let slides = opened_slides f s t want short r o taken unused both.1 in
-        let same = slides_by_live t want short (shown f) w slides.0 in (
+        let same = stays_live t y (shown f) w o.front (o.block ∷ o.rest) o.back o.is both.1 in (
           opened_makes f s t want short r o w slides.0 slides.1 slides.2 calls z e some,
           same ∙ ap (λ (u : View). live u.blocks) e,
           subst (λ (u : View). KeepsSizes u w) e (live_sizes (shown f) w (known_sound f s (shown f) refl).0 well same),
@@ -317,7 +312,7 @@ module _ (f : Fields) (s : AreSound f) (t want short : ℕ) (r : Run) (o : IsOpe
 
   -- what it counts, with the searches before it
   pub slid_costs : {v : View} {k₁ k₂ k₃ : ℕ} → shown f ≡ v → Costs 1 2 f.accesses k₁ → Costs (4 * length (blocks f.cells.chain f.last)) (7 * length (blocks f.cells.chain f.last)) k₁ k₂ → k₂ ≤ k₃
-      → k₃ ≤ k₂ + 18 * length (o.block ∷ o.rest) + 36 → Costs 0 (7 * length v.blocks + 36 * r.cost.ranges + 60) v.accesses k₃
+      → k₃ + 11 * count_used (o.block ∷ o.rest) ≤ k₂ + 18 * length (o.block ∷ o.rest) + 36 → Costs 0 (7 * length v.blocks + 36 * r.cost.ranges + 60) v.accesses k₃
   slid_costs e first search more slide =
       let few = opened_short f s t want short r o in
       let all = ap (λ (u : View). length u.blocks) e in

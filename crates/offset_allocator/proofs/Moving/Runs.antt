@@ -4,7 +4,7 @@ use Rattle.offset_allocator.proofs.{Tallies.units-append, Joints.free_units-appe
 use Rattle.offset_allocator.proofs.{Linking.Places.at_place, Linking.Rows.last_or-append, Common.ends_used, Common.one, Common.common_steps}
 use Rattle.offset_allocator.proofs.Common.{◌^◌, ◌%◌, is_some, get_or_past, View, IsWellFormed, value, up, down, bin_at, ◌≡◌, ℕ, ◌+◌, ◌-◌, ◌*◌, ◌<◌, ◌≤◌, ◌⊎◌, Bool, true, false, not, Option, None}
 use Rattle.offset_allocator.proofs.Common.{Some, IfSome, List, [], ◌∷◌, ◌++◌, length, sum, if◌then◌else◌, refl, sym, ap, subst, ◌∙◌, inl, inr, arith, append_assoc, append-nil, length-append, cases_lt}
-use Rattle.offset_allocator.proofs.Common.{true≢false, not-true, Block, free_sizes, units, count_used, used_units, ChainCells, Node, node, HasPlace, IsSpace, blocks, first_or, last_or, starts_free}
+use Rattle.offset_allocator.proofs.Common.{true≢false, not-true, Block, free_sizes, units, count_used, used_units, ChainCells, Node, node, HasPlace, IsSpace, blocks, first_or, last_or, starts_free, AreCoalesced, ◌&&◌}
 use Rattle.offset_allocator.specs.Bins.{IsFoundFrom}
 use Rattle.offset_allocator.specs.Moving.Room.{IsRun, IsAtMost, IsLess, IsCheapest, IsLeastCost, CostMore, IsShortened, IsWindow, cost_of, end_of, end_room}
 use Rattle.std.specs.Prelude.{drop}
@@ -525,3 +525,17 @@ few_units n k d s h e f l = elim (cases_lt s (value (up n))) [ inl m ↦ m | inr
 -- a class that all free units together have is one of a value that a word holds
 pub want_is : (n k d s w : ℕ) → s < 2 ^ 32 → k ≡ up n → d ≡ down s → k ≤ d → w ≡ value k % 2 ^ 32 → w ≡ value (up n)
 want_is n k d s w h e f l q = let a = (down_law s k h).0 (omega (arith, f, l)) in omega (arith, q, a, h, ap value e)
+
+-- blocks of which no two neighbours are free are at most twice as many as the used ones, and one
+pub apart_few : (bs : List Block) → AreCoalesced bs → length bs ≤ 2 * count_used bs + 1
+apart_few [] h = omega arith
+apart_few (b ∷ []) h = omega arith
+apart_few (b ∷ d ∷ bs) h = go b.used refl (apart_few (d ∷ bs) h.1) (apart_few bs h.1.1)
+  where
+    go : (u : Bool) → b.used ≡ u → length (d ∷ bs) ≤ 2 * count_used (d ∷ bs) + 1 → length bs ≤ 2 * count_used bs + 1 → length (b ∷ d ∷ bs) ≤ 2 * count_used (b ∷ d ∷ bs) + 1
+    go true e ih more = omega (arith, ih, ap one e)
+    go false e ih more = omega (arith, more, ap one e, ap one (next d.used refl (ap (λ u. not u && starts_free (d ∷ bs)) (sym e) ∙ h.0)))
+      where
+        next : (u : Bool) → d.used ≡ u → starts_free (d ∷ bs) ≡ false → d.used ≡ true
+        next true q k = q
+        next false q k = absurd (true≢false (sym (ap not q) ∙ k))

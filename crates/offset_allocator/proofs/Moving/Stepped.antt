@@ -2,16 +2,15 @@
 use Rattle.offset_allocator.proofs.{Joints.free_units-append, Joints.free_units-free, Joints.free_units-used, Joints.free_part_units, Linking.Exchange.each-le, Linking.Exchange.there-below}
 use Rattle.offset_allocator.proofs.{Linking.Places.placed, Moving.Sliding.live_used, Moving.Sliding.live_idle, Moving.Compacting.live_append, Sound.Fields, Sound.AreSound, Sound.shown, Sound.well_counted}
 use Rattle.offset_allocator.proofs.{Moving.Stepping.stepped_used, Moving.Stepping.stepped_free, Moving.Stepping.given_used, Moving.Stepping.given_free, Moving.Stepping.moves_by_used, Moving.Stepping.moves_by_free}
-use Rattle.offset_allocator.proofs.{Moving.Refiled.push_all-append, Moving.Stepping.emptied_used, Moving.Stepping.emptied_free, Linking.Rows.last_or-append, Moving.Stepping.run_here, Moving.Stepping.filed_put, Views.ViewBins.length_put}
+use Rattle.offset_allocator.proofs.{Moving.Refiled.push_all-append, Moving.Stepping.emptied_used, Moving.Stepping.emptied_free, Moving.Stepping.run_here, Moving.Stepping.filed_put, Views.ViewBins.length_put}
 use Rattle.offset_allocator.proofs.Views.ViewApart.{apart_parts, apart_append, ends_free, left_false, right_false}
 use Rattle.offset_allocator.proofs.Tallies.{tally_append, units-append, free_units, free_sum, part_sums}
 use Rattle.offset_allocator.proofs.Joints as joints
 use Rattle.offset_allocator.proofs.Common.{◌≡◌, ◌≢◌, ℕ, zero, suc, ◌+◌, ◌-◌, ◌*◌, ◌/◌, ◌%◌, ◌<◌, ◌≤◌, Bool, true, false, not, ◌&&◌, nat_le, Some, None, List, [], ◌∷◌, ◌++◌, if◌then◌else◌, refl, sym}
-use Rattle.offset_allocator.proofs.Common.{ap, subst, ◌∙◌, arith, inl, inr, append_assoc, append-nil, length, length-append, take, AllByRecursion, not-true, not-false, true≢false, leb-true, leb-false, common_steps, first_or, last_or, ne_eqb, push_all, remove_all, replace}
+use Rattle.offset_allocator.proofs.Common.{ap, subst, ◌∙◌, arith, inl, inr, append_assoc, append-nil, length, length-append, AllByRecursion, not-true, not-false, true≢false, leb-true, leb-false, common_steps, first_or, ne_eqb, push_all, remove_all, replace}
 use Rattle.offset_allocator.proofs.Common.{nat_tests, nat_eq, cases_eq, eq-zero-or-pos, Cells, ChainCells, Block, View, one, units, count_used, free_block, free_part, count_named, starts_free, live, move_of}
 use Rattle.offset_allocator.proofs.Common.{down, push, AreInBins, AreCoalesced, IsWellFormed, SameSpace, HasPlace, IsChain, blocks, IsBinned, bins_in}
-use Rattle.offset_allocator.specs.Moving.BySteps.{run_by, kept, stepped, given_up, used_up, moves_by, CanFollow, SlidesBy}
-use Rattle.offset_allocator.specs.{Names.IsTaken, Names.names_of}
+use Rattle.offset_allocator.specs.Moving.BySteps.{run_by, kept, stepped, given_up, used_up, moves_by, SlidesBy}
 use Rattle.std.proofs.Math.Nat.{mod-le, mod-eq_of_lt, mod-mod, add-mod, add-mul-mod_self_right, mul_assoc}
 use Rattle.std.proofs.Math.Nat.{mod-add-div'}
 use Rattle.offset_allocator.specs.Moving.Compacting.{Move, AreBetween, AreSafe}
@@ -374,79 +373,17 @@ module _ (f : Fields) (s : AreSound f) (t : ℕ) (front run back : List Block) (
               (sym (push_all-append (stepped t run) (hole ∷ []) (remove_all run v.bins))) r.1,
         )
 
--- a space with a block that has a step
-module _ (f : Fields) (s : AreSound f) (t : ℕ) (x : ℕ) (o : IsWhole t (blocks f.cells.chain f.last) x) where
-  abbrev run : List Block
-  run = o.first ∷ o.rest
-
-  pub whole_split : blocks f.cells.chain f.last ≡ o.front ++ ((o.first ∷ o.rest) ++ [])
-  whole_split = o.is ∙ ap (λ l. o.front ++ l) (sym (append-nil run))
-
-  pub first_place : HasPlace f.cells.chain f.cells.chain.reserved f.last f.count x (record { before = o.front; block = o.first; after = o.rest ++ [] })
-  first_place = placed (rw whole_split at s.space) o.name
-
-  pub run_ends : last_or None (o.first ∷ o.rest) ≡ Some f.last
-  run_ends = sym (ap (last_or None) o.is ∙ last_or-append None o.front run) ∙ s.space.ends
-
-  -- what is left
-  pub fewer : CanFollow t (shown f) (o.first ∷ o.rest) → length o.front + (length (stepped t (o.first ∷ o.rest)) + 0) + 2 ≤ f.limit
-  fewer can = elim can [
-    | inl room ↦ omega (arith, room, ap (λ (l : List Block). length l) o.is, length-append o.front run, stepped_length t run)
-    | inr e ↦ omega (
-      arith,
-      (well_counted (shown (record f { accesses = 0 })) f.accesses s.well).room,
-      ap (λ (l : List Block). length l) o.is,
-      length-append o.front run,
-      stepped_fewer t run e,
-    )
-  ]
-
-  pub steps : {y : ℕ} {left : List ℕ} {w : View} → IsTaken (length (o.front ++ o.first ∷ (o.rest ++ []))) (take f.count f.cells.chain.spare) y left
-      → w.unused ≡ left ++ names_of (used_up t (o.first ∷ o.rest))
-      → SameSpace (replace (shown f) o.front (o.first ∷ o.rest) (stepped t (o.first ∷ o.rest) ++ free_block y (given_up t (o.first ∷ o.rest)) ∷ []) []) w
-      → SlidesBy t (shown f) w
-  steps {y} {left} {w} taken unused view = record {
-    front = o.front;
-    first = o.first;
-    rest = o.rest;
-    is = o.is;
-    few = o.few;
-    free = o.free;
-    whole = o.whole;
-    more = o.more;
-    name = y;
-    left = left;
-    taken = subst (λ l. IsTaken (length l) (take f.count f.cells.chain.spare) y left) (sym whole_split) taken;
-    names = unused;
-    view = view;
-  }
-
 -- the live blocks stay
-pub steps_live : (t : ℕ) (v w : View) → SlidesBy t v w → live w.blocks ≡ live v.blocks
-steps_live t v w h =
-    let run : List Block = h.first ∷ h.rest in
-    let new : List Block = stepped t run ++ free_block h.name (given_up t run) ∷ [] in
-    ap (λ (u : View). live u.blocks) h.view ∙ live_append h.front (new ++ [])
-    ∙ ap (λ l. live h.front ++ l) (ap live (append-nil new) ∙ live_append (stepped t run) (free_block h.name (given_up t run) ∷ []) ∙ append-nil (live (stepped t run)) ∙ stepped_live t run)
-    ∙ sym (live_append h.front run) ∙ sym (ap live h.is)
+pub stays_live : (t x : ℕ) (v w : View) (front run back : List Block) → v.blocks ≡ front ++ (run ++ back)
+    → SameSpace (replace v front run (stepped t run ++ free_block x (given_up t run) ∷ []) back) w → live w.blocks ≡ live v.blocks
+stays_live t x v w front run back is view =
+    ap (λ (u : View). live u.blocks) view ∙ live_append front ((stepped t run ++ free_block x (given_up t run) ∷ []) ++ back)
+    ∙ ap (λ l. live front ++ l) (live_append (stepped t run ++ free_block x (given_up t run) ∷ []) back
+    ∙ ap (λ l. l ++ live back) (live_append (stepped t run) (free_block x (given_up t run) ∷ []) ∙ append-nil (live (stepped t run)) ∙ stepped_live t run)
+    ∙ sym (live_append run back)) ∙ sym (live_append front (run ++ back)) ∙ sym (ap live is)
 
--- whatever was counted before
-pub steps_counted : (t k : ℕ) (v w : View) → SlidesBy t (record v { accesses = k }) w → SlidesBy t v w
-steps_counted t k v w h = record {
-  front = h.front;
-  first = h.first;
-  rest = h.rest;
-  is = h.is;
-  few = h.few;
-  free = h.free;
-  whole = h.whole;
-  more = h.more;
-  name = h.name;
-  left = h.left;
-  taken = h.taken;
-  names = h.names;
-  view = h.view;
-}
+pub steps_live : (t : ℕ) (v w : View) → SlidesBy t v w → live w.blocks ≡ live v.blocks
+steps_live t v w h = stays_live t h.name v w h.front (h.first ∷ h.rest) [] (h.is ∙ ap (λ (l : List Block). h.front ++ l) (sym (append-nil (h.first ∷ h.rest)))) h.view
 
 -- a block of no units before a block
 pub opened_place : {c : ChainCells} {m last count x : ℕ} (y : ℕ) (fs : List Block) (b : Block) (cs : List Block)

@@ -6,8 +6,8 @@ use Rattle.offset_allocator.proofs.{Moving.Gaps.next_after, Moving.Gaps.seen, Mo
 use Rattle.offset_allocator.proofs.{Views.ViewBins.hit, Views.ViewBins.length_remove, Views.ViewBins.times_put, Classes.down_small}
 use Rattle.offset_allocator.proofs.Common.{◌≡◌, ◌≢◌, ℕ, ◌+◌, ◌-◌, ◌*◌, ◌<◌, ◌≤◌, Bool, true, false, not, ◌&&◌, nat_le, nat_eq, Some, None, Option, List, [], ◌∷◌, ◌++◌, if◌then◌else◌, refl, sym}
 use Rattle.offset_allocator.proofs.Common.{ap, ap₂, subst, ◌∙◌, arith, append_assoc, append-nil, length, length-append, FoldsTo, ChainCells, node, Block, free_block, free_part, units, first_or, Move, move_of, HasPlace}
-use Rattle.offset_allocator.proofs.Common.{◌%◌, ◌⊎◌, ◌↔◌, inl, inr, nat_tests, AreInBins, IsAmong, IsUnlisted, ne_eqb, eq-eqb, bin_at, last_or, down, remove, push, push_all, count_named, one}
-use Rattle.offset_allocator.specs.Moving.BySteps.{run_by, kept, stepped, given_up, used_up, moves_by}
+use Rattle.offset_allocator.proofs.Common.{true≢false, ◌%◌, ◌⊎◌, inl, inr, nat_tests, AreInBins, IsAmong, IsUnlisted, ne_eqb, eq-eqb, bin_at, last_or, down, remove, push, push_all, count_named, count_used, one}
+use Rattle.offset_allocator.specs.Moving.BySteps.{run_by, kept, stepped, given_up, used_up, moves_by, EndsAt, is_end}
 use Rattle.offset_allocator.specs.{Accesses.Costs, Moving.Gaps.HasGap, Moving.Gaps.IsGap, Names.names_of}
 use Rattle.offset_allocator.specs.declared.moves.gap.Gap.{Gap}
 
@@ -86,46 +86,6 @@ module _ (s : ℕ) (b : Block) where
       go : (n : ℕ) → n ≡ 0 → (if nat_eq n 0 then b ∷ [] else []) ++ used_up s bs ≡ [] → ⊥
       go n q r = let k : b ∷ used_up s bs ≡ [] = ap (λ (m : ℕ). (if nat_eq m 0 then b ∷ [] else []) ++ used_up s bs) (sym q) ∙ r in absurd (cc)
 
--- a walk back knows whether a free block can follow these blocks
-abbrev pub IsFreed : ℕ → Bool → Bool → List Block → Type 0
-IsFreed s admits t bs = (t ≡ true) ↔ ((admits ≡ true) ⊎ (used_up s bs ≢ []))
-
-pub follows_none : (s : ℕ) (admits : Bool) → IsFreed s admits admits []
-follows_none s admits = (λ e. inl e, λ e. elim e [ inl a ↦ a | inr f ↦ absurd (f refl) ])
-
-pub freed_end : (s : ℕ) (admits t : Bool) (b : Block) → (t ≡ true) ↔ ((admits ≡ true) ⊎ (b.used ≡ false)) → IsFreed s admits t (b ∷ [])
-freed_end s admits t b h = (
-  λ e. elim (h.0 e) [ inl a ↦ inl a | inr u ↦ inr (λ q. let k : b ∷ [] ≡ [] = sym (emptied_free s b [] u 0 refl) ∙ q in absurd (cc)) ],
-  λ e. elim e [ inl a ↦ h.1 (inl a) | inr f ↦ h.1 (inr (idle b.used refl f)) ],
-)
-  where
-    idle : (u : Bool) → b.used ≡ u → used_up s (b ∷ []) ≢ [] → b.used ≡ false
-    idle true u f = absurd (f (emptied_used s b [] u))
-    idle false u f = u
-
-module _ (s : ℕ) (b : Block) (bs : List Block) (admits : Bool) where
-  -- one block more
-  pub freed_on : bs ≢ [] → (was is : Bool) → IsFreed s admits was bs → (is ≡ true) ↔ ((was ≡ true) ⊎ ((b.used ≡ false) × (b.size % s ≡ 0))) → IsFreed s admits is (b ∷ bs)
-  freed_on some was is h k = (
-    λ e. elim (k.0 e) [
-      | inl w ↦ elim (h.0 w) [ inl a ↦ inl a | inr f ↦ inr (freed_still s b bs f) ]
-      | inr n ↦ inr (freed_now s b bs n.0 n.1)
-    ],
-    λ e. elim e [
-      | inl a ↦ k.1 (inl (h.1 (inl a)))
-      | inr f ↦ elim (freed_here s b bs some f) [ inl g ↦ k.1 (inl (h.1 (inr g))) | inr n ↦ k.1 (inr n) ]
-    ],
-  )
-
-  pub follows_on : (u freed was is : Bool) → IsFreed s admits freed (b ∷ bs) → IsFreed s admits was (run_by s bs) → is ≡ (if u then freed else was)
-      → run_by s (b ∷ bs) ≡ (if u then b ∷ bs else run_by s bs) → IsFreed s admits is (run_by s (b ∷ bs))
-  follows_on true freed was is h k e r = subst (IsFreed s admits is) (sym r) (subst (λ t. IsFreed s admits t (b ∷ bs)) (sym e) h)
-  follows_on false freed was is h k e r = subst (IsFreed s admits is) (sym r) (subst (λ t. IsFreed s admits t (run_by s bs)) (sym e) k)
-
-  pub named_on : (u : Bool) (x : ℕ) (first : Option ℕ) → b.name ≡ x → first ≡ first_or None (run_by s bs) → (if u then Some x else first) ≡ first_or None (if u then b ∷ bs else run_by s bs)
-  named_on true x first n e = ap Some (sym n)
-  named_on false x first n e = e
-
 -- a free block goes into its bin
 pub filed_put : (fs cs : List Block) (d : Block) (ls : List (List ℕ)) → d.used ≡ false → length ls ≡ 256 → AreInBins (fs ++ cs) ls → AreInBins ((fs ++ d ∷ []) ++ cs) (push (down d.size) d.name ls)
 filed_put fs cs d ls u long f k y =
@@ -140,67 +100,104 @@ filed_put fs cs d ls u long f k y =
       tally_append (share k y) fs (d ∷ []),
     )
 
+-- a turn of the slide, which reads three cells first, makes at least 4 accesses, and at most 7 for a used block, or where no
+-- bins change, and 18 else
+pub record IsTurn (in_bins : Bool) (at_most old new : ℕ) : Type 0 where
+  pub least : old + 4 ≤ new
+  pub most : new ≤ old + at_most
+  pub light : in_bins ≡ false → new ≤ old + 7
+
+pub turn_of_pass : (in_bins : Bool) {k₀ k₁ k₂ k₃ k₄ : ℕ} → k₁ ≡ k₀ + 1 → k₂ ≡ k₁ + 1 → k₃ ≡ k₂ + 1 → Costs 3 4 k₃ k₄ → IsTurn in_bins 7 k₀ k₄
+turn_of_pass in_bins a b c d = record { least = omega arith; most = omega arith; light = λ _. omega arith }
+
+pub turn_of_into : (in_bins : Bool) {k₀ k₁ k₂ k₃ k₄ k₅ : ℕ} → k₁ ≡ k₀ + 1 → k₂ ≡ k₁ + 1 → k₃ ≡ k₂ + 1 → Costs 0 5 k₃ k₄ → (in_bins ≡ false → k₄ ≡ k₃) → k₅ ≡ k₄ + 1 → IsTurn in_bins 18 k₀ k₅
+turn_of_into in_bins a b c d n e = record { least = omega (arith, a, b, c, d.0, e); most = omega (arith, a, b, c, d.1, e); light = λ u. let same = n u in omega (arith, a, b, c, same, e) }
+
+pub turn_of_part : (in_bins : Bool) {k₀ k₁ k₂ k₃ k₄ k₅ k₆ : ℕ} → k₁ ≡ k₀ + 1 → k₂ ≡ k₁ + 1 → k₃ ≡ k₂ + 1 → Costs 0 5 k₃ k₄ → Costs 3 4 k₄ k₅ → Costs 5 6 k₅ k₆ → in_bins ≡ true → IsTurn in_bins 18 k₀ k₆
+turn_of_part in_bins a b c d e f filed = record { least = omega arith; most = omega arith; light = λ u. absurd (true≢false (sym filed ∙ u)) }
+
+-- the blocks that are left go to the same end, or are none
+abbrev pub GoesTo : Option ℕ → List Block → List Block → Type 0
+GoesTo None rest back = back ≡ []
+GoesTo (Some x) rest back = last_or (Some x) rest ≡ Some x
+
+goes_on : (end : Option ℕ) (b : Block) (bs back : List Block) → GoesTo end (b ∷ bs) back → GoesTo end bs back
+goes_on None b bs back h = h
+goes_on (Some x) b [] back h = refl
+goes_on (Some x) b (d ∷ bs) back h = h
+
+goes_first : (end : Option ℕ) (run back : List Block) → EndsAt end run back → GoesTo end run back
+goes_first None run back h = h
+goes_first (Some x) [] back h = absurd (cc)
+goes_first (Some x) (b ∷ bs) back h = h
+
+first_there : (end : Option ℕ) (run back : List Block) → EndsAt end run back → first_or None (run ++ back) ≡ first_or None run
+first_there None run back h = ap (first_or None) (ap (λ l. run ++ l) h ∙ append-nil run)
+first_there (Some x) [] back h = absurd (cc)
+first_there (Some x) (b ∷ bs) back h = refl
+
 -- how far a gap has come over the blocks of a run: `left` is what stays of those that were met, those in `rest` were not
--- met yet, `at` is the next one, and `link` names the block after those that were met
-pub record IsStepping {F A B : Type 0} (R : F → Move → F → Type 0) (s : ℕ) (front run back : List Block) (end : ℕ) (f : F) (accesses : ℕ) (max : ℕ) (number : A → ℕ)
+-- met yet, `at` is the next one, and `link` names the block after those that were met; the gap had n₀ units at first, and
+-- `in_bins` says whether bins change
+pub record IsStepping {F A B : Type 0} (R : F → Move → F → Type 0) (s n₀ : ℕ) (in_bins : Bool) (front run back : List Block) (end : Option ℕ) (f : F) (accesses : ℕ) (max : ℕ) (number : A → ℕ)
     (t : ChainCells) (m last count : ℕ) (gap : Gap A B) (at link : Option ℕ) (g : F) (used : ℕ) (ls₀ ls : List (List ℕ)) (u₀ u : List ℕ) : Type 0 where
   pub left : List Block
   pub rest : List Block
   pub there : IsGap max number gap t m last count (record { before = front ++ left; block = free_block gap.name gap.size; after = rest ++ back })
   pub next : at ≡ first_or None rest
   pub linked : link ≡ first_or None (rest ++ back)
-  pub ends : last_or (Some end) rest ≡ Some end
+  pub ends : GoesTo end rest back
   pub blocks : left ++ stepped s rest ≡ stepped s run
-  pub sized : gap.size + given_up s rest ≡ given_up s run
+  pub sized : gap.size + given_up s rest ≡ n₀ + given_up s run
   pub moved : List Move
   pub calls : FoldsTo R f moved g
-  pub all : moved ++ moves_by s (gap.offset + gap.size) gap.offset rest ≡ moves_by s (units front) (units front) run
+  pub all : moved ++ moves_by s (gap.offset + gap.size) gap.offset rest ≡ moves_by s (units front + n₀) (units front) run
   pub bins : rebinned s rest ls ≡ rebinned s run ls₀
   pub filed : AreInBins ((front ++ left) ++ (rest ++ back)) ls
   pub put : List ℕ
   pub unused : u ≡ u₀ ++ put
   pub names : put ++ names_of (used_up s rest) ≡ names_of (used_up s run)
   pub bounded : used + 18 * length rest ≤ accesses + 18 * length run
+  pub sharp : used + 18 * length rest + 11 * count_used run ≤ accesses + 18 * length run + 11 * count_used rest
+  pub light : in_bins ≡ false → used + 7 * length rest ≤ accesses + 7 * length run
+  pub least : accesses + 4 * length run ≤ used + 4 * length rest
 
 -- at first
-pub stepping_start : {F A B : Type 0} {R : F → Move → F → Type 0} (s : ℕ) {front run back : List Block} {end x : ℕ} {f : F} {accesses : ℕ} {max : ℕ} {number : A → ℕ} {t : ChainCells} {m last count : ℕ}
+pub stepping_start : {F A B : Type 0} {R : F → Move → F → Type 0} (s : ℕ) (in_bins : Bool) {front run back : List Block} {end : Option ℕ} {d : Block} {f : F} {accesses : ℕ} {max : ℕ} {number : A → ℕ} {t : ChainCells} {m last count : ℕ}
     {gap : Gap A B} {at link : Option ℕ} {ls : List (List ℕ)} {u : List ℕ}
-    → IsGap max number gap t m last count (record { before = front; block = free_block x 0; after = run ++ back }) → at ≡ link → link ≡ first_or None (run ++ back) → last_or None run ≡ Some end
-    → AreInBins (front ++ (run ++ back)) ls → IsStepping R s front run back end f accesses max number t m last count gap at link f accesses ls ls u u
-stepping_start s {front} {run} {back} {end} {x} {max = max} {number = number} {t = t} {m = m} {last = last} {count = count} {gap = gap} {ls = ls} {u = u} i at_is link_is ends filed =
-    let zero_more : units front + 0 ≡ units front = omega arith in
+    → IsGap max number gap t m last count (record { before = front; block = d; after = run ++ back }) → at ≡ link → link ≡ first_or None (run ++ back) → EndsAt end run back
+    → AreInBins (front ++ (run ++ back)) ls → IsStepping R s d.size in_bins front run back end f accesses max number t m last count gap at link f accesses ls ls u u
+stepping_start s in_bins {front} {run} {back} {end} {d} {max = max} {number = number} {t = t} {m = m} {last = last} {count = count} {gap = gap} {ls = ls} {u = u} i at_is link_is ends filed =
     record {
       left = [];
       rest = run;
       there = subst (λ (l : List Block). IsGap max number gap t m last count (record { before = l; block = free_block gap.name gap.size; after = run ++ back })) (sym (append-nil front))
-          (subst (λ (b : Block). IsGap max number gap t m last count (record { before = front; block = b; after = run ++ back })) (ap₂ free_block i.there.name (sym i.size)) i);
-      next = at_is ∙ link_is ∙ first run ends;
+          (subst (λ (b : Block). IsGap max number gap t m last count (record { before = front; block = b; after = run ++ back })) block i);
+      next = at_is ∙ link_is ∙ first_there end run back ends;
       linked = link_is;
-      ends = kept_end run ends;
+      ends = goes_first end run back ends;
       blocks = refl;
       sized = omega (arith, i.size);
       moved = [];
       calls = refl;
-      all = rw (i.size, i.offset, zero_more) refl;
+      all = rw (i.size, i.offset) refl;
       bins = refl;
       filed = subst (λ (l : List Block). AreInBins (l ++ (run ++ back)) ls) (sym (append-nil front)) filed;
       put = [];
       unused = sym (append-nil u);
       names = refl;
       bounded = omega arith;
+      sharp = omega arith;
+      light = λ _. omega arith;
+      least = omega arith;
     }
   where
-    first : (l : List Block) → last_or None l ≡ Some end → first_or None (l ++ back) ≡ first_or None l
-    first [] e = absurd (cc)
-    first (b ∷ bs) e = refl
+    block : d ≡ free_block gap.name gap.size
+    block = rw (i.size, ← i.there.name, ← i.there.free) refl
 
-    kept_end : (l : List Block) → last_or None l ≡ Some end → last_or (Some end) l ≡ Some end
-    kept_end [] e = absurd (cc)
-    kept_end (b ∷ bs) e = e
-
-module _ {F A B : Type 0} {R : F → Move → F → Type 0} {s : ℕ} {front run back : List Block} {end : ℕ} {f : F} {accesses : ℕ} {max : ℕ} {number : A → ℕ} {t : ChainCells} {m last count : ℕ}
+module _ {F A B : Type 0} {R : F → Move → F → Type 0} {s n₀ : ℕ} {in_bins : Bool} {front run back : List Block} {end : Option ℕ} {f : F} {accesses : ℕ} {max : ℕ} {number : A → ℕ} {t : ChainCells} {m last count : ℕ}
     {gap : Gap A B} {at link : Option ℕ} {g : F} {used : ℕ} {ls₀ ls : List (List ℕ)} {u₀ u : List ℕ}
-    (i : IsStepping R s front run back end f accesses max number t m last count gap at link g used ls₀ ls u₀ u) where
+    (i : IsStepping R s n₀ in_bins front run back end f accesses max number t m last count gap at link g used ls₀ ls u₀ u) where
   -- a block is left where there is a next one
   pub stepping_next : {y : ℕ} → at ≡ Some y → (b : Block) × (bs : List Block) × (i.rest ≡ b ∷ bs) × (b.name ≡ y)
   stepping_next {y} q = go i.rest refl (sym i.next ∙ q)
@@ -231,28 +228,28 @@ module _ {F A B : Type 0} {R : F → Move → F → Type 0} {s : ℕ} {front run
     pub gap_after : i.rest ++ back ≡ b ∷ (bs ++ back)
     gap_after = after_is
 
-    ends_here : last_or (Some b.name) bs ≡ Some end
-    ends_here = sym (ap (last_or (Some end)) e) ∙ i.ends
+    ends_here : GoesTo end (b ∷ bs) back
+    ends_here = subst (λ l. GoesTo end l back) e i.ends
 
-    pub ends_after : last_or (Some end) bs ≡ Some end
-    ends_after = go bs ends_here
-      where
-        go : (l : List Block) → last_or (Some b.name) l ≡ Some end → last_or (Some end) l ≡ Some end
-        go [] h = refl
-        go (d ∷ l) h = h
+    pub ends_after : GoesTo end bs back
+    ends_after = goes_on end b bs back ends_here
 
     -- the block after it, where it is not the last one
-    pub next_within : {r link' : Option ℕ} → r ≡ (if nat_eq b.name end then None else link') → link' ≡ first_or None (bs ++ back) → r ≡ first_or None bs
-    next_within {r} {link'} is l = go bs refl ends_here
+    pub next_within : {r link' : Option ℕ} → r ≡ (if is_end end b.name then None else link') → link' ≡ first_or None (bs ++ back) → r ≡ first_or None bs
+    next_within {r} {link'} is l = to end ends_here is
       where
-        go : (ds : List Block) → bs ≡ ds → last_or (Some b.name) ds ≡ Some end → r ≡ first_or None bs
-        go [] q h = let same : b.name ≡ end = cc in is ∙ ap (λ (t : Bool). if t then None else link') (eq-eqb b.name end same) ∙ sym (ap (first_or None) q)
-        go (d ∷ ds) q h = is ∙ ap (λ (t : Bool). if t then None else link') (ne_eqb b.name end (λ same. twice same)) ∙ l ∙ ap (λ k. first_or None (k ++ back)) q ∙ sym (ap (first_or None) q)
+        to : (o : Option ℕ) → GoesTo o (b ∷ bs) back → r ≡ (if is_end o b.name then None else link') → r ≡ first_or None bs
+        to None h is = is ∙ l ∙ ap (first_or None) (ap (λ k. bs ++ k) h ∙ append-nil bs)
+        to (Some x) h is = go bs refl h
           where
-            twice : b.name ≡ end → ⊥
-            twice same =
-                let two = times-end b.name (d ∷ ds) (h ∙ ap (λ n. Some n) (sym same)) in
-                omega (arith, two, seen _ _ (b ∷ (bs ++ back)) gap_here b.name, ap (λ k. count_named b.name (k ++ back)) q, times-append b.name (d ∷ ds) back, one-same b.name)
+            go : (ds : List Block) → bs ≡ ds → last_or (Some b.name) ds ≡ Some x → r ≡ first_or None bs
+            go [] q h = let same : b.name ≡ x = cc in is ∙ ap (λ (t : Bool). if t then None else link') (eq-eqb b.name x same) ∙ sym (ap (first_or None) q)
+            go (d ∷ ds) q h = is ∙ ap (λ (t : Bool). if t then None else link') (ne_eqb b.name x (λ same. twice same)) ∙ l ∙ ap (λ k. first_or None (k ++ back)) q ∙ sym (ap (first_or None) q)
+              where
+                twice : b.name ≡ x → ⊥
+                twice same =
+                    let two = times-end b.name (d ∷ ds) (h ∙ ap (λ n. Some n) (sym same)) in
+                    omega (arith, two, seen _ _ (b ∷ (bs ++ back)) gap_here b.name, ap (λ k. count_named b.name (k ++ back)) q, times-append b.name (d ∷ ds) back, one-same b.name)
 
     pub next_filed : b.used ≡ false → IsAmong b.name (bin_at ls (down b.size))
     next_filed free = filed_in (front ++ i.left) (bs ++ back) b ls (subst (λ l. AreInBins ((front ++ i.left) ++ l) ls) after_is i.filed) free
@@ -275,8 +272,8 @@ module _ {F A B : Type 0} {R : F → Move → F → Type 0} {s : ℕ} {front run
     -- a used block passes it
     pub step_past : {t' : ChainCells} {last' count' : ℕ} {gap' : Gap A B} {at' link' : Option ℕ} {g' : F} {used' : ℕ} {ls' : List (List ℕ)} {u' : List ℕ} → b.used ≡ true
         → IsGap max number gap' t' m last' count' (record { before = (front ++ i.left) ++ b ∷ []; block = free_block gap.name gap.size; after = bs ++ back })
-        → at' ≡ (if nat_eq b.name end then None else link') → link' ≡ (node t b.name).after → FoldsTo R g (move_of (gap.offset + gap.size) gap.offset b) g' → used' ≤ used + 18 → ls' ≡ ls → u' ≡ u
-        → IsStepping R s front run back end f accesses max number t' m last' count' gap' at' link' g' used' ls₀ ls' u₀ u'
+        → at' ≡ (if is_end end b.name then None else link') → link' ≡ (node t b.name).after → FoldsTo R g (move_of (gap.offset + gap.size) gap.offset b) g' → IsTurn in_bins 7 used used' → ls' ≡ ls → u' ≡ u
+        → IsStepping R s n₀ in_bins front run back end f accesses max number t' m last' count' gap' at' link' g' used' ls₀ ls' u₀ u'
     step_past {t'} {last'} {count'} {gap'} {at'} {link'} {g'} {used'} {ls'} {u'} live h w q call few same_bins same_names =
         let offset : gap'.offset ≡ gap.offset + b.size = omega (arith, h.offset, i.there.offset, units-append (front ++ i.left) (b ∷ [])) in
         let from : (gap.offset + gap.size) + b.size ≡ gap'.offset + gap'.size = omega (arith, offset, h.size) in
@@ -301,7 +298,10 @@ module _ {F A B : Type 0} {R : F → Move → F → Type 0} {s : ℕ} {front run
           put = i.put;
           unused = same_names ∙ i.unused;
           names = ap (λ l. i.put ++ names_of l) (sym (ap (used_up s) e ∙ emptied_used s b bs live)) ∙ i.names;
-          bounded = omega (arith, i.bounded, few, ap (λ (l : List Block). length l) e);
+          bounded = let most = few.most in omega (arith, i.bounded, most, ap (λ (l : List Block). length l) e);
+          sharp = let most = few.most in let sharp = i.sharp in omega (arith, sharp, most, ap (λ (l : List Block). length l) e, ap count_used e, ap one live);
+          light = λ n. let most = few.light n in let before = i.light n in omega (arith, before, most, ap (λ (l : List Block). length l) e);
+          least = let least = few.least in omega (arith, i.least, least, ap (λ (l : List Block). length l) e);
         }
 
     -- a free block keeps a part, which passes it
@@ -312,8 +312,8 @@ module _ {F A B : Type 0} {R : F → Move → F → Type 0} {s : ℕ} {front run
           block = record (free_block gap.name gap.size) { size = gap.size + (b.size - n) };
           after = bs ++ back;
         })
-        → at' ≡ (if nat_eq b.name end then None else link') → link' ≡ (node t b.name).after → used' ≤ used + 18 → ls' ≡ push (down n) b.name (remove (down b.size) b.name ls) → u' ≡ u
-        → IsStepping R s front run back end f accesses max number t' m last' count' gap' at' link' g used' ls₀ ls' u₀ u'
+        → at' ≡ (if is_end end b.name then None else link') → link' ≡ (node t b.name).after → IsTurn in_bins 18 used used' → ls' ≡ push (down n) b.name (remove (down b.size) b.name ls) → u' ≡ u
+        → IsStepping R s n₀ in_bins front run back end f accesses max number t' m last' count' gap' at' link' g used' ls₀ ls' u₀ u'
     step_part {t'} {last'} {count'} {gap'} {at'} {link'} {used'} {ls'} {u'} n free is some within long h w q few new_bins same_names =
         let d : Block = record b { size = n } in
         let offset : gap'.offset ≡ gap.offset + n = omega (arith, h.offset, i.there.offset, units-append (front ++ i.left) (d ∷ [])) in
@@ -343,7 +343,10 @@ module _ {F A B : Type 0} {R : F → Move → F → Type 0} {s : ℕ} {front run
           put = i.put;
           unused = same_names ∙ i.unused;
           names = ap (λ l. i.put ++ names_of l) (sym (ap (used_up s) e ∙ emptied_free s b bs free n is ∙ none n some)) ∙ i.names;
-          bounded = omega (arith, i.bounded, few, ap (λ (l : List Block). length l) e);
+          bounded = let most = few.most in omega (arith, i.bounded, most, ap (λ (l : List Block). length l) e);
+          sharp = let most = few.most in let sharp = i.sharp in omega (arith, sharp, most, ap (λ (l : List Block). length l) e, ap count_used e, ap one free);
+          light = λ n. let most = few.light n in let before = i.light n in omega (arith, before, most, ap (λ (l : List Block). length l) e);
+          least = let least = few.least in omega (arith, i.least, least, ap (λ (l : List Block). length l) e);
         }
       where
         none : (n : ℕ) → 0 < n → (if nat_eq n 0 then b ∷ [] else []) ++ used_up s bs ≡ used_up s bs
@@ -352,8 +355,8 @@ module _ {F A B : Type 0} {R : F → Move → F → Type 0} {s : ℕ} {front run
     -- a free block goes into it
     pub step_into : {t' : ChainCells} {last' count' : ℕ} {gap' : Gap A B} {at' link' : Option ℕ} {used' : ℕ} {ls' : List (List ℕ)} {u' : List ℕ} → b.used ≡ false → 0 ≡ kept s b.size bs → length ls ≡ 256
         → IsGap max number gap' t' m last' count' (record { before = front ++ i.left; block = record (free_block gap.name gap.size) { size = gap.size + b.size }; after = bs ++ back })
-        → at' ≡ (if nat_eq b.name end then None else link') → link' ≡ (node t b.name).after → used' ≤ used + 18 → ls' ≡ remove (down b.size) b.name ls → u' ≡ u ++ b.name ∷ []
-        → IsStepping R s front run back end f accesses max number t' m last' count' gap' at' link' g used' ls₀ ls' u₀ u'
+        → at' ≡ (if is_end end b.name then None else link') → link' ≡ (node t b.name).after → IsTurn in_bins 18 used used' → ls' ≡ remove (down b.size) b.name ls → u' ≡ u ++ b.name ∷ []
+        → IsStepping R s n₀ in_bins front run back end f accesses max number t' m last' count' gap' at' link' g used' ls₀ ls' u₀ u'
     step_into {t'} {last'} {count'} {gap'} {at'} {link'} {used'} {ls'} {u'} free is long h w q few new_bins more_names =
         let offset : gap'.offset ≡ gap.offset = omega (arith, h.offset, i.there.offset) in
         let from : (gap.offset + gap.size) + b.size ≡ gap'.offset + gap'.size = omega (arith, offset, h.size) in
@@ -378,13 +381,17 @@ module _ {F A B : Type 0} {R : F → Move → F → Type 0} {s : ℕ} {front run
           unused = more_names ∙ ap (λ l. l ++ b.name ∷ []) i.unused ∙ append_assoc u₀ i.put (b.name ∷ []);
           names = append_assoc i.put (b.name ∷ []) (names_of (used_up s bs))
               ∙ ap (λ l. i.put ++ names_of l) (sym (ap (used_up s) e ∙ emptied_free s b bs free 0 is)) ∙ i.names;
-          bounded = omega (arith, i.bounded, few, ap (λ (l : List Block). length l) e);
+          bounded = let most = few.most in omega (arith, i.bounded, most, ap (λ (l : List Block). length l) e);
+          sharp = let most = few.most in let sharp = i.sharp in omega (arith, sharp, most, ap (λ (l : List Block). length l) e, ap count_used e, ap one free);
+          light = λ n. let most = few.light n in let before = i.light n in omega (arith, before, most, ap (λ (l : List Block). length l) e);
+          least = let least = few.least in omega (arith, i.least, least, ap (λ (l : List Block). length l) e);
         }
 
   -- at the end
   pub stepping_done : i.rest ≡ [] → IsGap max number gap t m last count (record { before = front ++ stepped s run; block = free_block gap.name gap.size; after = back })
-      × (link ≡ first_or None back) × (gap.size ≡ given_up s run) × FoldsTo R f (moves_by s (units front) (units front) run) g × (ls ≡ rebinned s run ls₀)
-      × AreInBins ((front ++ stepped s run) ++ back) ls × (u ≡ u₀ ++ names_of (used_up s run)) × (used ≤ accesses + 18 * length run)
+      × (link ≡ first_or None back) × (gap.size ≡ n₀ + given_up s run) × FoldsTo R f (moves_by s (units front + n₀) (units front) run) g × (ls ≡ rebinned s run ls₀)
+      × AreInBins ((front ++ stepped s run) ++ back) ls × (u ≡ u₀ ++ names_of (used_up s run)) × (used + 11 * count_used run ≤ accesses + 18 * length run)
+      × (in_bins ≡ false → used ≤ accesses + 7 * length run) × (accesses + 4 * length run ≤ used)
   stepping_done none =
       let left_is : i.left ≡ stepped s run = sym (append-nil i.left) ∙ ap (λ l. i.left ++ stepped s l) (sym none) ∙ i.blocks in (
         subst (λ (l : List Block). IsGap max number gap t m last count (record { before = front ++ l; block = free_block gap.name gap.size; after = back })) left_is
@@ -395,39 +402,28 @@ module _ {F A B : Type 0} {R : F → Move → F → Type 0} {s : ℕ} {front run
         sym (ap (λ l. rebinned s l ls) none) ∙ i.bins,
         subst (λ (l : List Block). AreInBins ((front ++ l) ++ back) ls) left_is (subst (λ (l : List Block). AreInBins ((front ++ i.left) ++ (l ++ back)) ls) none i.filed),
         i.unused ∙ ap (λ l. u₀ ++ l) (sym (append-nil i.put) ∙ ap (λ l. i.put ++ names_of (used_up s l)) (sym none) ∙ i.names),
-        omega (arith, i.bounded, ap (λ (l : List Block). length l) none),
+        omega (arith, i.sharp, ap (λ (l : List Block). length l) none, ap count_used none),
+        λ n. let light = i.light n in omega (arith, light, ap (λ (l : List Block). length l) none),
+        omega (arith, i.least, ap (λ (l : List Block). length l) none),
       )
 
 -- a block comes once among those of a run
-pub run_once : {c : ChainCells} {m last count x y : ℕ} (front run back : List Block) → HasPlace c m last count x (record { before = front; block = free_block y 0; after = run ++ back }) → (k : ℕ)
+pub run_once : {c : ChainCells} {m last count x : ℕ} {d : Block} (front run back : List Block) → HasPlace c m last count x (record { before = front; block = d; after = run ++ back }) → (k : ℕ)
     → count_named k run ≤ 1
-run_once {y = y} front run back h k = omega (
+run_once {d = d} front run back h k = omega (
   arith,
   each-le _ _ _ _ _ h.chain k,
-  times-append k front (free_block y 0 ∷ (run ++ back)),
+  times-append k front (d ∷ (run ++ back)),
   times-append k run back,
 )
 
--- a turn of the slide, which reads three cells first, makes some accesses, and at most 18
-abbrev pub IsTurn : ℕ → ℕ → Type 0
-IsTurn old new = (old < new) × (new ≤ old + 18)
-
-pub turn_of_pass : {k₀ k₁ k₂ k₃ k₄ : ℕ} → k₁ ≡ k₀ + 1 → k₂ ≡ k₁ + 1 → k₃ ≡ k₂ + 1 → Costs 3 4 k₃ k₄ → IsTurn k₀ k₄
-turn_of_pass a b c d = (omega arith, omega arith)
-
-pub turn_of_into : {k₀ k₁ k₂ k₃ k₄ k₅ : ℕ} → k₁ ≡ k₀ + 1 → k₂ ≡ k₁ + 1 → k₃ ≡ k₂ + 1 → Costs 3 5 k₃ k₄ → k₅ ≡ k₄ + 1 → IsTurn k₀ k₅
-turn_of_into a b c d e = (omega arith, omega arith)
-
-pub turn_of_part : {k₀ k₁ k₂ k₃ k₄ k₅ k₆ : ℕ} → k₁ ≡ k₀ + 1 → k₂ ≡ k₁ + 1 → k₃ ≡ k₂ + 1 → Costs 3 5 k₃ k₄ → Costs 3 4 k₄ k₅ → Costs 5 6 k₅ k₆ → IsTurn k₀ k₆
-turn_of_part a b c d e f = (omega arith, omega arith)
-
-pub turn_grows : {j k l : ℕ} → j ≤ k → IsTurn k l → j ≤ l
-turn_grows a b = omega arith
+pub turn_grows : {in_bins : Bool} {at_most j k l : ℕ} → j ≤ k → IsTurn in_bins at_most k l → j ≤ l
+turn_grows a b = let more = b.least in omega (arith, a, more)
 
 -- a turn of the slide, in what the tables say of the next block, named y
-module _ {F A B : Type 0} {R : F → Move → F → Type 0} {s : ℕ} {front run back : List Block} {end : ℕ} {f : F} {accesses : ℕ} {max : ℕ} {number : A → ℕ} {t : ChainCells} {m last count : ℕ}
+module _ {F A B : Type 0} {R : F → Move → F → Type 0} {s n₀ : ℕ} {in_bins : Bool} {front run back : List Block} {end : Option ℕ} {f : F} {accesses : ℕ} {max : ℕ} {number : A → ℕ} {t : ChainCells} {m last count : ℕ}
     {gap : Gap A B} {at link : Option ℕ} {g : F} {used : ℕ} {ls₀ ls : List (List ℕ)} {u₀ u : List ℕ}
-    (i : IsStepping R s front run back end f accesses max number t m last count gap at link g used ls₀ ls u₀ u) {y : ℕ} (q : at ≡ Some y) where
+    (i : IsStepping R s n₀ in_bins front run back end f accesses max number t m last count gap at link g used ls₀ ls u₀ u) {y : ℕ} (q : at ≡ Some y) where
   abbrev b : Block
   b = (stepping_next i q).0
 
@@ -469,43 +465,43 @@ module _ {F A B : Type 0} {R : F → Move → F → Type 0} {s : ℕ} {front run
       (subst (λ k. IsAmong b.name (bin_at ls (down k))) (sym (met_sized i.there after named sized)) (next_filed i b bs is (met_used i.there after named cell free)))
 
   -- each turn counts, and there are at most as many as nodes
-  pub turn_less : {c : ChainCells} {last₀ count₀ x k : ℕ} {d : Block} → HasPlace c m last₀ count₀ x (record { before = front; block = d; after = run ++ back }) → IsTurn used k
+  pub turn_less : {c : ChainCells} {last₀ count₀ x k at_most : ℕ} {d : Block} → HasPlace c m last₀ count₀ x (record { before = front; block = d; after = run ++ back }) → IsTurn in_bins at_most used k
       → (accesses + 18 * length c.nodes) - k < (accesses + 18 * length c.nodes) - used
-  turn_less h more = let few = stepping_within i h in let all = ap (λ (l : List Block). length l) is in let bounded = i.bounded in omega (arith, few, all, bounded, more.0)
+  turn_less h more = let few = stepping_within i h in let all = ap (λ (l : List Block). length l) is in let bounded = i.bounded in let least = more.least in omega (arith, few, all, bounded, least)
 
   -- a used block passes the gap
   pub turn_past : {t' : ChainCells} {last' count' : ℕ} {gap' : Gap A B} {at' link' linked : Option ℕ} {g' : F} {used' n : ℕ} {ls' : List (List ℕ)} {u' : List ℕ} {w : Bool}
-      → n ≡ (node t y).size → w ≡ (node t y).used → w ≡ true → at' ≡ (if nat_eq y end then None else linked) → linked ≡ link' → link' ≡ (node t y).after
+      → n ≡ (node t y).size → w ≡ (node t y).used → w ≡ true → at' ≡ (if is_end end y then None else linked) → linked ≡ link' → link' ≡ (node t y).after
       → ((p : Place) (c : Block) (cs : List Block) → IsGap max number gap t m last count p → p.after ≡ c ∷ cs → c.name ≡ y
       → IsGap max number gap' t' m last' count' (record { before = p.before ++ c ∷ []; block = p.block; after = cs }))
-      → ((v : Bool) → FoldsTo R g (move_of (gap.offset + gap.size) gap.offset (record { name = y; size = n; used = v })) g') → IsTurn used used' → ls' ≡ ls → u' ≡ u
-      → IsStepping R s front run back end f accesses max number t' m last' count' gap' at' link' g' used' ls₀ ls' u₀ u'
+      → ((v : Bool) → FoldsTo R g (move_of (gap.offset + gap.size) gap.offset (record { name = y; size = n; used = v })) g') → IsTurn in_bins 7 used used' → ls' ≡ ls → u' ≡ u
+      → IsStepping R s n₀ in_bins front run back end f accesses max number t' m last' count' gap' at' link' g' used' ls₀ ls' u₀ u'
   turn_past {g' = g'} sized cell live within linked next passed called more same_bins same_names =
       step_past i b bs is (met_used i.there after named cell live) (passed _ b _ i.there after named)
-      (within ∙ ap₂ (λ (k : ℕ) (o : Option ℕ). if nat_eq k end then None else o) (sym named) linked) (next ∙ ap (λ k. (node t k).after) (sym named))
+      (within ∙ ap₂ (λ (k : ℕ) (o : Option ℕ). if is_end end k then None else o) (sym named) linked) (next ∙ ap (λ k. (node t k).after) (sym named))
       (subst (λ (l : List Move). FoldsTo R g l g')
       (ap₂ (λ k j. move_of (gap.offset + gap.size) gap.offset (record { name = k; size = j; used = b.used })) (sym named) (met_sized i.there after named sized)) (called b.used))
-      more.1 same_bins same_names
+      more same_bins same_names
 
   -- what it keeps
-  kept_is : {at' linked link' : Option ℕ} {n keep : ℕ} → n ≡ b.size → at' ≡ (if nat_eq y end then None else linked) → linked ≡ link' → link' ≡ (node t y).after
+  kept_is : {at' linked link' : Option ℕ} {n keep : ℕ} → n ≡ b.size → at' ≡ (if is_end end y then None else linked) → linked ≡ link' → link' ≡ (node t y).after
       → ((cs : List Block) → at' ≡ first_or None cs → keep ≡ kept s n cs) → keep ≡ kept s b.size bs
-  kept_is size within linked next keeps = keeps bs (next_within i b bs is (within ∙ ap₂ (λ (k : ℕ) (o : Option ℕ). if nat_eq k end then None else o) (sym named) linked)
+  kept_is size within linked next keeps = keeps bs (next_within i b bs is (within ∙ ap₂ (λ (k : ℕ) (o : Option ℕ). if is_end end k then None else o) (sym named) linked)
       (next ∙ ap (λ k. (node t k).after) (sym named) ∙ next_after _ _ b (bs ++ back) (gap_here i b bs is))) ∙ ap (λ n. kept s n bs) size
 
   -- a free block goes into the gap
   pub turn_into : {t₁ t' : ChainCells} {last₁ count₁ last' count' : ℕ} {gap' : Gap A B} {at' link' linked : Option ℕ} {used' n keep : ℕ} {ls₁ ls' : List (List ℕ)} {u₁ u' : List ℕ} {w : Bool}
-      → n ≡ (node t y).size → w ≡ (node t y).used → w ≡ false → at' ≡ (if nat_eq y end then None else linked) → linked ≡ link' → link' ≡ (node t y).after
+      → n ≡ (node t y).size → w ≡ (node t y).used → w ≡ false → at' ≡ (if is_end end y then None else linked) → linked ≡ link' → link' ≡ (node t y).after
       → ((cs : List Block) → at' ≡ first_or None cs → keep ≡ kept s n cs) → keep ≡ 0 → length ls ≡ 256 → (t₁ ≡ t) × (last₁ ≡ last) × (count₁ ≡ count)
       → ((p : Place) (c : Block) (cs : List Block) → IsGap max number gap t₁ m last₁ count₁ p → p.after ≡ c ∷ cs → c.name ≡ y → c.used ≡ false
       → IsGap max number gap' t' m last' count' (record { before = p.before; block = record p.block { size = p.block.size + c.size }; after = cs }))
-      → IsTurn used used' → ls₁ ≡ remove (down n) y ls → ls' ≡ ls₁ → u₁ ≡ u → u' ≡ u₁ ++ y ∷ []
-      → IsStepping R s front run back end f accesses max number t' m last' count' gap' at' link' g used' ls₀ ls' u₀ u'
+      → IsTurn in_bins 18 used used' → ls₁ ≡ remove (down n) y ls → ls' ≡ ls₁ → u₁ ≡ u → u' ≡ u₁ ++ y ∷ []
+      → IsStepping R s n₀ in_bins front run back end f accesses max number t' m last' count' gap' at' link' g used' ls₀ ls' u₀ u'
   turn_into sized cell idle within linked next keeps none long same gathered more removed same_bins same_names one_more =
       let free = met_used i.there after named cell idle in
       let size = met_sized i.there after named sized in
       step_into i b bs is free (sym none ∙ kept_is size within linked next keeps) long (gathered _ b _ (kept_gap same i.there) after named free)
-      (within ∙ ap₂ (λ (k : ℕ) (o : Option ℕ). if nat_eq k end then None else o) (sym named) linked) (next ∙ ap (λ k. (node t k).after) (sym named)) more.1
+      (within ∙ ap₂ (λ (k : ℕ) (o : Option ℕ). if is_end end k then None else o) (sym named) linked) (next ∙ ap (λ k. (node t k).after) (sym named)) more
       (same_bins ∙ removed ∙ ap₂ (λ j k. remove (down j) k ls) size (sym named)) (one_more ∙ ap₂ (λ (l : List ℕ) (k : ℕ). l ++ k ∷ []) same_names (sym named))
 
   -- a part of a free block has passed the gap
@@ -540,12 +536,12 @@ module _ {F A B : Type 0} {R : F → Move → F → Type 0} {s : ℕ} {front run
         subst (λ k. IsUnlisted k ls₂) named (subst (λ l. IsUnlisted b.name l) (sym lists) (next_unlisted i b bs is (met_used i.there after named cell idle) long))
 
     pub turn_part : {t' : ChainCells} {last' count' : ℕ} {at' link' linked : Option ℕ} {used' class : ℕ} {ls₁ ls₂ ls' : List (List ℕ)} {u₁ u₂ u' : List ℕ}
-        → at' ≡ (if nat_eq y end then None else linked) → linked ≡ link' → link' ≡ (node t y).after → ((cs : List Block) → at' ≡ first_or None cs → keep ≡ kept s n cs) → keep ≢ 0 → keep ≤ n
-        → length ls ≡ 256 → (t' ≡ t₂) × (last' ≡ last₂) × (count' ≡ count₂) → IsTurn used used' → ls₁ ≡ remove (down n) y ls → ls₂ ≡ ls₁ → class ≡ down keep → ls' ≡ push class y ls₂
-        → u₁ ≡ u → u₂ ≡ u₁ → u' ≡ u₂ → IsStepping R s front run back end f accesses max number t' m last' count' gap' at' link' g used' ls₀ ls' u₀ u'
+        → at' ≡ (if is_end end y then None else linked) → linked ≡ link' → link' ≡ (node t y).after → ((cs : List Block) → at' ≡ first_or None cs → keep ≡ kept s n cs) → keep ≢ 0 → keep ≤ n
+        → length ls ≡ 256 → (t' ≡ t₂) × (last' ≡ last₂) × (count' ≡ count₂) → IsTurn in_bins 18 used used' → ls₁ ≡ remove (down n) y ls → ls₂ ≡ ls₁ → class ≡ down keep → ls' ≡ push class y ls₂
+        → u₁ ≡ u → u₂ ≡ u₁ → u' ≡ u₂ → IsStepping R s n₀ in_bins front run back end f accesses max number t' m last' count' gap' at' link' g used' ls₀ ls' u₀ u'
     turn_part within linked next keeps some whole long pushed more removed same_bins classed put same_names₁ same_names₂ same_names₃ =
         let free = met_used i.there after named cell idle in
         let size = met_sized i.there after named sized in
         step_part i b bs is keep free (kept_is size within linked next keeps) (omega (arith, some)) (omega (arith, size, whole)) long (kept_gap pushed part)
-        (within ∙ ap₂ (λ (k : ℕ) (o : Option ℕ). if nat_eq k end then None else o) (sym named) linked) (next ∙ ap (λ k. (node t k).after) (sym named)) more.1
+        (within ∙ ap₂ (λ (k : ℕ) (o : Option ℕ). if is_end end k then None else o) (sym named) linked) (next ∙ ap (λ k. (node t k).after) (sym named)) more
         (put ∙ ap₂ (λ k l. push k y l) classed (same_bins ∙ removed) ∙ ap₂ (λ j k. push (down keep) k (remove (down j) k ls)) size (sym named)) (same_names₃ ∙ same_names₂ ∙ same_names₁)

@@ -1,7 +1,7 @@
 -- What `compact_within` leaves: a compaction by whole steps that goes on from an offset, and stops within a budget.
 use Rattle.std.specs.Prelude.{◌≡◌, ℕ, ◌+◌, ◌≤◌, ◌⊎◌, true, not, ◌&&◌, List, [], ◌∷◌, ◌++◌, Option, Some, None, length, nat_le, if◌then◌else◌}
 use Rattle.std.specs.List.{FoldsTo}
-use Rattle.offset_allocator.specs.declared.moves.budget.Progress.{Progress}
+use Rattle.offset_allocator.specs.declared.moves.over_frames.Progress.{Progress}
 use Rattle.offset_allocator.specs.Moving.BySteps.{CanFollow, given_up, moves_by, stepped, used_up}
 use Rattle.offset_allocator.specs.Moving.Compacting.{Move}
 use Rattle.offset_allocator.specs.Names.{IsTaken, names_of}

@@ -1,11 +1,12 @@
 -- What `compact_by` leaves: each live range moves by whole steps, so that it keeps what its offset leaves of one.
-use Rattle.std.specs.Prelude.{◌≡◌, ◌≢◌, ℕ, ◌+◌, ◌-◌, ◌%◌, ◌<◌, ◌≤◌, ◌⊎◌, Bool, true, false, not, ◌&&◌, List, [], ◌∷◌, ◌++◌, length, nat_eq, nat_le, if◌then◌else◌}
+use Rattle.std.specs.Prelude.{◌≡◌, ◌≢◌, ℕ, ◌+◌, ◌-◌, ◌%◌, ◌<◌, ◌≤◌, ◌⊎◌, Bool, true, false, not, ◌&&◌, List, [], ◌∷◌, ◌++◌, Option, Some, None, length, nat_eq, nat_le, if◌then◌else◌}
 use Rattle.std.specs.List.{AllByRecursion}
+use Rattle.offset_allocator.specs.Chain.{last_or}
 use Rattle.offset_allocator.specs.Moving.Compacting.{Move, move_of}
 use Rattle.offset_allocator.specs.Names.{IsTaken, names_of}
 use Rattle.offset_allocator.specs.Relations.{SameSpace, SameState}
 use Rattle.offset_allocator.specs.Requests.{AdmitsBlocks}
-use Rattle.offset_allocator.specs.View.{View, Block, free_block, free_part, replace}
+use Rattle.offset_allocator.specs.View.{View, AreInBins, Block, free_block, free_part, replace}
 
 -- what a free block of n units keeps, which has these blocks after it: what whole steps leave of it, or 0 where the list
 -- ends with it
@@ -39,6 +40,19 @@ abbrev pub run_by : ℕ → List Block → List Block
 run_by s [] = []
 run_by s (b ∷ []) = []
 run_by s (b ∷ c ∷ bs) = if not b.used && nat_le s b.size then b ∷ c ∷ bs else run_by s (c ∷ bs)
+
+-- a slide goes to the end of a run of blocks, which has this name, or to the end of the space
+abbrev pub EndsAt : Option ℕ → List Block → List Block → Type 0
+EndsAt None run back = back ≡ []
+EndsAt (Some x) run back = last_or None run ≡ Some x
+
+abbrev pub is_end : Option ℕ → ℕ → Bool
+is_end None y = false
+is_end (Some x) y = nat_eq y x
+
+-- these are lists of the names of the free ones of blocks, by their classes: the bins, where the blocks are in bins
+abbrev pub AreFiled : Bool → List Block → List (List ℕ) → List (List ℕ) → Type 0
+AreFiled in_bins bs lists bins = AreInBins bs lists × (length lists ≡ 256) × (in_bins ≡ true → lists ≡ bins)
 
 -- a free block can follow these blocks once they have slid: the node limit admits one more, or one of them is used up,
 -- which gives its node back

@@ -1,6 +1,6 @@
 -- A pass of compactions within budgets, one call after the other.
 use Rattle.std.specs.Prelude.{◌≡◌, ℕ, List, map, Some, None, if◌then◌else◌}
-use Rattle.offset_allocator.specs.declared.moves.budget.Progress.{Progress}
+use Rattle.offset_allocator.specs.declared.moves.over_frames.Progress.{Progress}
 use Rattle.offset_allocator.specs.Moving.Budget.{SlidesWithin, first_from}
 use Rattle.offset_allocator.specs.Relations.{SameState}
 use Rattle.offset_allocator.specs.View.{View, Block, IsWellFormed, free_block}

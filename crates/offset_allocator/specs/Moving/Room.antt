@@ -4,7 +4,7 @@ use Rattle.offset_allocator.specs.declared.moves.room.RoomCost.{RoomCost}
 use Rattle.offset_allocator.specs.declared.moves.room.Run.{Run}
 use Rattle.offset_allocator.specs.declared.moves.room.Window.{Window}
 use Rattle.offset_allocator.specs.Chain.{first_or, last_or}
-use Rattle.offset_allocator.specs.View.{View, Block, Place, count_named, ends_used, free_block, free_sizes, replace, starts_free, units, count_used, used_units}
+use Rattle.offset_allocator.specs.View.{View, Block, count_named, ends_used, free_block, free_sizes, replace, starts_free, units, count_used, used_units}
 use Rattle.offset_allocator.specs.Moving.Compacting.{Move, first_free, live, moves}
 use Rattle.offset_allocator.specs.Names.{Renames, free_blocks}
 use Rattle.offset_allocator.specs.Relations.{SameSpace, SameState}
@@ -84,13 +84,6 @@ IsCheapest want bs (Some r) =
     × (first_or None run ≡ Some r.first) × (last_or None run ≡ Some r.end)
     × CostMore want r.cost (drop 1 (run ++ k.back)))
     × ((run : List Block) → IsRun run bs → want ≤ sum (free_sizes run) → IsAtMost r.cost (cost_of run))
-
--- after the free block of a place come these blocks, the last of which is free and has this name, and then others
-pub record IsStretch (p : Place) (run back : List Block) (end : ℕ) : Type 0 where
-  pub idle : p.block.used ≡ false
-  pub is : p.after ≡ run ++ back
-  pub ends : last_or None run ≡ Some end
-  pub free : ends_used run ≡ false
 
 -- the last block of a window
 abbrev pub end_of : Window → Block

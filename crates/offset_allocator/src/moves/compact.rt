@@ -1,25 +1,20 @@
-//! Slides every live range to the front of the space, so that all free units are one block at its end. It
-//! changes the chain by `gap`, and makes the bins anew.
-ghost use Rattle.std.specs.Prelude.{ℕ, ◌≡◌, ◌≢◌, ◌+◌, ◌*◌, ◌<◌, ◌≤◌, [], ◌++◌, Some, false, Bool};
-ghost use Rattle.std.specs.Prelude.{length, sum, unwrap_or};
+//! Slides every live range to the front of the space: plainly, so that all free units are one block at its end, and
+//! the bins are made anew; or by whole steps, as a pass of `over_frames` that no budget ends.
+ghost use Rattle.std.specs.Prelude.{ℕ, ◌≡◌, ◌≢◌, ◌+◌, ◌*◌, ◌<◌, ◌≤◌, [], Some, false};
+ghost use Rattle.std.specs.Prelude.{if◌then◌else◌, length, unwrap_or};
 ghost use Rattle.std.specs.List.{FoldsTo};
 ghost use Rattle.offset_allocator.specs.Accesses.{Costs};
-ghost use Rattle.offset_allocator.specs.Cells.{node};
-ghost use Rattle.offset_allocator.specs.Names.{free_blocks, names_of};
-ghost use Rattle.offset_allocator.specs.View.{Place, free_block, free_sizes, units, AreInBins};
+ghost use Rattle.offset_allocator.specs.View.{free_sizes, AreInBins};
 ghost use Rattle.offset_allocator.specs.Bins.{IsBinned, bins_in};
 ghost use Rattle.offset_allocator.specs.Chain.{IsSpace, blocks};
-ghost use Rattle.offset_allocator.specs.Moving.Compacting.{live, moves, move_of, Compacts, KeepsSizes};
+ghost use Rattle.offset_allocator.specs.Moving.BySteps.{CompactsBy, moves_by};
+ghost use Rattle.offset_allocator.specs.Moving.Compacting.{live, moves, Compacts, KeepsSizes};
 ghost use Rattle.offset_allocator.specs.Moving.Compacting.{IsCalledWith, IsStart, first_among, first_free};
 ghost use Rattle.offset_allocator.specs.Moving.Compacting.{newest, until, until_free};
-ghost use Rattle.offset_allocator.specs.Store.{IsPlaceIn, SameBins, unused_of};
 
 use crate::accesses::Accesses;
-use crate::index::{NodeIndex, linked};
-use crate::moves::gap::Gap;
-use crate::moves::{gap, one_move};
+use crate::moves::slide::to_front;
 use crate::small_float::uint_to_float_round_down;
-use crate::store::Store;
 use crate::tables::Tables;
 use crate::{AllocatorOf, Move, bins, chain};
 
@@ -87,82 +82,6 @@ fn first_free<T: Tables>(tables: &T, last: u32, start: u32, count: &mut Accesses
     first
 }
 
-// Calls the closure with the move of a block, where it gets another offset.
-pub(crate) fn report<NI: NodeIndex, F: FnMut(Move<NI>)>(
-    moved: &mut F,
-    name: u32,
-    from: u32,
-    to: u32,
-    size: u32,
-)
-    requires named { name < NI.MAX }
-    requires down { to ≤ from }
-    requires within { from + size ≤ 4294967295 }
-    requires callable { F.IsAlwaysCallable moved.old }
-    ensures called { (used : Bool) → FoldsTo (IsCalledWith NI.NonMax.number
-        (λ f range g. F.step f range tt g)) moved.old (move_of from to (record {
-          name = name;
-          size = size;
-          used = used;
-        })) moved.new }
-    ensures callable { F.IsAlwaysCallable moved.new }
-{
-    if from == to {
-        return;
-    }
-    moved(one_move::Move::make(NI::from_u32(name).to_name(), from, to, size));
-}
-
-// Slides the used blocks after a free block to the front, and coalesces it with the free ones, until it is
-// the last block of the space.
-fn slide<T: Tables, F: FnMut(Move<T::Index>)>(
-    store: &mut Store<T>,
-    name: u32,
-    size: u32,
-    moved: &mut F,
-) -> Gap<T::Index>
-    requires place { (limit : ℕ) × (p : Place) × IsPlaceIn T.cells store.old limit name p
-        × (p.block.used ≡ false) }
-    requires size { size ≡ (node (T.cells store.old.tables).chain name).size }
-    requires callable { F.IsAlwaysCallable moved.old }
-    ensures callable { F.IsAlwaysCallable moved.new }
-    ensures place { (limit : ℕ) (p : Place) → IsPlaceIn T.cells store.old limit name p → p.block.used ≡ false
-        → IsPlaceIn T.cells store.new limit result.name (record {
-          before = p.before ++ live p.after;
-          block = free_block result.name result.size;
-          after = [];
-        })
-        × (result.size ≡ p.block.size + sum (free_sizes p.after))
-        × FoldsTo (IsCalledWith T.Index.NonMax.number (λ f range g. F.step f range tt g)) moved.old
-        (moves (units p.before + p.block.size) (units p.before) p.after) moved.new
-        × (store.new.accesses ≤ store.old.accesses + 7 * length p.after + 9) }
-    ensures name { result.name ≡ name }
-    ensures unused { (limit : ℕ) (p : Place) → IsPlaceIn T.cells store.old limit name p
-        → p.block.used ≡ false
-        → unused_of T.cells store.new
-        ≡ unused_of T.cells store.old ++ names_of (free_blocks p.after) }
-    ensures bins { SameBins T.cells store.old store.new }
-    ensures accesses_min { (limit : ℕ) (p : Place) → IsPlaceIn T.cells store.old limit name p
-        → p.block.used ≡ false
-        → store.old.accesses + 4 * length p.after + 7 ≤ store.new.accesses }
-{
-    store.tables.shape();
-    let mut gap = gap::open(&store.tables, name, size, &mut store.accesses);
-    let mut at = store.tables.after(name, &mut store.accesses);
-    while let Some(next) = linked(at) {
-        let more = store.tables.size(next, &mut store.accesses);
-        at = store.tables.after(next, &mut store.accesses);
-        if chain::is_used(&store.tables, next, &mut store.accesses) {
-            report(moved, next, gap.offset + gap.size, gap.offset, more);
-            gap::pass(store, &mut gap, next, more);
-        } else {
-            gap::gather(store, &mut gap, next, more);
-        }
-    }
-    gap::close(store, gap, at);
-    gap
-}
-
 impl<T: Tables> AllocatorOf<T> {
     /// Slides every live range to the front of the space, in space order, so that all free units are one
     /// block at its end. `moved` is called for each range that gets another offset, in space order: the units
@@ -220,8 +139,53 @@ impl<T: Tables> AllocatorOf<T> {
         };
         let size = self.store.tables.size(first, &mut self.store.accesses);
         bins::empty(&mut self.store);
-        let hole = slide(&mut self.store, first, size, moved);
+        let hole = to_front(&mut self.store, first, size, None, 1, false, moved);
         let class = uint_to_float_round_down(hole.size);
         bins::push(&mut self.store, hole.name, class);
+    }
+
+    /// As `compact`, by whole steps: each live range moves to the front by a multiple of `step` units, by as
+    /// many as the free blocks before it have, and so keeps its alignment where that divides `step`. An
+    /// engine passes the least common multiple of the alignments that it uses. What whole steps leave of a
+    /// free block stays a free block, and all that the others give up is one free block at the end of the
+    /// space. `moved` is called for each range that gets another offset, in space order, as by `compact`.
+    ///
+    /// Every handle stays live, with its name and its size; only the public `offset` of a moved one is that
+    /// of before, and `allocation_offset` returns the new one. Nothing changes where no free block before
+    /// another block has a whole step. `false` is returned, and nothing changes, where there is such a block
+    /// but the free block at the end would need a node that there is not: the node limit admits no further
+    /// block, and none of the free ones from that one on is used up, which would give its node back, as one of
+    /// whole steps is, and a last one. So where the step is 1 it is never refused, as `compact` is not. If
+    /// `moved` panics, the allocator must not be used any more: drop it.
+    ///
+    /// The step has to be at least 1. It makes at most 21 accesses to the tables for each block, and 40, and
+    /// takes no memory.
+    ///
+    /// ```
+    /// let hole = space.allocate(300).unwrap();
+    /// let mesh = space.allocate_aligned(256, 256).unwrap();
+    /// space.free(hole);
+    /// assert!(space.compact_by(256, &mut |it| assert_eq!((it.from, it.to, it.size), (512, 0, 256))));
+    /// assert_eq!(space.allocation_offset(mesh), Some(0));
+    /// ```
+    pub fn compact_by<F: FnMut(Move<T::Index>)>(&mut self, step: u32, moved: &mut F) -> bool
+        requires some { 1 ≤ step }
+        requires callable { F.IsAlwaysCallable moved.old }
+        // The live blocks keep their names, their sizes and their order: so every handle stays live, with its
+        // size.
+        ensures live { live self.new.blocks ≡ live self.old.blocks }
+        ensures sizes { KeepsSizes self.old self.new }
+        // The closure is called with the moves, in space order, each by whole steps.
+        ensures moved { FoldsTo (IsCalledWith T.Index.NonMax.number (λ f range g. F.step f range tt g)) moved.old
+            (if result then moves_by step 0 0 self.old.blocks else []) moved.new }
+        ensures accesses { Costs (length self.old.blocks)
+            (21 * length self.old.blocks + 40) self.old.accesses self.new.accesses }
+        // The step as a whole: what stays of the free blocks, and the one at the end.
+        ensures step { CompactsBy step self.old self.new result }
+    {
+        self.store.tables.shape();
+        self.formed();
+        self.compact_within(step, 0, u32::MAX, u32::MAX, moved)
+            .is_some()
     }
 }

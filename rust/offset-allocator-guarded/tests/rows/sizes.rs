@@ -222,7 +222,7 @@ fn rows<T: Tables>() -> [Row<T>; 11] {
         ("write_state with tickets", |space, guarded| {
             // a serial for each name, which is in 64 bits
             let length = guarded.write_state(Global)?.len();
-            assert_eq!(length, space.write_state(Global)?.len() + 48 + 8 * space.node_count() as usize);
+            assert_eq!(length, space.write_state(Global)?.len() + 56 + 8 * space.node_count() as usize);
             Ok(())
         }),
         ("read_state with tickets", |_, guarded| {

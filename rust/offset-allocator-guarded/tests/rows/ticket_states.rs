@@ -6,7 +6,7 @@ use super::layouts::{check, check_each, Expectation, Layout};
 use super::states::{bytes_of, FORM as SPACE_FORM};
 use offset_allocator::Global;
 use offset_allocator::{NodeIndex, ReadError, StateFaultKind as SpaceFault, Tables};
-use offset_allocator_guarded::StateFaultKind::{Allocator, Checksum, Form, Length, Realm, Serial};
+use offset_allocator_guarded::StateFaultKind::{Allocator, Checksum, Form, Length, Realm, Serial, Step};
 use offset_allocator_guarded::{GuardedOf, StateFault, StateFaultKind};
 
 // The first number of each state: "OATK".
@@ -24,82 +24,87 @@ struct Case {
     fault: Option<(usize, StateFaultKind)>,
 }
 
-// How many serials are stored, how many were given, the realm, and the serials by name: with as many serials
+// How many serials are stored, how many were given, the realm, the step, and the serials by name: with as many serials
 // as nodes, one more, which a space has after a reset, and one fewer, as no grant had the name 1.
-const CASES: [Case; 14] = [
+const CASES: [Case; 15] = [
+    Case {
+        numbers: &[FORM, 2, 2, 1, 7, 1, 1, 0],
+        start: 0,
+        fault: None,
+    },
+    Case {
+        numbers: &[FORM, 2, 3, 9, 7, 0, 4, 9, 2],
+        start: 0,
+        fault: None,
+    },
+    Case {
+        numbers: &[FORM, 2, 1, u64::MAX, 0xFFFF_FFFF, 0xFFFF_FFFF, u64::MAX],
+        start: 0,
+        fault: None,
+    },
+    Case {
+        numbers: &[FORM + 1, 2, 2, 1, 7, 1, 1, 0],
+        start: 0,
+        fault: Some((0, Form)),
+    },
     Case {
         numbers: &[FORM, 1, 2, 1, 7, 1, 0],
         start: 0,
-        fault: None,
-    },
-    Case {
-        numbers: &[FORM, 1, 3, 9, 7, 4, 9, 2],
-        start: 0,
-        fault: None,
-    },
-    Case {
-        numbers: &[FORM, 1, 1, u64::MAX, 0xFFFF_FFFF, u64::MAX],
-        start: 0,
-        fault: None,
-    },
-    Case {
-        numbers: &[FORM + 1, 1, 2, 1, 7, 1, 0],
-        start: 0,
         fault: Some((0, Form)),
     },
+    // 124 bytes have 56 and 8 serials, and not 9
     Case {
-        numbers: &[FORM, 2, 2, 1, 7, 1, 0],
+        numbers: &[FORM, 2, 9, 1, 7, 1, 1, 0],
         start: 0,
-        fault: Some((0, Form)),
-    },
-    // 116 bytes have 48 and 8 serials, and not 9
-    Case {
-        numbers: &[FORM, 1, 9, 1, 7, 1, 0],
-        start: 0,
-        fault: Some((116, Length)),
+        fault: Some((124, Length)),
     },
     Case {
-        numbers: &[FORM, 1, u64::MAX, 1, 7, 1, 0],
+        numbers: &[FORM, 2, u64::MAX, 1, 7, 1, 1, 0],
         start: 0,
-        fault: Some((116, Length)),
+        fault: Some((124, Length)),
     },
     Case {
-        numbers: &[FORM, 1, 2, 1, 0x1_0000_0000, 1, 0],
+        numbers: &[FORM, 2, 2, 1, 0x1_0000_0000, 1, 1, 0],
         start: 0,
         fault: Some((32, Realm)),
     },
     Case {
-        numbers: &[FORM, 1, 2, 1, 7, 1, 0],
+        numbers: &[FORM, 2, 2, 1, 7, 0x1_0000_0000, 1, 0],
+        start: 0,
+        fault: Some((40, Step)),
+    },
+    Case {
+        numbers: &[FORM, 2, 2, 1, 7, 1, 1, 0],
         start: 1,
-        fault: Some((56, Checksum)),
+        fault: Some((64, Checksum)),
     },
     // a serial of a later grant than the last
     Case {
-        numbers: &[FORM, 1, 2, 1, 7, 2, 0],
-        start: 0,
-        fault: Some((40, Serial)),
-    },
-    Case {
-        numbers: &[FORM, 1, 2, 1, 7, 1, 2],
+        numbers: &[FORM, 2, 2, 1, 7, 1, 2, 0],
         start: 0,
         fault: Some((48, Serial)),
     },
+    Case {
+        numbers: &[FORM, 2, 2, 1, 7, 1, 1, 2],
+        start: 0,
+        fault: Some((56, Serial)),
+    },
     // none for the name 0, which is live
     Case {
-        numbers: &[FORM, 1, 2, 1, 7, 0, 1],
+        numbers: &[FORM, 2, 2, 1, 7, 1, 0, 1],
         start: 0,
-        fault: Some((40, Serial)),
+        fault: Some((48, Serial)),
     },
     Case {
-        numbers: &[FORM, 1, 0, 1, 7],
+        numbers: &[FORM, 2, 0, 1, 7, 1],
         start: 0,
         fault: Some((16, Serial)),
     },
     // the bytes behind the checksum begin with the last two numbers
     Case {
-        numbers: &[FORM, 1, 0, 0, 7, 0, 0],
+        numbers: &[FORM, 2, 0, 0, 7, 1, 0, 0],
         start: 0,
-        fault: Some((40, Checksum)),
+        fault: Some((48, Checksum)),
     },
 ];
 
@@ -134,11 +139,11 @@ impl Expectation for Faults {
                 }
             }
         }
-        // a limit that is not admitted, 12 bytes behind the 64 of the tickets
-        let bytes = state_of(&[FORM, 1, 2, 1, 7, 1, 0], 0);
+        // a limit that is not admitted, 12 bytes behind the 72 of the tickets
+        let bytes = state_of(&[FORM, 2, 2, 1, 7, 1, 1, 0], 0);
         let read = GuardedOf::<T>::read_state(Global, &bytes, 4);
         let fault = StateFault {
-            at: 76,
+            at: 84,
             kind: Allocator(SpaceFault::Limit),
         };
         assert_same(&read.err(), &Some(ReadError::Fault(fault)));
@@ -153,15 +158,15 @@ fn each_fault() {
 struct ExactBytes;
 
 impl Expectation for ExactBytes {
-    // The bytes of a fresh space of realm 7, worked out by hand: five numbers, of which the third and the
+    // The bytes of a fresh space of realm 7, worked out by hand: six numbers, of which the third and the
     // fourth say that no serial is stored and none was given, their checksum, and the bytes of the space, as
     // `states` has them.
     fn check<T: Tables>(&self) {
         let wanted = [
-            b'O', b'A', b'T', b'K', 0, 0, 0, 0, 1, 0, 0, 0, 0, 0, 0, 0, 0, 0, 0, 0, 0, 0, 0, 0, 0,
-            0, 0, 0, 0, 0, 0, 0, 7, 0, 0, 0, 0, 0, 0, 0, 113, 0, 242, 158, 86, 183, 176, 240, b'O',
-            b'A', b'S', b'T', 1, 0, 0, 0, 100, 0, 0, 0, 5, 0, 0, 0, 1, 0, 0, 0, 1, 0, 0, 0, 0, 0,
-            0, 0, 0, 0, 0, 0, 100, 0, 0, 0, 0, 0, 0, 0, 71, 235, 117, 192,
+            b'O', b'A', b'T', b'K', 0, 0, 0, 0, 2, 0, 0, 0, 0, 0, 0, 0, 0, 0, 0, 0, 0, 0, 0, 0, 0,
+            0, 0, 0, 0, 0, 0, 0, 7, 0, 0, 0, 0, 0, 0, 0, 1, 0, 0, 0, 0, 0, 0, 0, 149, 124, 108, 107,
+            56, 165, 66, 142, b'O', b'A', b'S', b'T', 1, 0, 0, 0, 100, 0, 0, 0, 5, 0, 0, 0, 1, 0, 0,
+            0, 1, 0, 0, 0, 0, 0, 0, 0, 0, 0, 0, 0, 100, 0, 0, 0, 0, 0, 0, 0, 71, 235, 117, 192,
         ];
         assert_that(5 < T::Index::MAX - 1);
         let space = GuardedOf::<T>::with_realm(Global, 100, 5, 7).expect("memory");

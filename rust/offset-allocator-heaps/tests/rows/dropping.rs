@@ -1,9 +1,9 @@
 //! Growth, larger heaps, dropping, and places that are not live.
 
-use super::{granted, in_each_layout, limits, new, shown};
+use super::{elsewhere, granted, in_each_layout, limits, new, shown};
 use offset_allocator::Tables;
 use offset_allocator_heaps::Refusal::{Empty, Full};
-use offset_allocator_heaps::{Heaps, HeapsOf, Place, Refusal};
+use offset_allocator_heaps::{Heaps, HeapsOf, Refusal};
 
 // The numbers of the heaps that are dropped, the first three.
 fn dropped<T: Tables>(heaps: &mut HeapsOf<T>, keep: u32) -> [Option<u32>; 3] {
@@ -46,10 +46,10 @@ fn expect_drops<T: Tables>(heaps: &mut HeapsOf<T>) {
     assert_eq!(dropped(heaps, 0), [Some(0), None, None]);
     let new = granted(heaps, 50);
     assert_eq!(new.heap, 0);
-    assert_eq!(new.ticket.realm(), 4);
+    assert_eq!(new.heap_realm(), 4);
     assert!(heaps.is_live(new));
     assert!(!heaps.is_live(old));
-    let other = Place { realm: 8, ..new };
+    let other = elsewhere(new);
     assert!(!heaps.free(other));
     assert!(heaps.give_up(0));
     assert!(!heaps.give_up(0));
@@ -91,11 +91,11 @@ fn an_empty_larger_heap_is_dropped_first() {
 // takes no larger heap. A heap that is there is asked for 1024 + 255 units.
 fn expect_an_aligned_page<T: Tables>() {
     let mut heaps: HeapsOf<T> = new(limits(1024, 8, 8, 2, 1));
-    let first = heaps.allocate_aligned(1024, 256).expect("a grant").place;
-    assert_eq!((first.heap, first.ticket.offset), (0, 0));
+    let first = heaps.allocate_aligned(1024, 256).expect("a grant");
+    assert_eq!(shown(Ok(first)), Ok((0, 0, true)));
     assert_eq!(shown(heaps.allocate_aligned(1024, 1 << 31)), Ok((1, 0, true)));
     assert_eq!(shown(heaps.allocate_aligned(1025, 256)), Ok((2, 0, true)));
-    assert!(heaps.free(first));
+    assert!(heaps.free(first.place));
     assert_eq!(shown(heaps.allocate_aligned(1024, 256)), Err(Full));
     assert_eq!(shown(heaps.allocate(1024)), Ok((0, 0, false)));
 }

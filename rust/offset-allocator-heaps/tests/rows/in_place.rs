@@ -1,8 +1,8 @@
 //! What is asked of heaps and changed in place: units, walks, sizes of ranges, and all as JSON.
 
-use super::{granted, in_each_layout, limits, new};
+use super::{at, elsewhere, granted, in_each_layout, limits, new};
 use offset_allocator::{Global, Tables};
-use offset_allocator_heaps::{json_of, Heaps, HeapsOf, Limits, Place};
+use offset_allocator_heaps::{json_of, Heaps, HeapsOf, Limits};
 
 // Two heaps of 100 units, and two larger.
 fn few() -> Limits {
@@ -51,8 +51,8 @@ fn expect_sizes<T: Tables>() {
     assert_eq!((heaps.size_of(a), heaps.size_of(b)), (Some(40), Some(40)));
     // the 20 units between them are noted
     let c = granted(heaps, 20);
-    assert_eq!((c.heap, c.ticket.offset), (0, 40));
-    let other = Place { realm: 8, ..a };
+    assert_eq!(at(heaps, c), Some((0, 40)));
+    let other = elsewhere(a);
     assert_eq!((heaps.shrink(other, 10), heaps.grow_in_place(other, 50)), (None, None));
     assert!(heaps.free(b));
     assert_eq!((heaps.shrink(b, 10), heaps.grow_in_place(b, 50)), (None, None));

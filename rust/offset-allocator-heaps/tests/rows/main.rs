@@ -2,12 +2,13 @@
 
 mod dropping;
 mod in_place;
+mod places;
 mod raising;
 mod relocating;
 mod states;
 
 use offset_allocator::{Global, Tables};
-use offset_allocator_heaps::{Granted, HeapsOf, Limits, Place, Refusal, Ticket};
+use offset_allocator_heaps::{Granted, HeapsOf, Limits, Place, Refusal};
 
 /// Calls a function for each layout and index type.
 macro_rules! in_each_layout {
@@ -38,15 +39,29 @@ fn granted<T: Tables>(heaps: &mut HeapsOf<T>, size: u32) -> Place {
 
 /// What a request gets: the heap, the offset, and whether the heap is new.
 fn shown(answer: Result<Granted, Refusal>) -> Result<(u32, u32, bool), Refusal> {
-    answer.map(|granted| (granted.place.heap, granted.place.ticket.offset, granted.is_new))
+    answer.map(|granted| (granted.place.heap, granted.offset, granted.is_new))
 }
 
-/// Where a place is: its heap and its offset.
-fn at(place: Option<Place>) -> Option<(u32, u32)> {
-    place.map(|place| (place.heap, place.ticket.offset))
+/// Where a live place is: its heap and its offset.
+fn at<T: Tables>(heaps: &HeapsOf<T>, place: Place) -> Option<(u32, u32)> {
+    heaps.offset_of(place).map(|offset| (place.heap, offset))
+}
+
+/// Where the second range of a place is, which makes no heap.
+fn second_at(answer: Option<Granted>) -> Option<(u32, u32)> {
+    answer.map(|granted| {
+        assert!(!granted.is_new);
+        (granted.place.heap, granted.offset)
+    })
+}
+
+/// The place of other heaps with the same numbers.
+fn elsewhere(mut place: Place) -> Place {
+    place.realm = 8;
+    place
 }
 
 /// A place that is live nowhere.
 fn nowhere() -> Place {
-    Place { heap: 9, realm: 0, ticket: Ticket::from_parts(0, 0, 0, 0).unwrap() }
+    Place::from_parts(9, 0, 0, 0, 0).expect("a name")
 }

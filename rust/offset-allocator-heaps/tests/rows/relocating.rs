@@ -1,8 +1,8 @@
 //! Heaps that are emptied into others.
 
-use super::{at, granted, in_each_layout, limits, new, nowhere};
+use super::{at, elsewhere, granted, in_each_layout, limits, new, nowhere, second_at};
 use offset_allocator::Tables;
-use offset_allocator_heaps::{HeapsOf, Place};
+use offset_allocator_heaps::HeapsOf;
 
 // Three heaps of 96 units, of which live ranges of 70, 30 and 50 units stay.
 fn expect_pass<T: Tables>() {
@@ -15,8 +15,8 @@ fn expect_pass<T: Tables>() {
     let d = granted(heaps, 10);
     let also = granted(heaps, 64);
     let e = granted(heaps, 50);
-    assert_eq!(at(Some(also)), Some((1, 30)));
-    assert_eq!(at(Some(e)), Some((2, 0)));
+    assert_eq!(at(heaps, also), Some((1, 30)));
+    assert_eq!(at(heaps, e), Some((2, 0)));
     assert!(heaps.free(gone));
     assert!(heaps.free(also));
     assert_eq!(heaps.emptiest(), Some(1));
@@ -27,10 +27,10 @@ fn expect_pass<T: Tables>() {
     assert_eq!(heaps.last_live(3), None);
     // 10 units fit behind the 70 of heap 0
     let d2 = heaps.relocate(d);
-    assert_eq!(at(d2), Some((0, 70)));
+    assert_eq!(second_at(d2), Some((0, 70)));
     // 16 are left there, so 20 go behind the 50 of heap 2
     let c2 = heaps.relocate(c);
-    assert_eq!(at(c2), Some((2, 50)));
+    assert_eq!(second_at(c2), Some((2, 50)));
     assert_eq!(heaps.size_of(c), Some(20));
     // the old ones were read until now
     assert!(heaps.free(d));
@@ -43,16 +43,16 @@ fn expect_pass<T: Tables>() {
     assert_eq!(heaps.emptiest(), Some(2));
     assert_eq!(heaps.relocate(e), None);
     // 70 and 70: the last heap is the emptiest, and as many live units are enough
-    assert!(heaps.free(d2.expect("a range")));
+    assert!(heaps.free(d2.expect("a range").place));
     assert_eq!(heaps.emptiest(), Some(2));
-    let c3 = heaps.relocate(c2.expect("a range"));
-    assert_eq!(at(c3), Some((0, 70)));
-    assert!(heaps.free(c2.expect("a range")));
+    let c3 = heaps.relocate(c2.expect("a range").place);
+    assert_eq!(second_at(c3), Some((0, 70)));
+    assert!(heaps.free(c2.expect("a range").place));
     // 90 and 50: heap 2 has room for 40 and for 20, but fewer are live there
     assert_eq!(heaps.relocate(a), None);
     assert_eq!(heaps.relocate(b), None);
-    assert_eq!(heaps.relocate(c3.expect("a range")), None);
-    let other = Place { realm: 8, ..e };
+    assert_eq!(heaps.relocate(c3.expect("a range").place), None);
+    let other = elsewhere(e);
     assert_eq!(heaps.relocate(other), None);
     assert_eq!(heaps.live_before(other), None);
     assert_eq!(heaps.relocate(nowhere()), None);
@@ -69,14 +69,14 @@ fn expect_aligned<T: Tables>() {
     let first = granted(heaps, 41);
     let gone = granted(heaps, 52);
     let moved = granted(heaps, 20);
-    assert_eq!(at(Some(moved)), Some((1, 0)));
+    assert_eq!(at(heaps, moved), Some((1, 0)));
     assert!(heaps.free(gone));
     // 55 units from 41 on are filed as 52: 20 + 31 units fit, 20 + 63 do not
     assert_eq!(heaps.relocate_aligned(moved, 64), None);
-    assert_eq!(at(heaps.relocate_aligned(moved, 32)), Some((0, 64)));
+    assert_eq!(second_at(heaps.relocate_aligned(moved, 32)), Some((0, 64)));
     // 12 units are left from 84 on, and 23 from 41 on, which are filed as 22: 20 + 7 do not fit, 20 do
     assert_eq!(heaps.relocate_aligned(moved, 8), None);
-    assert_eq!(at(heaps.relocate_aligned(moved, 1)), Some((0, 41)));
+    assert_eq!(second_at(heaps.relocate_aligned(moved, 1)), Some((0, 41)));
     assert!(heaps.free(moved));
     assert_eq!(heaps.relocate_aligned(moved, 1), None);
     assert_eq!(heaps.relocate_aligned(first, 1), None);
@@ -103,15 +103,15 @@ fn expect_no_units<T: Tables>() {
     assert_eq!(heaps.shrink(second, 0), Some(true));
     assert_eq!(heaps.emptiest(), Some(2));
     let moved = heaps.relocate(third);
-    assert_eq!((at(moved), moved.and_then(|place| heaps.size_of(place))), (Some((1, 0)), Some(0)));
+    assert_eq!((second_at(moved), moved.and_then(|granted| heaps.size_of(granted.place))), (Some((1, 0)), Some(0)));
     assert!(heaps.free(third));
     assert_eq!(heaps.relocate(second), None);
     assert_eq!(heaps.drop_empty(0), Some(2));
     // heap 0 has live units, and then a free one
     assert_eq!(heaps.shrink(first, 95), Some(true));
     let last = heaps.relocate_aligned(second, 5);
-    assert_eq!(at(last), None);
-    assert_eq!(at(heaps.relocate(second)), Some((0, 95)));
+    assert_eq!(second_at(last), None);
+    assert_eq!(second_at(heaps.relocate(second)), Some((0, 95)));
     assert_eq!(heaps.relocate(first), None);
 }
 

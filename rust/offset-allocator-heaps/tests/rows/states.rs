@@ -16,7 +16,7 @@ const TICKETS: u64 = 0x4B54_414F;
 const SPACE: u32 = 0x5453_414F;
 
 // The numbers of many heaps, the number that their checksum begins with, and what is wrong with them before
-// the state of one heap, of 64 + 52 bytes.
+// the state of one heap, of 72 + 52 bytes.
 struct Case {
     numbers: &'static [u64],
     start: u64,
@@ -27,7 +27,7 @@ struct Case {
 // larger one that is not there. The state of the heap begins behind 8 * 14 bytes.
 const CASES: [Case; 32] = [
     Case {
-        numbers: &[HEAPS, 3, 100, 100, 4, 4, 1, 1, 1, 9, 0, 116, 116],
+        numbers: &[HEAPS, 3, 100, 100, 4, 4, 1, 1, 1, 9, 0, 124, 124],
         start: 0,
         fault: None,
     },
@@ -46,18 +46,18 @@ const CASES: [Case; 32] = [
             0,
             0,
             0,
-            116,
+            124,
         ],
         start: 0,
         fault: None,
     },
     Case {
-        numbers: &[HEAPS + 1, 3, 100, 100, 4, 4, 1, 1, 1, 9, 0, 116, 116],
+        numbers: &[HEAPS + 1, 3, 100, 100, 4, 4, 1, 1, 1, 9, 0, 124, 124],
         start: 0,
         fault: Some((0, Form)),
     },
     Case {
-        numbers: &[HEAPS, 2, 100, 100, 4, 4, 1, 1, 1, 9, 0, 116, 116],
+        numbers: &[HEAPS, 2, 100, 100, 4, 4, 1, 1, 1, 9, 0, 124, 124],
         start: 0,
         fault: Some((0, Form)),
     },
@@ -74,30 +74,30 @@ const CASES: [Case; 32] = [
             1,
             9,
             0,
-            116,
-            116,
+            124,
+            124,
         ],
         start: 0,
         fault: Some((16, OfLimits)),
     },
     Case {
-        numbers: &[HEAPS, 3, 100, 100, 3, 3, 1, 1, 1, 9, 0, 116, 116],
+        numbers: &[HEAPS, 3, 100, 100, 3, 3, 1, 1, 1, 9, 0, 124, 124],
         start: 0,
         fault: Some((32, OfLimits)),
     },
     // a node limit of 21, and 41 numbers, are more than the caller admits
     Case {
-        numbers: &[HEAPS, 3, 100, 100, 21, 21, 1, 1, 1, 9, 0, 116, 116],
+        numbers: &[HEAPS, 3, 100, 100, 21, 21, 1, 1, 1, 9, 0, 124, 124],
         start: 0,
         fault: Some((32, OfLimits)),
     },
     Case {
-        numbers: &[HEAPS, 3, 100, 100, 4, 4, 1, 40, 1, 9, 0, 116, 116],
+        numbers: &[HEAPS, 3, 100, 100, 4, 4, 1, 40, 1, 9, 0, 124, 124],
         start: 0,
         fault: Some((56, OfLimits)),
     },
     Case {
-        numbers: &[HEAPS, 3, 100, 100, 4, 4, u64::MAX, 2, 1, 9, 0, 116, 116],
+        numbers: &[HEAPS, 3, 100, 100, 4, 4, u64::MAX, 2, 1, 9, 0, 124, 124],
         start: 0,
         fault: Some((48, OfLimits)),
     },
@@ -114,128 +114,128 @@ const CASES: [Case; 32] = [
             1,
             0x1_0000_0000,
             0,
-            116,
-            116,
+            124,
+            124,
         ],
         start: 0,
         fault: Some((72, Counts)),
     },
-    // 228 bytes have 96 and those of 16 numbers, and not of 17
+    // 236 bytes have 96 and those of 17 numbers, and not of 18
     Case {
-        numbers: &[HEAPS, 3, 100, 100, 4, 4, 1, 16, 1, 9, 0, 116, 116],
+        numbers: &[HEAPS, 3, 100, 100, 4, 4, 1, 17, 1, 9, 0, 124, 124],
         start: 0,
-        fault: Some((228, Length)),
+        fault: Some((236, Length)),
     },
     Case {
-        numbers: &[HEAPS, 3, 100, 100, 4, 4, 1, 1, 1, 9, 0, 116, 116],
+        numbers: &[HEAPS, 3, 100, 100, 4, 4, 1, 1, 1, 9, 0, 124, 124],
         start: 1,
         fault: Some((104, Checksum)),
     },
     // the heap has 100 units, and the node limit 4: it may have more units than the usual one of its number
     Case {
-        numbers: &[HEAPS, 3, 101, 101, 4, 4, 1, 1, 1, 9, 0, 116, 116],
+        numbers: &[HEAPS, 3, 101, 101, 4, 4, 1, 1, 1, 9, 0, 124, 124],
         start: 0,
         fault: Some((112, Size)),
     },
     Case {
-        numbers: &[HEAPS, 3, 99, 99, 4, 4, 1, 1, 1, 9, 0, 116, 116],
+        numbers: &[HEAPS, 3, 99, 99, 4, 4, 1, 1, 1, 9, 0, 124, 124],
         start: 0,
         fault: None,
     },
     // the size of the usual heap of number 0 is at least 1, and at most the largest one, or both are 0
     Case {
-        numbers: &[HEAPS, 3, 100, 0, 4, 4, 1, 1, 1, 9, 0, 116, 116],
+        numbers: &[HEAPS, 3, 100, 0, 4, 4, 1, 1, 1, 9, 0, 124, 124],
         start: 0,
         fault: Some((24, OfLimits)),
     },
     Case {
-        numbers: &[HEAPS, 3, 100, 101, 4, 4, 1, 1, 1, 9, 0, 116, 116],
+        numbers: &[HEAPS, 3, 100, 101, 4, 4, 1, 1, 1, 9, 0, 124, 124],
         start: 0,
         fault: Some((24, OfLimits)),
     },
     Case {
-        numbers: &[HEAPS, 3, 0, 0, 4, 4, 1, 1, 1, 9, 0, 116, 116],
+        numbers: &[HEAPS, 3, 0, 0, 4, 4, 1, 1, 1, 9, 0, 124, 124],
         start: 0,
         fault: None,
     },
     // each usual heap has twice the units of the one before it
     Case {
-        numbers: &[HEAPS, 3, 400, 100, 4, 4, 2, 0, 1, 9, 0, 116, 116],
+        numbers: &[HEAPS, 3, 400, 100, 4, 4, 2, 0, 1, 9, 0, 124, 124],
         start: 0,
         fault: None,
     },
     Case {
-        numbers: &[HEAPS, 3, 400, 50, 4, 4, 2, 0, 1, 9, 0, 0, 116],
+        numbers: &[HEAPS, 3, 400, 50, 4, 4, 2, 0, 1, 9, 0, 0, 124],
         start: 0,
         fault: None,
     },
     Case {
-        numbers: &[HEAPS, 3, 400, 51, 4, 4, 2, 0, 1, 9, 0, 0, 116],
+        numbers: &[HEAPS, 3, 400, 51, 4, 4, 2, 0, 1, 9, 0, 0, 124],
         start: 0,
         fault: Some((112, Size)),
     },
     Case {
-        numbers: &[HEAPS, 3, 101, 101, 4, 4, 0, 2, 1, 9, 0, 116, 116],
+        numbers: &[HEAPS, 3, 101, 101, 4, 4, 0, 2, 1, 9, 0, 124, 124],
         start: 0,
         fault: None,
     },
     Case {
-        numbers: &[HEAPS, 3, 100, 100, 5, 5, 1, 1, 1, 9, 0, 116, 116],
+        numbers: &[HEAPS, 3, 100, 100, 5, 5, 1, 1, 1, 9, 0, 124, 124],
         start: 0,
         fault: Some((112, Size)),
     },
     // heaps may begin with the largest limit, or with at least 8 nodes and no more than the largest limit
     Case {
-        numbers: &[HEAPS, 3, 100, 100, 4, 5, 1, 1, 1, 9, 0, 116, 116],
+        numbers: &[HEAPS, 3, 100, 100, 4, 5, 1, 1, 1, 9, 0, 124, 124],
         start: 0,
         fault: Some((40, OfLimits)),
     },
     Case {
-        numbers: &[HEAPS, 3, 100, 100, 5, 4, 1, 1, 1, 9, 0, 116, 116],
+        numbers: &[HEAPS, 3, 100, 100, 5, 4, 1, 1, 1, 9, 0, 124, 124],
         start: 0,
         fault: Some((40, OfLimits)),
     },
     Case {
-        numbers: &[HEAPS, 3, 100, 100, 20, 7, 1, 1, 1, 9, 0, 116, 116],
+        numbers: &[HEAPS, 3, 100, 100, 20, 7, 1, 1, 1, 9, 0, 124, 124],
         start: 0,
         fault: Some((40, OfLimits)),
     },
     // the heap has fewer nodes than one begins with, and may be a larger heap
     Case {
-        numbers: &[HEAPS, 3, 100, 100, 20, 8, 1, 1, 1, 9, 0, 116, 116],
+        numbers: &[HEAPS, 3, 100, 100, 20, 8, 1, 1, 1, 9, 0, 124, 124],
         start: 0,
         fault: Some((112, Size)),
     },
     Case {
-        numbers: &[HEAPS, 3, 100, 100, 20, 8, 0, 2, 1, 9, 0, 116, 116],
+        numbers: &[HEAPS, 3, 100, 100, 20, 8, 0, 2, 1, 9, 0, 124, 124],
         start: 0,
         fault: None,
     },
     // the second number is that of a usual heap too
     Case {
-        numbers: &[HEAPS, 3, 100, 100, 5, 5, 2, 0, 1, 9, 0, 0, 116],
+        numbers: &[HEAPS, 3, 100, 100, 5, 5, 2, 0, 1, 9, 0, 0, 124],
         start: 0,
         fault: Some((112, Size)),
     },
     // a heap of the first realm, where none was made
     Case {
-        numbers: &[HEAPS, 3, 100, 100, 4, 4, 1, 1, 0, 9, 0, 116, 116],
+        numbers: &[HEAPS, 3, 100, 100, 4, 4, 1, 1, 0, 9, 0, 124, 124],
         start: 0,
         fault: Some((112 + 32, Realm)),
     },
     Case {
-        numbers: &[HEAPS, 3, 100, 100, 4, 4, 1, 1, 1, 9, 0, 117, 116],
+        numbers: &[HEAPS, 3, 100, 100, 4, 4, 1, 1, 1, 9, 0, 125, 124],
         start: 0,
         fault: Some((88, OfPlace)),
     },
     Case {
-        numbers: &[HEAPS, 3, 100, 100, 4, 4, 1, 1, 1, 9, 0, 116, 115],
+        numbers: &[HEAPS, 3, 100, 100, 4, 4, 1, 1, 1, 9, 0, 124, 123],
         start: 0,
         fault: Some((96, OfPlace)),
     },
     // 8 bytes are no state of a heap
     Case {
-        numbers: &[HEAPS, 3, 100, 100, 4, 4, 1, 1, 1, 9, 0, 8, 116],
+        numbers: &[HEAPS, 3, 100, 100, 4, 4, 1, 1, 1, 9, 0, 8, 124],
         start: 0,
         fault: Some((112 + 8, Heap(HeapFault::Length))),
     },
@@ -265,7 +265,7 @@ fn add_words(bytes: &mut Vec<u8>, words: &[u32]) {
 fn state_of(numbers: &[u64], start: u64) -> Vec<u8> {
     let mut bytes = Vec::new();
     add_numbers(&mut bytes, numbers, start);
-    add_numbers(&mut bytes, &[TICKETS, 1, 2, 1, 1, 1, 0], 0);
+    add_numbers(&mut bytes, &[TICKETS, 2, 2, 1, 1, 1, 1, 0], 0);
     add_words(&mut bytes, &[SPACE, 1, 100, 4, 2, 1, 0, 1, 40, 0, 60, 1]);
     bytes
 }
@@ -292,7 +292,7 @@ fn expect_place<T: Tables>(heaps: &mut HeapsOf<T>, place: Place) {
     assert_eq!(heaps.totals().free_units, 40);
     let next = granted(heaps, 97);
     assert_eq!(next.heap, 1);
-    assert_eq!(next.ticket.realm(), 2);
+    assert_eq!(next.heap_realm(), 2);
     assert!(heaps.free(place));
 }
 

@@ -1,14 +1,11 @@
 // Printed by rust/erase from crates/offset_allocator/src/moves/compact.rt: change it there.
 
-//! Slides every live range to the front of the space, so that all free units are one block at its end. It
-//! changes the chain by `gap`, and makes the bins anew.
+//! Slides every live range to the front of the space: plainly, so that all free units are one block at its end, and
+//! the bins are made anew; or by whole steps, as a pass of `over_frames` that no budget ends.
 
 use crate::accesses::Accesses;
-use crate::index::{NodeIndex, linked};
-use crate::moves::gap::Gap;
-use crate::moves::{gap, one_move};
+use crate::moves::slide::to_front;
 use crate::small_float::uint_to_float_round_down;
-use crate::store::Store;
 use crate::tables::Tables;
 use crate::{AllocatorOf, Move, bins, chain};
 
@@ -55,44 +52,6 @@ fn first_free<T: Tables>(tables: &T, last: u32, start: u32, count: &mut Accesses
     first
 }
 
-// Calls the closure with the move of a block, where it gets another offset.
-pub(crate) fn report<NI: NodeIndex, F: FnMut(Move<NI>)>(
-    moved: &mut F,
-    name: u32,
-    from: u32,
-    to: u32,
-    size: u32,
-) {
-    if from == to {
-        return;
-    }
-    moved(one_move::Move::make(NI::from_u32(name).to_name(), from, to, size));
-}
-
-// Slides the used blocks after a free block to the front, and coalesces it with the free ones, until it is
-// the last block of the space.
-fn slide<T: Tables, F: FnMut(Move<T::Index>)>(
-    store: &mut Store<T>,
-    name: u32,
-    size: u32,
-    moved: &mut F,
-) -> Gap<T::Index> {
-    let mut gap = gap::open(&store.tables, name, size, &mut store.accesses);
-    let mut at = store.tables.after(name, &mut store.accesses);
-    while let Some(next) = linked(at) {
-        let more = store.tables.size(next, &mut store.accesses);
-        at = store.tables.after(next, &mut store.accesses);
-        if chain::is_used(&store.tables, next, &mut store.accesses) {
-            report(moved, next, gap.offset + gap.size, gap.offset, more);
-            gap::pass(store, &mut gap, next, more);
-        } else {
-            gap::gather(store, &mut gap, next, more);
-        }
-    }
-    gap::close(store, gap, at);
-    gap
-}
-
 impl<T: Tables> AllocatorOf<T> {
     /// Slides every live range to the front of the space, in space order, so that all free units are one
     /// block at its end. `moved` is called for each range that gets another offset, in space order: the units
@@ -135,8 +94,47 @@ impl<T: Tables> AllocatorOf<T> {
         };
         let size = self.store.tables.size(first, &mut self.store.accesses);
         bins::empty(&mut self.store);
-        let hole = slide(&mut self.store, first, size, &mut moved);
+        let hole = to_front(&mut self.store, first, size, None, 1, false, &mut moved);
         let class = uint_to_float_round_down(hole.size);
         bins::push(&mut self.store, hole.name, class);
+    }
+
+    /// As `compact`, by whole steps: each live range moves to the front by a multiple of `step` units, by as
+    /// many as the free blocks before it have, and so keeps its alignment where that divides `step`. An
+    /// engine passes the least common multiple of the alignments that it uses. What whole steps leave of a
+    /// free block stays a free block, and all that the others give up is one free block at the end of the
+    /// space. `moved` is called for each range that gets another offset, in space order, as by `compact`.
+    ///
+    /// Every handle stays live, with its name and its size; only the public `offset` of a moved one is that
+    /// of before, and `allocation_offset` returns the new one. Nothing changes where no free block before
+    /// another block has a whole step. `false` is returned, and nothing changes, where there is such a block
+    /// but the free block at the end would need a node that there is not: the node limit admits no further
+    /// block, and none of the free ones from that one on is used up, which would give its node back, as one of
+    /// whole steps is, and a last one. So where the step is 1 it is never refused, as `compact` is not. If
+    /// `moved` panics, the allocator must not be used any more: drop it.
+    ///
+    /// The step has to be at least 1. It makes at most 21 accesses to the tables for each block, and 40, and
+    /// takes no memory.
+    ///
+    /// # Panics
+    ///
+    /// It panics unless the step is at least 1.
+    ///
+    /// ```
+    /// # use offset_allocator_proved::*;
+    /// # let alloc = Global;
+    /// let mut space = Allocator::<u32>::new(alloc, 1000)?;
+    /// let hole = space.allocate(300).unwrap();
+    /// let mesh = space.allocate_aligned(256, 256).unwrap();
+    /// space.free(hole);
+    /// assert!(space.compact_by(256, |it| assert_eq!((it.from, it.to, it.size), (512, 0, 256))));
+    /// assert_eq!(space.allocation_offset(mesh), Some(0));
+    /// # Ok::<(), AllocError>(())
+    /// ```
+    #[track_caller]
+    pub fn compact_by<F: FnMut(Move<T::Index>)>(&mut self, step: u32, mut moved: F) -> bool {
+        assert!(1 <= step, "the step must be at least 1");
+        self.compact_within(step, 0, u32::MAX, u32::MAX, &mut moved)
+            .is_some()
     }
 }

@@ -1,8 +1,8 @@
 use Rattle.offset_allocator.proofs.{Moving.Packed.live_sizes, Sound.AreSound, Sound.Fields, Sound.shown, Sound.fields_of, Sound.known_sound, Linking.Places.placed}
 use Rattle.offset_allocator.proofs.Moving.Stepped.{split_filed, split_few, split_steps}
-use Rattle.offset_allocator.proofs.Moving.Budgeted.{IsBegun, Run, begun, slides_live, searches_cost, few_left, few_rest, stops_apart}
+use Rattle.offset_allocator.proofs.Moving.Budgeted.{IsBegun, Run, begun, slides_live, searches_cost, few_left, few_rest, run_few, stops_apart}
 use Rattle.offset_allocator.proofs.Common.{◌≡◌, ℕ, ◌+◌, ◌*◌, ◌≤◌, true, List, [], ◌∷◌, ◌++◌, Some, length, refl, sym, ap, subst, ◌∙◌, arith, inl, inr, length-append, not, Block, View, blocks, units, AdmitsBlocks, IsChain, IsCalledWith, true≢false}
-use Rattle.offset_allocator.proofs.Common.{max, free_block, replace, take, SameSpace}
+use Rattle.offset_allocator.proofs.Common.{count_used, max, free_block, replace, take, SameSpace}
 use Rattle.std.specs.List.{FoldsTo}
 use Rattle.offset_allocator.specs.Names.{IsTaken}
 use Rattle.offset_allocator.specs.Moving.BySteps.{CanFollow, given_up, moves_by, stepped}
@@ -13,7 +13,7 @@ use Rattle.offset_allocator.proofs.AllocatorOf.compact_within.{Goals.After-run_f
 run_of : (g : Over) (c : After-run_from-reach g)
     → Run (fields_of g.T.Tables.cells g.T.Index.NodeIndex.MAX c.self.inside) c.in-Some.first c.admits_blocks-admits.result c.run_from-reach.result c.args.self.now c.args.step c.args.from c.args.most_units c.args.most_ranges
 run_of g c =
-    let o : IsBegun (blocks (g.T.Tables.cells c.self.inside.store.tables).chain c.self.inside.store.last) c.in-Some.first = begun c.args.step c.args.from 0 _ _ (sym c.first_from.ensures.first ∙ c.in-Some.is) in
+    let o : IsBegun c.args.step (blocks (g.T.Tables.cells c.self.inside.store.tables).chain c.self.inside.store.last) c.in-Some.first = begun c.args.step c.args.from 0 _ _ (sym c.first_from.ensures.first ∙ c.in-Some.is) in
     let e = c.run_from-reach.ensures.place _ _ o.front o.first o.rest c.self.invariant.space o.is o.name o.free in
     let is = o.is ∙ ap (λ (l : List Block). o.front ++ o.first ∷ l) e.2 in
     let now = ap (λ (v : View). v.blocks) c.self.view_is in
@@ -38,22 +38,32 @@ run_of g c =
 
 pub run_from-reach-requires : goal.run_from-reach-requires
 run_from-reach-requires g c =
-    let o : IsBegun (blocks (g.T.Tables.cells c.self.inside.store.tables).chain c.self.inside.store.last) c.in-Some.first = begun c.args.step c.args.from 0 _ _ (sym c.first_from.ensures.first ∙ c.in-Some.is) in
+    let o : IsBegun c.args.step (blocks (g.T.Tables.cells c.self.inside.store.tables).chain c.self.inside.store.last) c.in-Some.first = begun c.args.step c.args.from 0 _ _ (sym c.first_from.ensures.first ∙ c.in-Some.is) in
     record { some = c.requires.some; place = (_, _, o.front, o.first, o.rest, c.self.invariant.space, o.is, o.name, o.free) }
 
 -- what both searches count
 counted : (g : Over) (c : After-run_from-reach g)
-    → (c.args.self.now.accesses ≤ c.run_from-reach.new.count) × (c.run_from-reach.new.count ≤ c.args.self.now.accesses + (8 * length c.args.self.now.blocks + 5))
-    × (c.run_from-reach.new.count ≤ c.args.self.now.accesses + (5 * length c.args.self.now.blocks + 6 * max 1 c.args.most_ranges + 5))
+    → (c.args.self.now.accesses ≤ c.run_from-reach.new.count) × (c.run_from-reach.new.count ≤ c.args.self.now.accesses + (4 * length c.args.self.now.blocks + 3 * length (run_of g c).rest + 2))
+    × (c.run_from-reach.new.count ≤ c.args.self.now.accesses + (4 * length c.args.self.now.blocks + 6 * max 1 c.args.most_ranges + 2))
+    × (c.args.from ≡ 0 → c.args.self.now.accesses + length c.args.self.now.blocks ≤ c.run_from-reach.new.count)
+unfolding run_of
 counted g c =
-    let o : IsBegun (blocks (g.T.Tables.cells c.self.inside.store.tables).chain c.self.inside.store.last) c.in-Some.first = begun c.args.step c.args.from 0 _ _ (sym c.first_from.ensures.first ∙ c.in-Some.is) in
+    let o : IsBegun c.args.step (blocks (g.T.Tables.cells c.self.inside.store.tables).chain c.self.inside.store.last) c.in-Some.first = begun c.args.step c.args.from 0 _ _ (sym c.first_from.ensures.first ∙ c.in-Some.is) in
     let e = c.run_from-reach.ensures.place _ _ o.front o.first o.rest c.self.invariant.space o.is o.name o.free in
-    searches_cost c.args.most_units c.args.most_ranges _ c.args.self.now c.formed.ensures o.front o.first e.0 e.1 o.rest (ap (λ (v : View). v.blocks) c.self.view_is)
-    (ap (λ (u : View). u.accesses) c.self.view_is) o.is e.2 o.free e.3 c.first_from.ensures.accesses e.8 e.9
+    let n = searches_cost c.args.most_units c.args.most_ranges _ c.args.self.now c.formed.ensures o.front o.first e.0 e.1 o.rest (ap (λ (v : View). v.blocks) c.self.view_is)
+    (ap (λ (u : View). u.accesses) c.self.view_is) o.is e.2 o.free e.3 c.first_from.ensures.accesses e.8 e.9 in
+    (n.0, n.1, n.2, λ zero. let least = c.first_from.ensures.accesses_all zero in omega (arith, least, e.8, ap (λ (u : View). u.accesses) c.self.view_is, ap (λ (u : View). length u.blocks) c.self.view_is))
 
 pub returns-then-not-can_follow-clause-accesses : goal.returns-then-not-can_follow-clause-accesses
 returns-then-not-can_follow-clause-accesses g c =
-    let n = counted g (goal.at.returns-then-not-can_follow-clause-accesses g c).After-run_from-reach in (omega (arith, n.0), omega (arith, n.1))
+    let at = (goal.at.returns-then-not-can_follow-clause-accesses g c).After-run_from-reach in
+    let n = counted g at in
+    let r = run_of g at in
+    let all = ap (λ (l : List Block). length l) r.reached.is in
+    (omega (arith, n.0), omega (arith, n.1, all, length-append r.front ((r.first ∷ r.rest) ++ r.back), length-append (r.first ∷ r.rest) r.back))
+
+pub returns-then-not-can_follow-clause-accesses_all : goal.returns-then-not-can_follow-clause-accesses_all
+returns-then-not-can_follow-clause-accesses_all g c = (counted g (goal.at.returns-then-not-can_follow-clause-accesses_all g c).After-run_from-reach).3
 
 pub returns-then-not-can_follow-clause-accesses_budget : goal.returns-then-not-can_follow-clause-accesses_budget
 returns-then-not-can_follow-clause-accesses_budget g c =
@@ -107,7 +117,7 @@ done : (g : Over) (c : After-slide_run g)
     × CanFollow c.args.step c.args.self.now (p.first ∷ p.rest)
     × FoldsTo (IsCalledWith g.T.Index.NonMax.NodeIndexNonMax.number (λ f range h. goal.F-step g f range tt h)) c.args.moved.now
     (moves_by c.args.step (units p.front) (units p.front) (p.first ∷ p.rest)) c.slide_run.new.moved)
-    × (c.slide_run.new.store.accesses ≤ c.run_from-reach.new.count + 18 * length (r.first ∷ r.rest) + 36)
+    × (c.slide_run.new.store.accesses + 11 * count_used (r.first ∷ r.rest) ≤ c.run_from-reach.new.count + 18 * length (r.first ∷ r.rest) + 36)
 done g c r k f is =
     let old : Fields = fields_of g.T.Tables.cells g.T.Index.NodeIndex.MAX c.self.inside in
     let t = c.args.step in
@@ -183,7 +193,11 @@ returns-clause-accesses g c =
     let r = run_of g at.After-run_from-reach in
     let d = done g at.After-slide_run r 0 _ refl in
     let all = ap (λ (l : List Block). length l) r.reached.is in
-    (omega (arith, n.0, c.slide_run.ensures.accesses_min), omega (arith, n.1, d.2, all, length-append r.front ((r.first ∷ r.rest) ++ r.back), length-append (r.first ∷ r.rest) r.back))
+    let few = run_few c.args.self.now c.formed.ensures r.front (r.first ∷ r.rest) r.back r.reached.is in
+    (omega (arith, n.0, c.slide_run.ensures.accesses_min), omega (arith, n.1, d.2, few, all, length-append r.front ((r.first ∷ r.rest) ++ r.back), length-append (r.first ∷ r.rest) r.back))
+
+pub returns-clause-accesses_all : goal.returns-clause-accesses_all
+returns-clause-accesses_all g c zero = let least = (counted g (goal.at.returns-clause-accesses_all g c).After-run_from-reach).3 zero in omega (arith, least, c.slide_run.ensures.accesses_min)
 
 pub returns-clause-accesses_budget : goal.returns-clause-accesses_budget
 returns-clause-accesses_budget g c =

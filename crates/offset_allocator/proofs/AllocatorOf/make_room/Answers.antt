@@ -1,10 +1,13 @@
-use Rattle.offset_allocator.proofs.{Linking.Names.kept_unused, Classes.below_value_up, Classes.down_small, Advice.none_free, Advice.free_within, Sound.Fields, Sound.shown, Sound.fields_of}
-use Rattle.offset_allocator.proofs.{Sound.known_sound, Moving.Packed.live_sizes, Taken.HasFit, Refusals.total_is, Linking.Places.kept_place, Linking.Places.at_place, Filing.Filed.unlisted}
-use Rattle.offset_allocator.proofs.Common.{ℕ, List, ◌++◌, ◌∙◌, refl, sym, ap, subst, arith, sum, View, free_sizes, value, up, live, length, KeepsSizes, true≢false, Node}
+use Rattle.offset_allocator.proofs.{Linking.Names.kept_unused, Classes.below_value_up, Classes.down_small, Advice.none_free, Advice.free_within, Sound.Fields, Sound.fields_of}
+use Rattle.offset_allocator.proofs.{Taken.HasFit, Refusals.total_is, Linking.Places.kept_place, Linking.Places.at_place, Filing.Filed.unlisted}
+use Rattle.offset_allocator.proofs.Common.{ℕ, List, ◌++◌, ◌∙◌, refl, sym, ap, subst, arith, sum, AreInBins, View, blocks, free_sizes, value, up, length, true≢false, Node}
+use Rattle.offset_allocator.proofs.Moving.Gathered.{gathered_filed}
 use Rattle.offset_allocator.proofs.Moving.Runs.{run_some, run_within, one_serves, none_fits, few_units}
-use Rattle.offset_allocator.proofs.Moving.Rooms.{found_cost, found_run, few_moved, grants, makes, slides_live, first_at, first_stretch, first_listed, first_filed, slides}
-use Rattle.offset_allocator.specs.Names.{free_blocks, names_of}
+use Rattle.offset_allocator.proofs.Moving.Rooms.{first_gone, first_listed, found_cost, found_run, rest_ends, slides, slides_sound}
+use Rattle.offset_allocator.proofs.Moving.RoomsBySteps.{IsOpenedBy, opened_at, opened_short}
+use Rattle.offset_allocator.specs.{Moving.BySteps.stepped, Moving.BySteps.used_up, Names.names_of}
 use Rattle.offset_allocator.proofs.AllocatorOf.make_room.Goals.{then-size-eq0-via-then-size-eq0, then-size-eq0-via-else-size-eq0+then-uint_to_float_round_down-class}
+use Rattle.offset_allocator.proofs.AllocatorOf.make_room.{Goals.In_ok-run, Given.Over}
 use Rattle.offset_allocator.proofs.AllocatorOf.make_room.Goals as goal
 
 pub find_at_or_above-found-requires-clause-classed : goal.find_at_or_above-found-requires-clause-classed
@@ -41,141 +44,113 @@ returns-then-run-eq0-clause-cost g c =
     c.float_to_uint.result c.in_ok-run.run' c.uint_to_float_round_up-class.ensures.is c.uint_to_float_round_down.ensures.is c.if-uint_to_float_round_down-class.false
     c.float_to_uint.ensures.is c.in_ok-run.ensures.run
 
-pub returns : goal.returns
-returns g c =
-    let f : Fields = fields_of g.T.Tables.cells g.T.Index.NodeIndex.MAX c.self.inside in
-    let o = found_run f c.self.invariant c.args.self.now c.self.view_is c.formed.ensures c.args.size c.uint_to_float_round_up-class.result c.uint_to_float_round_down.result c.float_to_uint.result
-    c.in_ok-run.run' c.uint_to_float_round_up-class.ensures.is c.uint_to_float_round_down.ensures.is c.if-uint_to_float_round_down-class.false
-    c.float_to_uint.ensures.is c.in_ok-run.ensures.run c.if-run-eq0.false in
-    let want = value (up c.args.size) in
-    let held = kept_place c.remove.ensures.chain (first_at f c.self.invariant want c.in_ok-run.run' o) in
-    let st = first_stretch f c.self.invariant want c.in_ok-run.run' o in
-    let filed = first_filed f c.self.invariant want c.in_ok-run.run' o c.size-first.result c.size-first.ensures.cell _ c.remove.ensures.lists in
-    let e = c.slide_to-hole.ensures.place _ _ o.rest o.back held st filed in
-    let done = slides f c.self.invariant want c.in_ok-run.run' o (g.T.Tables.cells c.push.new.store.tables) c.push.new.store.last c.push.new.store.spare_count c.slide_to-hole.result.name
-    c.slide_to-hole.result.size
-    (kept_place c.push.ensures.chain e.0) e.1 {accesses = c.push.new.store.accesses} c.size-first.result c.size-first.ensures.cell c.push.ensures.binned
-    (rw (c.uint_to_float_round_down-class.ensures.is, e.3, c.remove.ensures.lists) at c.push.ensures.lists) c.slide_to-hole.ensures.name
-    (kept_unused c.push.ensures.chain ∙ c.slide_to-hole.ensures.unused _ _ o.rest o.back held st filed
-    ∙ ap (λ (u : List ℕ). u ++ names_of (free_blocks o.rest)) (kept_unused c.remove.ensures.chain)) in
-    record {
-      cost =
-          found_cost f c.self.invariant c.args.self.now c.self.view_is c.formed.ensures c.args.size c.uint_to_float_round_up-class.result c.uint_to_float_round_down.result c.float_to_uint.result
-          c.in_ok-run.run' c.uint_to_float_round_up-class.ensures.is c.uint_to_float_round_down.ensures.is c.if-uint_to_float_round_down-class.false c.float_to_uint.ensures.is c.in_ok-run.ensures.run;
-      step = makes f c.self.invariant want c.in_ok-run.run' o _ done.1.0 done.1.1 done.1.2 e.2 c.args.self.now c.self.view_is c.if-run-eq0.false;
-      live = slides_live want (shown f) _ done.1.0 ∙ ap (λ (u : View). live u.blocks) c.self.view_is;
-      sizes = let left : View = (shown (record f {
-        cells = (g.T.Tables.cells c.push.new.store.tables);
-        last = c.push.new.store.last;
-        count = c.push.new.store.spare_count;
-        top =
-            c.push.new.store.top_mask;
-        accesses = c.push.new.store.accesses;
-      })) in
-          let P : View → Type 0 = λ u. KeepsSizes u left in
-          subst P c.self.view_is (live_sizes (shown f) left (known_sound f c.self.invariant (shown f) refl).0 (known_sound (record f {
-            cells = (g.T.Tables.cells c.push.new.store.tables);
-            last = c.push.new.store.last;
-            count = c.push.new.store.spare_count;
-            top = c.push.new.store.top_mask;
-            accesses = c.push.new.store.accesses;
-          }) done.0 left refl).0 (slides_live want (shown f) left done.1.0));
-      granted = λ some. grants f c.self.invariant want c.in_ok-run.run' o (g.T.Tables.cells c.push.new.store.tables) c.push.new.store.last c.push.new.store.spare_count c.slide_to-hole.result.name
-          c.slide_to-hole.result.size
-          (kept_place c.push.ensures.chain e.0) e.1 c.args.size refl _ done.2;
-      accesses = let few = few_moved f c.self.invariant want c.in_ok-run.run' o (g.T.Tables.cells c.push.new.store.tables) c.push.new.store.last c.push.new.store.spare_count c.slide_to-hole.result.name
-          c.slide_to-hole.result.size
-          (kept_place c.push.ensures.chain e.0) e.1 in
-          let all = ap (λ (u : View). length u.blocks) c.self.view_is in
-          let old = ap (λ (u : View). u.accesses) c.self.view_is in (
-            omega (
-              arith,
-              old,
-              c.find_at_or_above-found.ensures.accesses,
-              c.cheapest.ensures.accesses.0,
-              c.size-first.ensures.accesses,
-              c.remove.ensures.accesses.0,
-              c.slide_to-hole.ensures.accesses_min,
-              c.push.ensures.accesses.0,
-            ),
-            omega (
-              arith,
-              few,
-              all,
-              old,
-              e.5,
-              c.find_at_or_above-found.ensures.accesses,
-              c.cheapest.ensures.accesses.1,
-              c.size-first.ensures.accesses,
-              c.remove.ensures.accesses.1,
-              c.push.ensures.accesses.1,
-            ),
-          );
-    }
+-- the run that the search has found
+found : (g : Over) (c : In_ok-run g) → IsOpenedBy 1 (value (up c.args.size)) 0 (blocks (g.T.Tables.cells c.self.inside.store.tables).chain c.self.inside.store.last) c.in_ok-run.run'
+found g c =
+    found_run (fields_of g.T.Tables.cells g.T.Index.NodeIndex.MAX c.self.inside) c.self.invariant c.args.self.now c.self.view_is c.formed.ensures c.args.size c.uint_to_float_round_up-class.result
+    c.uint_to_float_round_down.result c.float_to_uint.result c.in_ok-run.run' c.uint_to_float_round_up-class.ensures.is c.uint_to_float_round_down.ensures.is c.if-uint_to_float_round_down-class.false
+    c.float_to_uint.ensures.is c.in_ok-run.ensures.run
 
 pub size-first-requires : goal.size-first-requires
 size-first-requires g c =
-    let f : Fields = fields_of g.T.Tables.cells g.T.Index.NodeIndex.MAX c.self.inside in
-    let o = found_run f c.self.invariant c.args.self.now c.self.view_is c.formed.ensures c.args.size c.uint_to_float_round_up-class.result c.uint_to_float_round_down.result c.float_to_uint.result
-    c.in_ok-run.run' c.uint_to_float_round_up-class.ensures.is c.uint_to_float_round_down.ensures.is c.if-uint_to_float_round_down-class.false
-    c.float_to_uint.ensures.is c.in_ok-run.ensures.run c.if-run-eq0.false in
-    let want = value (up c.args.size) in
-    (first_at f c.self.invariant want c.in_ok-run.run' o).below
+    (opened_at (fields_of g.T.Tables.cells g.T.Index.NodeIndex.MAX c.self.inside) c.self.invariant 1 (value (up c.args.size)) 0 c.in_ok-run.run' (found g (goal.at.size-first-requires g c).In_ok-run)).below
 
 pub remove-requires-clause-listed : goal.remove-requires-clause-listed
 remove-requires-clause-listed g c =
     let f : Fields = fields_of g.T.Tables.cells g.T.Index.NodeIndex.MAX c.self.inside in
-    let o = found_run f c.self.invariant c.args.self.now c.self.view_is c.formed.ensures c.args.size c.uint_to_float_round_up-class.result c.uint_to_float_round_down.result c.float_to_uint.result
-    c.in_ok-run.run' c.uint_to_float_round_up-class.ensures.is c.uint_to_float_round_down.ensures.is c.if-uint_to_float_round_down-class.false
-    c.float_to_uint.ensures.is c.in_ok-run.ensures.run c.if-run-eq0.false in
-    let want = value (up c.args.size) in
-    first_listed f c.self.invariant want c.in_ok-run.run' o c.size-first.result c.size-first.ensures.cell
+    let o = found g (goal.at.remove-requires-clause-listed g c).In_ok-run in
+    first_listed f c.self.invariant (value (up c.args.size)) c.in_ok-run.run' o c.if-run-eq0.false c.size-first.ensures.cell
 
-pub slide_to-hole-requires-clause-place : goal.slide_to-hole-requires-clause-place
-slide_to-hole-requires-clause-place g c =
+pub to_front-hole-requires-clause-place : goal.to_front-hole-requires-clause-place
+to_front-hole-requires-clause-place g c =
     let f : Fields = fields_of g.T.Tables.cells g.T.Index.NodeIndex.MAX c.self.inside in
-    let o = found_run f c.self.invariant c.args.self.now c.self.view_is c.formed.ensures c.args.size c.uint_to_float_round_up-class.result c.uint_to_float_round_down.result c.float_to_uint.result
-    c.in_ok-run.run' c.uint_to_float_round_up-class.ensures.is c.uint_to_float_round_down.ensures.is c.if-uint_to_float_round_down-class.false
-    c.float_to_uint.ensures.is c.in_ok-run.ensures.run c.if-run-eq0.false in
     let want = value (up c.args.size) in
-    let held = kept_place c.remove.ensures.chain (first_at f c.self.invariant want c.in_ok-run.run' o) in
-    let st = first_stretch f c.self.invariant want c.in_ok-run.run' o in
-    let filed = first_filed f c.self.invariant want c.in_ok-run.run' o c.size-first.result c.size-first.ensures.cell _ c.remove.ensures.lists in
-    (_, _, o.rest, o.back, held, st, filed)
+    let r = c.in_ok-run.run' in
+    let o = found g (goal.at.to_front-hole-requires-clause-place g c).In_ok-run in (
+      _,
+      o.front,
+      o.block,
+      o.rest,
+      o.back,
+      _,
+      kept_place c.remove.ensures.chain (opened_at f c.self.invariant 1 want 0 r o),
+      o.idle,
+      rest_ends f c.self.invariant want r o c.if-run-eq0.false,
+      gathered_filed f c.self.invariant o.front o.block o.rest o.back o.is o.idle (λ _. first_gone f c.self.invariant want r o c.if-run-eq0.false c.size-first.ensures.cell c.remove.ensures.lists),
+    )
 
 pub push-requires : goal.push-requires
 push-requires g c =
     let f : Fields = fields_of g.T.Tables.cells g.T.Index.NodeIndex.MAX c.self.inside in
-    let o = found_run f c.self.invariant c.args.self.now c.self.view_is c.formed.ensures c.args.size c.uint_to_float_round_up-class.result c.uint_to_float_round_down.result c.float_to_uint.result
-    c.in_ok-run.run' c.uint_to_float_round_up-class.ensures.is c.uint_to_float_round_down.ensures.is c.if-uint_to_float_round_down-class.false
-    c.float_to_uint.ensures.is c.in_ok-run.ensures.run c.if-run-eq0.false in
     let want = value (up c.args.size) in
-    let held = kept_place c.remove.ensures.chain (first_at f c.self.invariant want c.in_ok-run.run' o) in
-    let st = first_stretch f c.self.invariant want c.in_ok-run.run' o in
-    let filed = first_filed f c.self.invariant want c.in_ok-run.run' o c.size-first.result c.size-first.ensures.cell _ c.remove.ensures.lists in
-    let e = c.slide_to-hole.ensures.place _ _ o.rest o.back held st filed in
+    let r = c.in_ok-run.run' in
+    let o = found g (goal.at.push-requires g c).In_ok-run in
+    let e = c.to_front-hole.ensures.place _ o.front o.block o.rest o.back _ (kept_place c.remove.ensures.chain (opened_at f c.self.invariant 1 want 0 r o)) o.idle
+    (rest_ends f c.self.invariant want r o c.if-run-eq0.false) (gathered_filed f c.self.invariant o.front o.block o.rest o.back o.is o.idle (λ _. first_gone f c.self.invariant want r o c.if-run-eq0.false c.size-first.ensures.cell c.remove.ensures.lists)) in
     record {
-      binned = c.slide_to-hole.ensures.binned;
+      binned = c.to_front-hole.ensures.binned;
       named = e.0.below;
       idle = ap (λ (v : Node). v.used) (at_place e.0);
-      classed = omega (arith, down_small c.slide_to-hole.result.size, c.uint_to_float_round_down-class.ensures.is);
-      unlisted = unlisted e.0 _ e.4;
+      classed = omega (arith, down_small c.to_front-hole.result.size, c.uint_to_float_round_down-class.ensures.is);
+      unlisted = unlisted e.0 _ (subst (λ (ls : List (List ℕ)). AreInBins ((o.front ++ stepped 1 o.rest) ++ o.back) ls) (sym (e.3 refl)) e.4);
     }
 
 pub invariant_of-self-2 : goal.invariant_of-self-2
 invariant_of-self-2 g c =
     let f : Fields = fields_of g.T.Tables.cells g.T.Index.NodeIndex.MAX c.self.inside in
-    let o = found_run f c.self.invariant c.args.self.now c.self.view_is c.formed.ensures c.args.size c.uint_to_float_round_up-class.result c.uint_to_float_round_down.result c.float_to_uint.result
-    c.in_ok-run.run' c.uint_to_float_round_up-class.ensures.is c.uint_to_float_round_down.ensures.is c.if-uint_to_float_round_down-class.false
-    c.float_to_uint.ensures.is c.in_ok-run.ensures.run c.if-run-eq0.false in
     let want = value (up c.args.size) in
-    let held = kept_place c.remove.ensures.chain (first_at f c.self.invariant want c.in_ok-run.run' o) in
-    let st = first_stretch f c.self.invariant want c.in_ok-run.run' o in
-    let filed = first_filed f c.self.invariant want c.in_ok-run.run' o c.size-first.result c.size-first.ensures.cell _ c.remove.ensures.lists in
-    let e = c.slide_to-hole.ensures.place _ _ o.rest o.back held st filed in
-    (slides f c.self.invariant want c.in_ok-run.run' o (g.T.Tables.cells c.push.new.store.tables) c.push.new.store.last c.push.new.store.spare_count c.slide_to-hole.result.name
-    c.slide_to-hole.result.size
-    (kept_place c.push.ensures.chain e.0) e.1 {accesses = 0} c.size-first.result c.size-first.ensures.cell c.push.ensures.binned
-    (rw (c.uint_to_float_round_down-class.ensures.is, e.3, c.remove.ensures.lists) at c.push.ensures.lists) c.slide_to-hole.ensures.name
-    (kept_unused c.push.ensures.chain ∙ c.slide_to-hole.ensures.unused _ _ o.rest o.back held st filed
-    ∙ ap (λ (u : List ℕ). u ++ names_of (free_blocks o.rest)) (kept_unused c.remove.ensures.chain))).0
+    let r = c.in_ok-run.run' in
+    let o = found g (goal.at.invariant_of-self-2 g c).In_ok-run in
+    let e = c.to_front-hole.ensures.place _ o.front o.block o.rest o.back _ (kept_place c.remove.ensures.chain (opened_at f c.self.invariant 1 want 0 r o)) o.idle
+    (rest_ends f c.self.invariant want r o c.if-run-eq0.false) (gathered_filed f c.self.invariant o.front o.block o.rest o.back o.is o.idle (λ _. first_gone f c.self.invariant want r o c.if-run-eq0.false c.size-first.ensures.cell c.remove.ensures.lists)) in
+    slides_sound f c.self.invariant want r o c.if-run-eq0.false (g.T.Tables.cells c.push.new.store.tables) c.push.new.store.last c.push.new.store.spare_count c.to_front-hole.result.name
+    c.to_front-hole.result.size (kept_place c.push.ensures.chain e.0) e.1 c.push.new.store.top_mask c.push.ensures.binned (rw (c.uint_to_float_round_down-class.ensures.is, e.3 refl) at c.push.ensures.lists) e.4 0
+
+pub returns : goal.returns
+returns g c =
+    let f : Fields = fields_of g.T.Tables.cells g.T.Index.NodeIndex.MAX c.self.inside in
+    let want = value (up c.args.size) in
+    let r = c.in_ok-run.run' in
+    let o = found g (goal.at.returns g c).In_ok-run in
+    let e = c.to_front-hole.ensures.place _ o.front o.block o.rest o.back _ (kept_place c.remove.ensures.chain (opened_at f c.self.invariant 1 want 0 r o)) o.idle
+    (rest_ends f c.self.invariant want r o c.if-run-eq0.false) (gathered_filed f c.self.invariant o.front o.block o.rest o.back o.is o.idle (λ _. first_gone f c.self.invariant want r o c.if-run-eq0.false c.size-first.ensures.cell c.remove.ensures.lists)) in
+    let d = slides f c.self.invariant want r o c.if-run-eq0.false (g.T.Tables.cells c.push.new.store.tables) c.push.new.store.last c.push.new.store.spare_count c.to_front-hole.result.name
+    c.to_front-hole.result.size (kept_place c.push.ensures.chain e.0) e.1 c.push.new.store.top_mask c.push.ensures.binned (rw (c.uint_to_float_round_down-class.ensures.is, e.3 refl) at c.push.ensures.lists) e.4
+    c.push.new.store.accesses c.args.size refl c.self.view_is c.to_front-hole.ensures.name
+    (kept_unused c.push.ensures.chain ∙ e.5 ∙ ap (λ (u : List ℕ). u ++ names_of (used_up 1 o.rest)) (kept_unused c.remove.ensures.chain)) e.2 in
+    let all = ap (λ (u : View). length u.blocks) c.self.view_is in
+    let old = ap (λ (u : View). u.accesses) c.self.view_is in
+    record {
+      cost =
+          found_cost f c.self.invariant c.args.self.now c.self.view_is c.formed.ensures c.args.size c.uint_to_float_round_up-class.result c.uint_to_float_round_down.result c.float_to_uint.result
+          c.in_ok-run.run' c.uint_to_float_round_up-class.ensures.is c.uint_to_float_round_down.ensures.is c.if-uint_to_float_round_down-class.false c.float_to_uint.ensures.is c.in_ok-run.ensures.run;
+      step = d.0;
+      live = d.1;
+      sizes = d.2;
+      granted = λ _. d.3;
+      accesses = (
+        omega (
+          arith,
+          old,
+          c.find_at_or_above-found.ensures.accesses,
+          c.cheapest.ensures.accesses.0,
+          c.size-first.ensures.accesses,
+          c.remove.ensures.accesses.0,
+          c.to_front-hole.ensures.accesses_min,
+          c.push.ensures.accesses.0,
+        ),
+        omega (
+          arith,
+          opened_short f c.self.invariant 1 want 0 r o,
+          c.if-run-eq0.false,
+          all,
+          old,
+          e.6,
+          c.find_at_or_above-found.ensures.accesses,
+          c.cheapest.ensures.accesses.1,
+          c.size-first.ensures.accesses,
+          c.remove.ensures.accesses.1,
+          c.push.ensures.accesses.1,
+        ),
+      );
+    }

@@ -1,4 +1,4 @@
-use Rattle.offset_calls.proofs.{Common.refl, Tickets.stored, Tickets.stored_serials}
+use Rattle.offset_calls.proofs.{Common.refl, Tickets.stored, Tickets.stored_serials, Tickets.stored_step}
 use Rattle.offset_calls.specs.declared.calls.Call.TheVariants as call
 use Rattle.offset_calls.proofs.guarded_playing.allocate_tight_aligned.Goals as goal
 
@@ -9,4 +9,4 @@ returns g c =
     c.allocate_tight_aligned-granted.ensures.grants c.allocate_tight_aligned-granted.ensures.same c.in_ok-keep.ensures in
     let cells = stored_serials c.args.size (call.AllocateTightAligned c.args.size c.args.align) c.args.player.now.space c.allocate_tight_aligned-granted.new.self c.args.player.now.tickets.items c.keep.new.tickets.items c.allocate_tight_aligned-granted.result _ (λ _ cells. refl)
     c.allocate_tight_aligned-granted.ensures.grants c.allocate_tight_aligned-granted.ensures.serials c.in_ok-keep.ensures in
-    record { takes = (_, _, c.allocate_tight_aligned-granted.ensures.step c.requires.left, s.0, refl); all_tickets = s.1; grown = s.2; serials = cells; realm = s.3 }
+    record { takes = (_, _, c.allocate_tight_aligned-granted.ensures.step c.requires.left, s.0, refl); all_tickets = s.1; grown = s.2; serials = cells; realm = s.3; step = stored_step c.args.align c.args.player.now.space c.allocate_tight_aligned-granted.new.self c.args.player.now.tickets.items c.keep.new.tickets.items c.allocate_tight_aligned-granted.result _ c.allocate_tight_aligned-granted.ensures.joined c.allocate_tight_aligned-granted.ensures.serials c.in_ok-keep.ensures }

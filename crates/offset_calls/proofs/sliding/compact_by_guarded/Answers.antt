@@ -23,7 +23,7 @@ returns g c =
     let old = c.args.player.now.space in
     let now = c.compacted_by_guarded-done.new.space in
     let ts = c.args.player.now.tickets.items in
-    slid_serves (call.CompactBy c.args.step) old now ts _ (λ _ cells. refl) c.requires.all_tickets c.compacted_by_guarded-done.ensures.sizes c.compacted_by_guarded-done.ensures.serials
+    slid_serves (call.CompactBy c.args.step) old now ts _ (λ _ cells. refl) (λ s. refl) c.requires.all_tickets c.compacted_by_guarded-done.ensures.sizes c.compacted_by_guarded-done.ensures.serials
     (subst (Takes (call.CompactBy c.args.step) old.space (handles_of old ts) now.space (handles_of old ts)) (sym c.by_steps.ensures)
     (steps_take old.space now.space (handles_of old ts) c.compacted_by_guarded-done.new.seen.found.items c.requires.kept (λ x. serial_of x now) _
     (slid_serial old now ts c.requires.all_tickets c.compacted_by_guarded-done.ensures.sizes c.compacted_by_guarded-done.ensures.serials)

@@ -22,7 +22,7 @@ returns g c =
     let old = c.args.player.now.space in
     let now = c.compacted_guarded.new.space in
     let ts = c.args.player.now.tickets.items in
-    slid_serves call.Compact old now ts _ (λ _ cells. refl) c.requires.all_tickets c.compacted_guarded.ensures.sizes c.compacted_guarded.ensures.serials
+    slid_serves call.Compact old now ts _ (λ _ cells. refl) (λ s. refl) c.requires.all_tickets c.compacted_guarded.ensures.sizes c.compacted_guarded.ensures.serials
     (compact_takes old.space now.space (handles_of old ts) c.compacted_guarded.new.seen.found.items c.requires.kept (λ x. serial_of x now) _
     (slid_serial old now ts c.requires.all_tickets c.compacted_guarded.ensures.sizes c.compacted_guarded.ensures.serials)
     (c.in_ok-with_serials.ensures ∙ ap (map (numbered_move (λ x. serial_of x now))) c.deref.ensures.value) c.compacted_guarded.ensures.step (c.compacted_guarded.ensures.moves c.if-seen.false))

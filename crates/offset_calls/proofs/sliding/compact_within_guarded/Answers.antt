@@ -22,7 +22,7 @@ returns g c =
     let old = c.args.player.now.space in
     let now = c.moved_within_guarded-progress.new.space in
     let ts = c.args.player.now.tickets.items in
-    slid_serves (call.CompactWithin c.args.step c.args.from c.args.most_units c.args.most_ranges) old now ts _ (λ _ cells. refl) c.requires.all_tickets c.moved_within_guarded-progress.ensures.sizes c.moved_within_guarded-progress.ensures.serials (subst (Takes (call.CompactWithin c.args.step c.args.from c.args.most_units c.args.most_ranges) old.space (handles_of old ts) now.space (handles_of old ts)) (sym c.so_far.ensures) (
+    slid_serves (call.CompactWithin c.args.step c.args.from c.args.most_units c.args.most_ranges) old now ts _ (λ _ cells. refl) (λ s. refl) c.requires.all_tickets c.moved_within_guarded-progress.ensures.sizes c.moved_within_guarded-progress.ensures.serials (subst (Takes (call.CompactWithin c.args.step c.args.from c.args.most_units c.args.most_ranges) old.space (handles_of old ts) now.space (handles_of old ts)) (sym c.so_far.ensures) (
       within_takes old.space now.space (handles_of old ts) c.moved_within_guarded-progress.new.seen.found.items c.requires.kept (λ x. serial_of x now) _
           (slid_serial old now ts c.requires.all_tickets c.moved_within_guarded-progress.ensures.sizes c.moved_within_guarded-progress.ensures.serials)
           (c.in_ok-with_serials.ensures ∙ ap (map (numbered_move (λ x. serial_of x now))) c.deref.ensures.value)

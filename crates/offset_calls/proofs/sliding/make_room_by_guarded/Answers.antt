@@ -22,7 +22,7 @@ returns g c =
     let old = c.args.player.now.space in
     let now = c.collect_by_guarded-cost.new.space in
     let ts = c.args.player.now.tickets.items in
-    slid_serves (call.MakeRoomBy c.args.size c.args.align c.args.step) old now ts _ (λ _ cells. refl) c.requires.all_tickets c.collect_by_guarded-cost.ensures.sizes c.collect_by_guarded-cost.ensures.serials (
+    slid_serves (call.MakeRoomBy c.args.size c.args.align c.args.step) old now ts _ (λ _ cells. refl) (λ s. refl) c.requires.all_tickets c.collect_by_guarded-cost.ensures.sizes c.collect_by_guarded-cost.ensures.serials (
       room_by_takes old.space now.space (handles_of old ts) c.collect_by_guarded-cost.new.seen.found.items c.requires.kept (λ x. serial_of x now) _
           (slid_serial old now ts c.requires.all_tickets c.collect_by_guarded-cost.ensures.sizes c.collect_by_guarded-cost.ensures.serials)
           (c.in_ok-with_serials.ensures ∙ ap (map (numbered_move (λ x. serial_of x now))) c.deref.ensures.value)

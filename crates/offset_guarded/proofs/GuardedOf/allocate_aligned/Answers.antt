@@ -2,6 +2,7 @@ use Rattle.std.proofs.Common.{◌≡◌, ◌%◌, Some, refl, subst, sym}
 use Rattle.offset_allocator.specs.Requests.{blocks_needed, units_needed}
 use Rattle.offset_allocator.specs.Relations.{Aligns}
 use Rattle.offset_guarded.specs.Guard.{Guard, Ticket, handle_in}
+use Rattle.offset_guarded.specs.Step.{IsJoined}
 use Rattle.offset_guarded.proofs.Guards.{can_grant, granted_as, issued, same_limit}
 use Rattle.offset_guarded.proofs.GuardedOf.allocate_aligned.Goals as goal
 
@@ -17,7 +18,7 @@ returns-in-Some-clause-can_grant g c = can_grant (blocks_needed c.args.align) (u
 pub returns-in-Some-clause-grants : goal.returns-in-Some-clause-grants
 returns-in-Some-clause-grants g c =
     granted_as g.T.Index.NodeIndex.MAX c.args.size c.self.inside.realm c.self.inside.space c.allocate_aligned.new.self c.self.inside.serials c.ticket_for.new.serials c.in-Some.handle
-    c.self.invariant c.in-Some.ensures.grants c.ticket_for.ensures.cells c.ticket_for.ensures.given c.ticket_for.ensures.table _ _ c.self.view_is c.ticket_for.ensures.ticket
+    c.self.invariant c.in-Some.ensures.grants c.ticket_for.ensures.cells c.ticket_for.ensures.given c.ticket_for.ensures.table c.self.inside.step c.joined-self-inside.result _ _ c.self.view_is c.ticket_for.ensures.ticket
 
 pub returns-in-Some-clause-aligned : goal.returns-in-Some-clause-aligned
 returns-in-Some-clause-aligned g c = subst (λ (t : Ticket). t.offset % c.args.align ≡ 0) (sym c.ticket_for.ensures.ticket) c.in-Some.ensures.aligned
@@ -26,3 +27,6 @@ pub returns-in-Some-clause-step : goal.returns-in-Some-clause-step
 returns-in-Some-clause-step g c left =
     subst (λ (t : Ticket). Aligns c.args.size c.args.align c.args.self.now.space c.allocate_aligned.new.self (Some (handle_in t))) (sym c.ticket_for.ensures.ticket)
     (subst (λ (k : Guard). Aligns c.args.size c.args.align k.space c.allocate_aligned.new.self (Some c.in-Some.handle)) c.self.view_is c.in-Some.ensures.step)
+
+pub returns-in-Some-clause-joined : goal.returns-in-Some-clause-joined
+returns-in-Some-clause-joined g c = subst (λ (k : Guard). IsJoined k.step c.args.align c.joined-self-inside.result) c.self.view_is c.joined-self-inside.ensures

@@ -15,7 +15,7 @@ returns-in-Some-clause-granted g c = can_grant_at c.args.offset c.args.size _ _ 
 pub returns-in-Some-clause-grants : goal.returns-in-Some-clause-grants
 returns-in-Some-clause-grants g c =
     granted_as g.T.Index.NodeIndex.MAX c.args.size c.self.inside.realm c.self.inside.space c.allocate_at.new.self c.self.inside.serials c.ticket_for.new.serials c.in-Some.handle
-    c.self.invariant c.in-Some.ensures.grants c.ticket_for.ensures.cells c.ticket_for.ensures.given c.ticket_for.ensures.table _ _ c.self.view_is c.ticket_for.ensures.ticket
+    c.self.invariant c.in-Some.ensures.grants c.ticket_for.ensures.cells c.ticket_for.ensures.given c.ticket_for.ensures.table c.self.inside.step c.self.inside.step _ _ c.self.view_is c.ticket_for.ensures.ticket
 
 pub returns-in-Some-clause-step : goal.returns-in-Some-clause-step
 returns-in-Some-clause-step g c left =

@@ -1,6 +1,7 @@
 use Rattle.std.proofs.Common.{◌≡◌, ◌%◌, Some, refl, subst, sym}
 use Rattle.offset_allocator.specs.Tight.{AlignsTight}
 use Rattle.offset_guarded.specs.Guard.{Guard, Ticket, handle_in}
+use Rattle.offset_guarded.specs.Step.{IsJoined}
 use Rattle.offset_guarded.proofs.Guards.{can_hold, granted_as, issued, same_limit_tight}
 use Rattle.offset_guarded.proofs.GuardedOf.allocate_tight_aligned.Goals as goal
 
@@ -15,7 +16,7 @@ returns-in-Some-clause-can_hold g c = can_hold c.args.size c.args.align _ _ c.se
 pub returns-in-Some-clause-grants : goal.returns-in-Some-clause-grants
 returns-in-Some-clause-grants g c =
     granted_as g.T.Index.NodeIndex.MAX c.args.size c.self.inside.realm c.self.inside.space c.allocate_tight_aligned.new.self c.self.inside.serials c.ticket_for.new.serials c.in-Some.handle
-    c.self.invariant c.in-Some.ensures.grants c.ticket_for.ensures.cells c.ticket_for.ensures.given c.ticket_for.ensures.table _ _ c.self.view_is c.ticket_for.ensures.ticket
+    c.self.invariant c.in-Some.ensures.grants c.ticket_for.ensures.cells c.ticket_for.ensures.given c.ticket_for.ensures.table c.self.inside.step c.joined-self-inside.result _ _ c.self.view_is c.ticket_for.ensures.ticket
 
 pub returns-in-Some-clause-step : goal.returns-in-Some-clause-step
 returns-in-Some-clause-step g c left =
@@ -25,3 +26,6 @@ returns-in-Some-clause-step g c left =
 
 pub returns-in-Some-clause-aligned : goal.returns-in-Some-clause-aligned
 returns-in-Some-clause-aligned g c = subst (λ (t : Ticket). t.offset % c.args.align ≡ 0) (sym c.ticket_for.ensures.ticket) c.in-Some.ensures.aligned
+
+pub returns-in-Some-clause-joined : goal.returns-in-Some-clause-joined
+returns-in-Some-clause-joined g c = subst (λ (k : Guard). IsJoined k.step c.args.align c.joined-self-inside.result) c.self.view_is c.joined-self-inside.ensures

@@ -14,9 +14,9 @@ pub returns-in-Some-clause-grants : goal.returns-in-Some-clause-grants
 returns-in-Some-clause-grants g c =
     let size : size_of c.in_ok-handle.handle.name c.self.inside.space ≡ size_of c.args.ticket.name c.args.self.now.space =
     ap (λ (x : ℕ). size_of x c.self.inside.space) c.in_ok-handle.ensures.range.0 ∙ ap (λ (k : Guard). size_of c.args.ticket.name k.space) c.self.view_is in
-    subst (λ (n : ℕ). Grants n c.args.self.now (guard c.relocate.new.self c.ticket_for.new.serials c.self.inside.realm) c.ticket_for.result) size
+    subst (λ (n : ℕ). Grants n c.args.self.now (guard c.relocate.new.self c.ticket_for.new.serials c.self.inside.realm c.self.inside.step) c.ticket_for.result) size
     (granted_as g.T.Index.NodeIndex.MAX (size_of c.in_ok-handle.handle.name c.self.inside.space) c.self.inside.realm c.self.inside.space c.relocate.new.self c.self.inside.serials
-    c.ticket_for.new.serials c.in-Some.second c.self.invariant c.in-Some.ensures.grants c.ticket_for.ensures.cells c.ticket_for.ensures.given c.ticket_for.ensures.table _ _ c.self.view_is c.ticket_for.ensures.ticket)
+    c.ticket_for.new.serials c.in-Some.second c.self.invariant c.in-Some.ensures.grants c.ticket_for.ensures.cells c.ticket_for.ensures.given c.ticket_for.ensures.table c.self.inside.step c.self.inside.step _ _ c.self.view_is c.ticket_for.ensures.ticket)
 
 pub returns-in-Some-clause-step : goal.returns-in-Some-clause-step
 returns-in-Some-clause-step g c live left =

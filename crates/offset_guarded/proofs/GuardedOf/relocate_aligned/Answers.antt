@@ -2,6 +2,7 @@ use Rattle.std.proofs.Common.{◌≡◌, ◌∙◌, ◌%◌, ℕ, None, Some, ap
 use Rattle.offset_allocator.specs.Ranges.{size_of}
 use Rattle.offset_allocator.specs.Moving.Relocating.{RelocatesAligned}
 use Rattle.offset_guarded.specs.Guard.{Grants, Guard, Ticket, handle_in}
+use Rattle.offset_guarded.specs.Step.{IsJoined}
 use Rattle.offset_guarded.proofs.Guards.{granted_as, guard, issued, same_limit}
 use Rattle.offset_guarded.proofs.GuardedOf.relocate_aligned.Goals as goal
 
@@ -14,9 +15,9 @@ pub returns-in-Some-clause-grants : goal.returns-in-Some-clause-grants
 returns-in-Some-clause-grants g c =
     let size : size_of c.in_ok-handle.handle.name c.self.inside.space ≡ size_of c.args.ticket.name c.args.self.now.space =
     ap (λ (x : ℕ). size_of x c.self.inside.space) c.in_ok-handle.ensures.range.0 ∙ ap (λ (k : Guard). size_of c.args.ticket.name k.space) c.self.view_is in
-    subst (λ (n : ℕ). Grants n c.args.self.now (guard c.relocate_aligned.new.self c.ticket_for.new.serials c.self.inside.realm) c.ticket_for.result) size
+    subst (λ (n : ℕ). Grants n c.args.self.now (guard c.relocate_aligned.new.self c.ticket_for.new.serials c.self.inside.realm c.joined-self-inside.result) c.ticket_for.result) size
     (granted_as g.T.Index.NodeIndex.MAX (size_of c.in_ok-handle.handle.name c.self.inside.space) c.self.inside.realm c.self.inside.space c.relocate_aligned.new.self c.self.inside.serials
-    c.ticket_for.new.serials c.in-Some.second c.self.invariant c.in-Some.ensures.grants c.ticket_for.ensures.cells c.ticket_for.ensures.given c.ticket_for.ensures.table _ _ c.self.view_is c.ticket_for.ensures.ticket)
+    c.ticket_for.new.serials c.in-Some.second c.self.invariant c.in-Some.ensures.grants c.ticket_for.ensures.cells c.ticket_for.ensures.given c.ticket_for.ensures.table c.self.inside.step c.joined-self-inside.result _ _ c.self.view_is c.ticket_for.ensures.ticket)
 
 pub returns-in-Some-clause-step : goal.returns-in-Some-clause-step
 returns-in-Some-clause-step g c live left =
@@ -31,3 +32,6 @@ returns-in-None-clause-step g c live left =
 
 pub returns-in-Some-clause-aligned : goal.returns-in-Some-clause-aligned
 returns-in-Some-clause-aligned g c = subst (λ (t : Ticket). t.offset % c.args.align ≡ 0) (sym c.ticket_for.ensures.ticket) c.in-Some.ensures.aligned
+
+pub returns-in-Some-clause-joined : goal.returns-in-Some-clause-joined
+returns-in-Some-clause-joined g c = subst (λ (k : Guard). IsJoined k.step c.args.align c.joined-self-inside.result) c.self.view_is c.joined-self-inside.ensures

@@ -11,5 +11,6 @@ returns-clause-bytes x c g a b small few s t = one_text g a b small few s t (c.a
 
 pub returns-clause-formed : goal.returns-clause-formed
 returns-clause-formed x c =
-    subst IsWellFormed c.guarded.view_is (formed c.a_state_is_read_back.ensures.formed c.a_state_is_read_back.ensures.names c.guarded.invariant c.guarded.inside.realm
-    (omega (arith, ap (λ (u : Guard). u.realm) c.guarded.view_is, c.realm.ensures, c.realm.type_inv)))
+    subst IsWellFormed c.guarded.view_is (formed c.a_state_is_read_back.ensures.formed c.a_state_is_read_back.ensures.names c.guarded.invariant c.guarded.inside.realm c.guarded.inside.step
+    (omega (arith, ap (λ (u : Guard). u.realm) c.guarded.view_is, c.realm.ensures, c.realm.type_inv))
+    (omega (arith, ap (λ (u : Guard). u.step) c.guarded.view_is, c.step_number.ensures, c.step_number.type_inv)))

@@ -26,7 +26,7 @@ pub returns-clause-grants : goal.returns-clause-grants
 returns-clause-grants g c =
     let there : c.args.number < length c.self.inside.slots = let l = c.requires.there in let e = ap (λ (h : Heaps). length h.slots) c.self.view_is in omega arith in
     let stays = subst (λ (h : Heaps). MustRaiseIn h.limits c.args.number (blocks_needed c.args.align) (slot c.args.number h.slots) → ⊥) (sym c.self.view_is) c.requires.stays in
-    rw (← c.self.view_is) (granted_at c.self.inside.slots c.grant-ticket.new.self c.self.inside.limits c.self.inside.made c.self.inside.realm c.self.inside.accesses c.note.new.count
+    rw (c.of.ensures, ← c.self.view_is) (granted_at c.self.inside.slots c.grant-ticket.new.self c.self.inside.limits c.self.inside.made c.self.inside.realm c.self.inside.accesses c.note.new.count
     c.args.number c.args.size c.args.align c.grant-ticket.result there stays c.grant-ticket.ensures.grants)
 
 pub returns-clause-accesses : goal.returns-clause-accesses

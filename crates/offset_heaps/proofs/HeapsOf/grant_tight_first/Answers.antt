@@ -10,6 +10,6 @@ grant_tight_at-requires-clause-holds g c =
 
 pub returns-in-Ok-clause-grants : goal.returns-in-Ok-clause-grants
 returns-in-Ok-clause-grants g c =
-    filled_raised c.args.self.now c.raise.new.self c.grant_tight_at.new.self c.args.size c.args.align c.args.number c.grant_tight_at.result.place c.requires.there
+    filled_raised c.args.self.now c.raise.new.self c.grant_tight_at.new.self c.args.size c.args.align c.args.number c.grant_tight_at.result c.requires.there
     (subst (λ b. Changes c.args.number (RaisesIn c.args.self.now.limits c.args.number b) c.args.self.now.slots c.raise.new.self.slots) c.min.ensures c.in-Ok.ensures.raises) c.raise.ensures.rest
     (λ must. c.in-Ok.ensures.stays (subst (λ b. MustRaiseIn c.args.self.now.limits c.args.number b (heap_at c.args.number c.raise.new.self)) (sym c.min.ensures) must)) c.grant_tight_at.ensures.number c.grant_tight_at.ensures.grants

@@ -1,5 +1,5 @@
 use Rattle.std.proofs.Common.{ap, arith, refl, subst, sym}
-use Rattle.offset_heaps.specs.{Heaps.Heaps, Heaps.Grants, Heaps.numbers, Relocating.IsTaker, Relocating.granted}
+use Rattle.offset_heaps.specs.{Heaps.Heaps, Heaps.Grants, Heaps.numbers, Relocating.IsTaker}
 use Rattle.offset_heaps.proofs.{Grants.granted_since, Grants.not_live_before, Grants.others_kept, Grants.range_granted, Places.shown, Takers.size_here, Takers.takes_range, Takers.takes_units}
 use Rattle.offset_heaps.proofs.HeapsOf.relocate_aligned.Goals as goal
 
@@ -7,8 +7,8 @@ pub returns-in_err-number-clause-none : goal.returns-in_err-number-clause-none
 returns-in_err-number-clause-none g c =
     let old = shown c.self.inside.slots c.self.inside.limits c.self.inside.made c.self.inside.realm c.self.inside.accesses in
     rw (← c.self.view_is) (
-      λ _ k t. c.in_err-number.ensures.first k
-          (takes_units c.args.place c.args.align old c.in_ok-size.size c.in_ok-size.live c.if-place-self.false c.in_ok-size.ensures.units c.in_ok-size.ensures.all k t),
+      λ _ k t. (rw c.split-own.ensures at c.in_err-number.ensures.first) k
+          (takes_units c.args.place c.args.align old c.in_ok-size.size c.in_ok-size.live (rw c.split-own.ensures at c.if-realm-self.false) (rw c.split-own.ensures at c.in_ok-size.ensures.units) (rw c.split-own.ensures at c.in_ok-size.ensures.all) k t),
       λ _. c.from_residual-in_err-number.ensures,
     )
 
@@ -26,28 +26,27 @@ returns-clause-none g c =
     rw (← c.self.view_is) (
       λ e. absurd (cc),
       λ none. absurd (none c.in_ok-number.number
-          (takes_range c.args.place c.args.align old c.in_ok-size.size c.in_ok-size.live c.if-place-self.false c.in_ok-size.ensures.units c.in_ok-size.ensures.all
-          c.in_ok-number.number (c.in_ok-size.ensures.live.0 refl) c.in_ok-number.ensures.first.0)),
+          (takes_range c.args.place c.args.align old c.in_ok-size.size c.in_ok-size.live (rw c.split-own.ensures at c.if-realm-self.false) (rw c.split-own.ensures at c.in_ok-size.ensures.units) (rw c.split-own.ensures at c.in_ok-size.ensures.all)
+          c.in_ok-number.number (rw c.split-own.ensures at (c.in_ok-size.ensures.live.0 refl)) (rw c.split-own.ensures at c.in_ok-number.ensures.first.0))),
     )
 
 pub returns-clause-first : goal.returns-clause-first
 returns-clause-first g c =
     let old = shown c.self.inside.slots c.self.inside.limits c.self.inside.made c.self.inside.realm c.self.inside.accesses in
     rw (← c.self.view_is) (subst (IsTaker c.args.place c.args.align old) (sym c.grant_at.ensures.number) (
-      takes_range c.args.place c.args.align old c.in_ok-size.size c.in_ok-size.live c.if-place-self.false c.in_ok-size.ensures.units c.in_ok-size.ensures.all
-          c.in_ok-number.number (c.in_ok-size.ensures.live.0 refl) c.in_ok-number.ensures.first.0,
-      λ j l t. c.in_ok-number.ensures.first.1 j l
-          (takes_units c.args.place c.args.align old c.in_ok-size.size c.in_ok-size.live c.if-place-self.false c.in_ok-size.ensures.units c.in_ok-size.ensures.all j t),
+      takes_range c.args.place c.args.align old c.in_ok-size.size c.in_ok-size.live (rw c.split-own.ensures at c.if-realm-self.false) (rw c.split-own.ensures at c.in_ok-size.ensures.units) (rw c.split-own.ensures at c.in_ok-size.ensures.all)
+          c.in_ok-number.number (rw c.split-own.ensures at (c.in_ok-size.ensures.live.0 refl)) (rw c.split-own.ensures at c.in_ok-number.ensures.first.0),
+      λ j l t. (rw c.split-own.ensures at c.in_ok-number.ensures.first.1) j l
+          (takes_units c.args.place c.args.align old c.in_ok-size.size c.in_ok-size.live (rw c.split-own.ensures at c.if-realm-self.false) (rw c.split-own.ensures at c.in_ok-size.ensures.units) (rw c.split-own.ensures at c.in_ok-size.ensures.all) j t),
     ))
 
 pub returns-clause-grants : goal.returns-clause-grants
 returns-clause-grants g c =
     let old = shown c.self.inside.slots c.self.inside.limits c.self.inside.made c.self.inside.realm c.self.inside.accesses in
     rw (← c.self.view_is)
-    (subst (λ n. Grants n c.args.align old c.grant_at.new.self (granted c.grant_at.result.place))
-    (size_here c.args.place c.args.align old c.in_ok-size.size c.in_ok-size.live c.if-place-self.false c.in_ok-size.ensures.units c.in_ok-size.ensures.all)
-    (subst (λ b. Grants c.in_ok-size.size c.args.align old c.grant_at.new.self (record { place = c.grant_at.result.place; is_new = b })) c.grant_at.ensures.found
-    (granted_since c.in_ok-size.size c.args.align old c.taker.new.self c.grant_at.new.self c.grant_at.result c.taker.ensures.same c.grant_at.ensures.grants)))
+    (subst (λ n. Grants n c.args.align old c.grant_at.new.self c.grant_at.result)
+    (size_here c.args.place c.args.align old c.in_ok-size.size c.in_ok-size.live (rw c.split-own.ensures at c.if-realm-self.false) (rw c.split-own.ensures at c.in_ok-size.ensures.units) (rw c.split-own.ensures at c.in_ok-size.ensures.all))
+    (granted_since c.in_ok-size.size c.args.align old c.taker.new.self c.grant_at.new.self c.grant_at.result c.taker.ensures.same c.grant_at.ensures.grants))
 
 pub returns-clause-not_live : goal.returns-clause-not_live
 returns-clause-not_live g c =
@@ -59,7 +58,7 @@ returns-clause-not_live g c =
 pub returns-clause-range : goal.returns-clause-range
 returns-clause-range g c =
     let old = shown c.self.inside.slots c.self.inside.limits c.self.inside.made c.self.inside.realm c.self.inside.accesses in
-    rw (← c.self.view_is, ← size_here c.args.place c.args.align old c.in_ok-size.size c.in_ok-size.live c.if-place-self.false c.in_ok-size.ensures.units c.in_ok-size.ensures.all)
+    rw (← c.self.view_is, ← size_here c.args.place c.args.align old c.in_ok-size.size c.in_ok-size.live (rw c.split-own.ensures at c.if-realm-self.false) (rw c.split-own.ensures at c.in_ok-size.ensures.units) (rw c.split-own.ensures at c.in_ok-size.ensures.all))
     (range_granted c.in_ok-size.size c.args.align old c.grant_at.new.self c.grant_at.result
     (granted_since c.in_ok-size.size c.args.align old c.taker.new.self c.grant_at.new.self c.grant_at.result c.taker.ensures.same c.grant_at.ensures.grants))
 

@@ -1,0 +1,53 @@
+-- Greatest common divisors, and least common multiples.
+use Rattle.std.proofs.Common.{◌≡◌, ℕ, zero, ◌+◌, ◌*◌, ◌/◌, ◌%◌, ◌<◌, ◌≤◌, inl, inr, refl, sym, subst, ap, ◌∙◌, arith}
+use Rattle.std.proofs.Math.Nat.{div-add-mod', dvd-add_iff_right, dvd-mul_left_of_dvd, dvd-mul_left, dvd-mul_right, div-mul_cancel, dvd_of_mul-dvd-mul_left, mul_assoc, mul_comm, add-mul, mul-dvd-mul_left}
+use Rattle.std.proofs.Math.Nat.{dvd_of_mod-eq-zero, dvd_antisymm, dvd_refl, dvd-zero, le_of_dvd, pos_of_dvd_of_pos}
+use Rattle.std.proofs.lemmas.Bool.{cases_eq}
+use Rattle.std.specs.Int.{◌∣◌, IsGcd}
+use Rattle.offset_guarded.specs.Step.{IsJoined}
+
+-- what divides a multiple of two numbers divides that of the remainder
+pub rest_multiple : (a b z n : ℕ) → z ∣ a * n → z ∣ b * n → z ∣ (a % b) * n
+rest_multiple a b z n p q =
+    let whole : a / b * (b * n) + (a % b) * n ≡ a * n =
+    ap (λ k. k + (a % b) * n) (sym (mul_assoc (a / b) b n)) ∙ sym (add-mul (a / b * b) (a % b) n) ∙ ap (λ k. k * n) (div-add-mod' a b) in
+    (dvd-add_iff_right z {m = a / b * (b * n)} {n = (a % b) * n} (dvd-mul_left_of_dvd z q (a / b))).1 (subst (λ k. z ∣ k) (sym whole) p)
+
+-- a number is a multiple of each that divides it
+pub joined_same : (a b : ℕ) → a ≤ 4294967295 → a % b ≡ 0 → IsJoined a b a
+joined_same a b few e = record { fits = few; first = dvd_refl a; second = dvd_of_mod-eq-zero b e; least = λ n l p q. p }
+
+module _ (a b g : ℕ) (some : 1 ≤ b) (is : IsGcd a b g) (multiples : (z n : ℕ) → z ∣ a * n → z ∣ b * n → z ∣ g * n) where
+  pub divisor_some : 0 < g
+  divisor_some = pos_of_dvd_of_pos is.1 (omega (arith, some))
+
+  first_divides : a ∣ a / g * b
+  first_divides =
+      let x : ℕ = b / g in
+      let e : a * x ≡ a / g * b =
+      ap (λ k. k * x) (sym (div-mul_cancel g is.0)) ∙ mul_assoc (a / g) g x ∙ ap (λ k. a / g * k) (mul_comm g x ∙ div-mul_cancel g is.1) in
+      subst (λ k. a ∣ k) e (dvd-mul_right a x)
+
+  least_divides : (n : ℕ) → a ∣ n → b ∣ n → a / g * b ∣ n
+  least_divides n p q =
+      let m : ℕ = a / g * b in
+      let whole : g * m ≡ a * b = sym (mul_assoc g (a / g) b) ∙ ap (λ k. k * b) (mul_comm g (a / g) ∙ div-mul_cancel g is.0) in
+      let one : a * b ∣ a * n = mul-dvd-mul_left b a q in
+      let two : a * b ∣ b * n = subst (λ k. k ∣ b * n) (mul_comm b a) (mul-dvd-mul_left a b p) in
+      dvd_of_mul-dvd-mul_left m divisor_some (subst (λ k. k ∣ g * n) (sym whole) (multiples (a * b) n one two))
+
+  pub joined_small : a / g * b ≤ 4294967295 → IsJoined a b (a / g * b)
+  joined_small few = record { fits = few; first = first_divides; second = dvd-mul_left b (a / g); least = λ n l p q. least_divides n p q }
+
+  pub joined_large : 4294967295 < a / g * b → IsJoined a b 0
+  joined_large large = record { fits = omega arith; first = dvd-zero a; second = dvd-zero b; least = none }
+    where
+      none : (n : ℕ) → n ≤ 4294967295 → a ∣ n → b ∣ n → 0 ∣ n
+      none n few p q = elim (cases_eq n 0) [
+        | inl e ↦ subst (λ k. 0 ∣ k) (sym e) (dvd-zero 0)
+        | inr d ↦ absurd (let le : a / g * b ≤ n = le_of_dvd (omega (arith, d)) (least_divides n p q) in omega (arith, le, large, few))
+      ]
+
+-- a step and an alignment have one step
+pub one_joined : (a b c d : ℕ) → IsJoined a b c → IsJoined a b d → c ≡ d
+one_joined a b c d p q = dvd_antisymm (p.least d q.fits q.first q.second) (q.least c p.fits p.first p.second)
