@@ -351,6 +351,7 @@ impl<T: Tables> AllocatorOf<T> {
     /// assert!(!space.free_if_live(mesh));
     /// assert_eq!(space.free_units(), 1000);
     /// ```
+    #[inline(always)]
     pub fn free_if_live(&mut self, allocation: Allocation<T::Index>) -> bool
         // It is done exactly where the handle is live.
         ensures done { IsTrue result ↔ IsLive allocation.name self.old }

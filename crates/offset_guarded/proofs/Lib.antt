@@ -4,4 +4,5 @@ pub mod Entries
 pub mod FaultPlaces
 pub mod Guards
 pub mod Headed
+pub mod Offsets
 pub mod States

@@ -1,8 +1,9 @@
 //! What holds of every guarded allocator. Its functions do nothing. With them are questions with a count of their
 //! accesses.
-ghost use Rattle.std.specs.Prelude.{◌≡◌, ◌+◌, ◌<◌, ℕ, List};
+ghost use Rattle.std.specs.Int.{◌∣◌};
+ghost use Rattle.std.specs.Prelude.{◌≡◌, ◌+◌, ◌<◌, ℕ, List, None};
 ghost use Rattle.std.specs.List.{AllByRecursion};
-ghost use Rattle.offset_guarded.specs.Guard.{Guard};
+ghost use Rattle.offset_guarded.specs.Guard.{Grants, Guard, IsLive, KeepsAlignments, KeepsAll, KeepsOthers, Ticket, range_of};
 ghost use Rattle.offset_guarded.specs.State.{IsStateOf, IsWellFormed, SameGuard};
 
 use crate::GuardedOf;
@@ -26,4 +27,19 @@ pub fn a_state_is_read_back<T: Tables>(guarded: &GuardedOf<T>)
     // what is read recalls the invariant, and that a realm and a step have 32 bits
     let _ = guarded.realm();
     let _ = guarded.step_number();
+}
+
+/// Every alignment that divides the step is kept: by a grant that takes its own alignment in, by what frees, moves
+/// no range, or leaves none live, and so by one call after the other. `compact`, `compact_within`, `make_room` and
+/// `make_room_aligned` say so of themselves. So a range that an aligned request granted begins at a multiple of that
+/// alignment as long as it lives, but for the calls that say in their names that they go by another step, or by none.
+pub fn alignments_are_kept()
+    ensures granted { (n : ℕ) (g h : Guard) (t : Ticket) → Grants n g h t → g.step ∣ h.step → KeepsAlignments g h }
+    ensures freed { (t : Ticket) (g h : Guard) → KeepsOthers t g h → range_of t h ≡ None → g.step ∣ h.step
+        → KeepsAlignments g h }
+    ensures stayed { (g h : Guard) → KeepsAll g h → g.step ∣ h.step → KeepsAlignments g h }
+    ensures emptied { (g h : Guard) → ((t : Ticket) → range_of t h ≡ None) → KeepsAlignments g h }
+    ensures after { (g h i : Guard) → KeepsAlignments g h → KeepsAlignments h i
+        → ((t : Ticket) → IsLive t g → IsLive t i → IsLive t h) → KeepsAlignments g i }
+{
 }

@@ -829,7 +829,7 @@ exports! {
     fn oag_retract([space: &mut GuardedSpace], less: u32) -> bool { space.retract(less) } else false;
 
     fn oag_relocate([space: &mut GuardedSpace], allocation: Guard) -> Guard {
-        guard(space.relocate(ticket(allocation)))
+        guard(space.relocate_unaligned(ticket(allocation)))
     } else NO_TICKET;
 
     fn oag_relocate_aligned([space: &mut GuardedSpace], allocation: Guard, align: u32) -> Guard {
@@ -853,7 +853,7 @@ exports! {
         moved: Option<Callback>,
         user: Option<NonNull<c_void>>
     ) -> () {
-        space.compact(calls(moved, user))
+        space.compact_unaligned(calls(moved, user))
     } else ();
 
     fn oag_compact_by(
@@ -877,7 +877,7 @@ exports! {
         if step == 0 {
             return Progressed::default();
         }
-        progressed(space.compact_within(step, from, most_units, most_ranges, calls(moved, user)))
+        progressed(space.compact_within_by(step, from, most_units, most_ranges, calls(moved, user)))
     } else Progressed::default();
 
     fn oag_make_room(
@@ -886,7 +886,7 @@ exports! {
         moved: Option<Callback>,
         user: Option<NonNull<c_void>>
     ) -> Room {
-        room(space.make_room(size, calls(moved, user)))
+        room(space.make_room_unaligned(size, calls(moved, user)))
     } else Room::default();
 
     fn oag_make_room_by(

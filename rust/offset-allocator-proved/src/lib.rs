@@ -334,6 +334,7 @@ impl<T: Tables> AllocatorOf<T> {
     /// assert_eq!(space.free_units(), 1000);
     /// # Ok::<(), AllocError>(())
     /// ```
+    #[inline(always)]
     pub fn free_if_live(&mut self, allocation: Allocation<T::Index>) -> bool {
         let name = allocation.name();
         let live = self.is_live(allocation);

@@ -128,7 +128,7 @@ impl<T: Tables, W: Write> Recorded<GuardedOf<T>, W> {
     /// `GuardedOf::relocate`: for a ticket that is not live, `relocate 0` is written.
     pub fn relocate(&mut self, ticket: Ticket) -> Option<Ticket> {
         self.tape.write(format_args!("relocate {}", self.number(ticket)));
-        let found = self.space.relocate(ticket)?;
+        let found = self.space.relocate_unaligned(ticket)?;
         self.tape.grant(found.name());
         Some(found)
     }
@@ -159,7 +159,7 @@ impl<T: Tables, W: Write> Recorded<GuardedOf<T>, W> {
     /// `GuardedOf::compact`.
     pub fn compact<F: FnMut(Move<T::Index>)>(&mut self, moved: F) {
         self.tape.write(format_args!("compact"));
-        self.space.compact(moved);
+        self.space.compact_unaligned(moved);
     }
 
     /// `GuardedOf::compact_by`: `step` has to be at least 1. For 0 it panics, and writes nothing.
@@ -182,13 +182,13 @@ impl<T: Tables, W: Write> Recorded<GuardedOf<T>, W> {
     ) -> Option<Progress> {
         self.check(step >= 1, "step must be at least 1");
         self.tape.write(format_args!("compact {step} {from} {most_units} {most_ranges}"));
-        self.space.compact_within(step, from, most_units, most_ranges, moved)
+        self.space.compact_within_by(step, from, most_units, most_ranges, moved)
     }
 
     /// `GuardedOf::make_room`.
     pub fn make_room<F: FnMut(Move<T::Index>)>(&mut self, size: u32, moved: F) -> Option<RoomCost> {
         self.tape.write(format_args!("room {size}"));
-        self.space.make_room(size, moved)
+        self.space.make_room_unaligned(size, moved)
     }
 
     /// `GuardedOf::make_room_by`: `align` and `step` have to be at least 1. For 0 it panics, and writes nothing.
