@@ -261,8 +261,8 @@ impl<T: Tables> GuardedOf<T> {
     ///
     /// `None` is returned where that call returns `None`, or where the space has no step; then all is as it was.
     ///
-    /// It makes at most 83 accesses to the tables of the allocator: 16 to see whether the name is live, which
-    /// the allocator does not count, and 67 that it counts.
+    /// It makes at most 75 accesses to the tables of the allocator: 8 to see whether the name is live, and where,
+    /// which the allocator does not count, and 67 that it counts.
     ///
     /// ```
     /// let hole = guarded.allocate(320).unwrap();
@@ -290,15 +290,17 @@ impl<T: Tables> GuardedOf<T> {
             → IsGcd (offset_of ticket.name self.old.space) self.old.step align
             → RelocatesAligned ticket.name align self.old.space self.new.space (option_map handle_in result) }
         ensures same_step { self.new.step ≡ self.old.step }
-        // It counts the accesses of the step, without those of the test whether the ticket is live, at most 16.
+        // It counts the accesses of the step, without those of the test whether the ticket is live, at most 8.
         ensures accesses_max { self.new.space.accesses ≤ self.old.space.accesses + 67 }
     {
         let step = self.step_number();
         if step == 0 {
             return None;
         }
-        let offset = self.offset_of(ticket)?;
-        self.relocate_aligned(ticket, common_divisor(offset, step))
+        // one look at the tables says whether the ticket is live, and where its range begins
+        let handle = self.handle_fitting(ticket)?;
+        let offset = self.space.allocation_offset(handle)?;
+        self.second(handle, common_divisor(offset, step))
     }
 
     /// Grants a second range of as many units as that of a ticket, which begins before it, and **keeps no
@@ -382,6 +384,25 @@ impl<T: Tables> GuardedOf<T> {
         ensures accesses_max { self.new.space.accesses ≤ self.old.space.accesses + 67 }
     {
         let handle = self.handle(ticket)?;
+        self.second(handle, align)
+    }
+
+    // Grants the second range of a live handle at a multiple of `align`, with the next serial.
+    fn second(&mut self, handle: Allocation<T::Index>, align: u32) -> Option<Ticket>
+        requires alignment { 1 ≤ align }
+        requires live { named.IsLive handle.name self.old.space }
+        ensures left { IsSome result → HasSerialLeft self.old }
+        ensures grants { IfSome result (Grants (size_of handle.name self.old.space) self.old self.new) }
+        ensures aligned { IfSome result (λ t. t.offset % align ≡ 0) }
+        ensures before { IfSome result (λ t. t.offset + size_of handle.name self.old.space
+            ≤ offset_of handle.name self.old.space) }
+        ensures same { result ≡ None → IsSame self.old self.new }
+        ensures serials { result ≡ None → self.new ≡ record self.old { space = self.new.space } }
+        ensures step { HasSerialLeft self.old
+            → RelocatesAligned handle.name align self.old.space self.new.space (option_map handle_in result) }
+        ensures joined { IfSome result (λ _. IsJoined self.old.step align self.new.step) }
+        ensures accesses_max { self.new.space.accesses ≤ self.old.space.accesses + 67 }
+    {
         if self.serials.is_spent() {
             return None;
         }

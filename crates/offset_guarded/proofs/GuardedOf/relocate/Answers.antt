@@ -8,8 +8,8 @@ use Rattle.offset_guarded.specs.Step.{IsJoined}
 use Rattle.offset_guarded.proofs.{Divisors.divisor_of_some, Divisors.joined_stays, Offsets.offset_in}
 use Rattle.offset_guarded.proofs.GuardedOf.relocate.Goals as goal
 
-pub relocate_aligned-requires : goal.relocate_aligned-requires
-relocate_aligned-requires g c = record { alignment = divisor_of_some c.common_divisor.result c.step_number-step.result c.common_divisor.ensures.common.1 (omega (arith, c.if-step-eq0.false)) }
+pub second-requires-clause-alignment : goal.second-requires-clause-alignment
+second-requires-clause-alignment g c = record { alignment = divisor_of_some c.common_divisor.result c.step_number-step.result c.common_divisor.ensures.common.1 (omega (arith, c.if-step-eq0.false)) }
 
 -- a result keeps the step where it is none, or its alignment divides the step
 stays : (s d t : ℕ) → s ≤ 4294967295 → d ∣ s → (r : Option Ticket) → IfSome r (λ _. IsJoined s d t) → (r ≡ None → t ≡ s) → t ≡ s
@@ -19,8 +19,8 @@ stays s d t few divides (Some x) joined none = joined_stays s d t few divides jo
 pub returns-clause-same_step : goal.returns-clause-same_step
 returns-clause-same_step g c =
     let now = c.step_number-step.ensures in
-    stays c.args.self.now.step c.common_divisor.result c.relocate_aligned.new.self.step (omega (arith, now, c.step_number-step.type_inv)) (subst (λ (n : ℕ). c.common_divisor.result ∣ n) now c.common_divisor.ensures.common.1)
-    c.relocate_aligned.result c.relocate_aligned.ensures.joined (λ e. ap (λ (k : Guard). k.step) (c.relocate_aligned.ensures.serials e))
+    stays c.args.self.now.step c.common_divisor.result c.second.new.self.step (omega (arith, now, c.step_number-step.type_inv)) (subst (λ (n : ℕ). c.common_divisor.result ∣ n) now c.common_divisor.ensures.common.1)
+    c.second.result c.second.ensures.joined (λ e. ap (λ (k : Guard). k.step) (c.second.ensures.serials e))
 
 -- where a range begins at a multiple, it begins at one of each divisor
 divides : (o s d : ℕ) (r : Option Ticket) → IsGcd o s d → IfSome r (λ t. t.offset % d ≡ 0) → IfSome r (λ t. (a : ℕ) → a ∣ s → a ∣ o → a ∣ t.offset)
@@ -30,13 +30,13 @@ divides o s d (Some t) is e = λ a p q. dvd_trans a (is.2 a q p) (dvd_of_mod-eq-
 pub returns-clause-aligned : goal.returns-clause-aligned
 returns-clause-aligned g c =
     let o = offset_in c.args.ticket c.args.self.now c.in_ok-offset.offset c.in_ok-offset.ensures in
-    divides (offset_of c.args.ticket.name c.args.self.now.space) c.args.self.now.step c.common_divisor.result c.relocate_aligned.result
-    (subst₂ (λ (n s : ℕ). IsGcd n s c.common_divisor.result) (sym o) c.step_number-step.ensures c.common_divisor.ensures.common) c.relocate_aligned.ensures.aligned
+    divides (offset_of c.args.ticket.name c.args.self.now.space) c.args.self.now.step c.common_divisor.result c.second.result
+    (subst₂ (λ (n s : ℕ). IsGcd n s c.common_divisor.result) (sym o) c.step_number-step.ensures c.common_divisor.ensures.common) c.second.ensures.aligned
 
 pub returns-clause-step : goal.returns-clause-step
 returns-clause-step g c live left some align is =
     let o = offset_in c.args.ticket c.args.self.now c.in_ok-offset.offset c.in_ok-offset.ensures in
     let own : IsGcd (offset_of c.args.ticket.name c.args.self.now.space) c.args.self.now.step c.common_divisor.result =
     subst₂ (λ (n s : ℕ). IsGcd n s c.common_divisor.result) (sym o) c.step_number-step.ensures c.common_divisor.ensures.common in
-    subst (λ (d : ℕ). RelocatesAligned c.args.ticket.name d c.args.self.now.space c.relocate_aligned.new.self.space (option_map handle_in c.relocate_aligned.result))
-    (same_from_IsGcd (offset_of c.args.ticket.name c.args.self.now.space) c.args.self.now.step c.common_divisor.result align own is) (c.relocate_aligned.ensures.step live left)
+    subst (λ (d : ℕ). RelocatesAligned c.args.ticket.name d c.args.self.now.space c.second.new.self.space (option_map handle_in c.second.result))
+    (same_from_IsGcd (offset_of c.args.ticket.name c.args.self.now.space) c.args.self.now.step c.common_divisor.result align own is) (c.second.ensures.step live left)
