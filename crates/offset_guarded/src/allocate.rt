@@ -266,7 +266,7 @@ impl<T: Tables> GuardedOf<T> {
     ///
     /// ```
     /// let hole = guarded.allocate(320).unwrap();
-    /// let mesh = guarded.allocate_aligned(64, 256).unwrap();
+    /// let mesh = guarded.allocate_aligned(200, 256).unwrap();
     /// guarded.free(hole);
     /// let moved = guarded.relocate(mesh).unwrap();
     /// assert_eq!((mesh.offset, moved.offset), (512, 0));
