@@ -1,3 +1,4 @@
+pub mod Asked
 pub mod Bytes
 pub mod Divisors
 pub mod Entries

@@ -6,13 +6,13 @@ use Rattle.std.specs.Int.{◌∣◌}
 use Rattle.offset_allocator.specs.View.{Block, View, Place, IsWellFormed, count_named, free_block, free_part, place_of, units}
 use Rattle.offset_allocator.specs.Ranges.{Range, range_of}
 use Rattle.std.proofs.lemmas.Bool.{cases_lt}
-use Rattle.std.specs.Prelude.{IsSome, unwrap_or}
+use Rattle.std.specs.Prelude.{unwrap_or}
 use Rattle.offset_allocator.specs.Moving.Relocating.{offset_of}
 use Rattle.offset_allocator.specs.Relations.{SameState}
 use Rattle.offset_allocator.specs.declared.moves.room.RoomCost.{RoomCost}
 use Rattle.offset_allocator.specs.Moving.{Compacting.Move, BySteps.CompactsBy, Budget.CompactsWithin, RoomBySteps.MakesRoomBy}
 use Rattle.offset_guarded.specs.Guard as guarded
-use Rattle.offset_guarded.specs.Guard.{AreAlike, Grants, Guard, IsLive, KeepsAlignments, KeepsDivisors, KeepsOthers, Ticket, fits, serial_of}
+use Rattle.offset_guarded.specs.Guard.{Guard, KeepsAlignments, KeepsDivisors, Ticket, fits}
 use Rattle.offset_allocator.specs.Moving.{BySteps.SlidesBy, BySteps.given_up, BySteps.kept, BySteps.stepped, Budget.SlidesWithin, RoomBySteps.SlidesRunBy}
 use Rattle.offset_allocator.specs.declared.moves.over_frames.Progress.{Progress}
 use Rattle.offset_allocator.proofs.{Reading.range_at, Tallies.hit_cases, Tallies.units-append, Moving.Stepped.stepped_units}
@@ -226,10 +226,6 @@ kept_divisors s g h known formed is t r q a e f d p = keeps_divisor s a t.name g
 pub kept_alignments : (g h : Guard) → h.step ≡ g.step → KeepsDivisors g.step g h → KeepsAlignments g h
 kept_alignments g h same kept t r q a e f d p = (subst (λ (n : ℕ). a ∣ n) (sym same) d, kept t r q a e f d p)
 
--- what stays where it is
-pub stays_aligned : (g h : Guard) → (g.step ∣ h.step) → ((t : Ticket) (r q : Range) → guarded.range_of t g ≡ Some r → guarded.range_of t h ≡ Some q → q.offset ≡ r.offset) → KeepsAlignments g h
-stays_aligned g h divides same t r q a e f d p = (dvd_trans a d divides, subst (λ (n : ℕ). a ∣ n) (sym (same t r q e f)) p)
-
 -- where nothing changes
 pub same_aligned : (g : Guard) → KeepsAlignments g g
 same_aligned g t r q a e f d p =
@@ -243,37 +239,3 @@ offset_in t g o e = go (fits t g) e
     go : (b : Bool) → Some o ≡ option_map (λ (r : Range). r.offset) (if b then range_of t.name g.space else None) → unwrap_or (option_map (λ (r : Range). r.offset) (range_of t.name g.space)) 0 ≡ o
     go true e = ap (λ (q : Option ℕ). unwrap_or q 0) (sym e)
     go false e = absurd (cc)
-
--- ---- other calls
-abbrev the_range : Option Range → Option Range
-the_range o = o
-
-the_some : (o : Option Range) → IsSome o → (r : Range) × (o ≡ Some r)
-the_some None l = absurd (cc)
-the_some (Some r) l = (r, refl)
-
-alike_range : (t u : Ticket) (g : Guard) → AreAlike t u → guarded.range_of t g ≡ guarded.range_of u g
-alike_range t u g a = ap₂ (λ (x : ℕ) (b : Bool). if b then range_of x g.space else None) a.0 (ap₂ (λ (r : ℕ) (c : Bool). nat_eq r g.realm && c) a.2 (ap₂ nat_eq a.1 (ap (λ (x : ℕ). serial_of x g) a.0)))
-
--- tickets that are live before and after have the range that they had
-pub stayed : (g h : Guard) → g.step ∣ h.step → ((t : Ticket) (r : Range) → guarded.range_of t g ≡ Some r → IsSome (guarded.range_of t h) → guarded.range_of t h ≡ Some r) → KeepsAlignments g h
-stayed g h divides same t r q a e f d p =
-    let both : Some r ≡ Some q = sym (same t r e (subst IsSome (sym f) refl)) ∙ f in
-    let one : r ≡ q = cc in
-    (dvd_trans a d divides, subst (λ (k : Range). a ∣ k.offset) one p)
-
-pub granted : (n : ℕ) (g h : Guard) (t : Ticket) → Grants n g h t → g.step ∣ h.step → KeepsAlignments g h
-granted n g h t s divides = stayed g h divides (λ u r e l. s.others u (λ k. absurd (let none : Some r ≡ None = sym e ∙ alike_range u t g k ∙ s.not_live in cc)) ∙ e)
-
-pub freed : (t : Ticket) (g h : Guard) → KeepsOthers t g h → guarded.range_of t h ≡ None → g.step ∣ h.step → KeepsAlignments g h
-freed t g h others gone divides = stayed g h divides
-    (λ u r e l. others u (λ k. absurd (let none : IsSome (the_range None) = subst IsSome (alike_range u t h k ∙ gone) l in cc)) ∙ e)
-
-pub emptied : (g h : Guard) → ((t : Ticket) → guarded.range_of t h ≡ None) → KeepsAlignments g h
-emptied g h none t r q a e f d p = absurd (let gone : Some q ≡ None = sym f ∙ none t in cc)
-
-pub after : (g h i : Guard) → KeepsAlignments g h → KeepsAlignments h i → ((t : Ticket) → IsLive t g → IsLive t i → IsLive t h) → KeepsAlignments g i
-after g h i one two between t r q a e f d p =
-    let live = the_some (guarded.range_of t h) (between t (subst IsSome (sym e) refl) (subst IsSome (sym f) refl)) in
-    let first = one t r live.0 a e live.1 d p in
-    two t live.0 q a live.1 f first.0 first.1

@@ -1,18 +1,14 @@
-use Rattle.std.proofs.Common.{◌∙◌, sym}
-use Rattle.offset_guarded.proofs.Offsets.{after, emptied, freed, granted, stayed}
+use Rattle.offset_guarded.proofs.Asked.{asked, inherited, taken, taken_all}
 use Rattle.offset_guarded.proofs.laws.alignments_are_kept.Goals as goal
 
+pub returns-clause-each : goal.returns-clause-each
+returns-clause-each c call g h r s = taken call g h r s
+
 pub returns-clause-granted : goal.returns-clause-granted
-returns-clause-granted c n g h t s d = granted n g h t s d
+returns-clause-granted c n align g h t s = asked n align g h t s
 
-pub returns-clause-freed : goal.returns-clause-freed
-returns-clause-freed c t g h others gone d = freed t g h others gone d
+pub returns-clause-second : goal.returns-clause-second
+returns-clause-second c t u a g h s k = inherited t u a g h s k
 
-pub returns-clause-stayed : goal.returns-clause-stayed
-returns-clause-stayed c g h kept d = stayed g h d (λ t r e l. kept t ∙ e)
-
-pub returns-clause-emptied : goal.returns-clause-emptied
-returns-clause-emptied c g h none = emptied g h none
-
-pub returns-clause-after : goal.returns-clause-after
-returns-clause-after c g h i one two between = after g h i one two between
+pub returns-clause-lists : goal.returns-clause-lists
+returns-clause-lists c n align g h i t cs rs s all r e = ((taken_all h cs rs i all t align (asked n align g h t s)).1 r e).1
