@@ -1,5 +1,5 @@
 // Images of a device in one memory, made and destroyed over frames: what an engine does with the moves of
-// `makeRoomBy` and of `compactWithin`, after which each image still begins at a multiple of its alignment.
+// `makeRoomAligned` and of `compactWithin`, after which each image still begins at a multiple of its alignment.
 // README.md beside it says what is shown and checked.
 #include "device.hpp"
 
@@ -37,7 +37,6 @@ struct Program {
     uint32_t largest = 0; // size of an image
     uint32_t divisor = 0; // of all sizes
     uint32_t asked = 0;   // the largest alignment that the driver asks for
-    uint32_t step = 256;  // the largest alignment
     uint32_t types = ~0u; // of memory, one bit each
 
     explicit Program(Device &gpu) {
@@ -55,7 +54,6 @@ struct Program {
                 images.push_back({{width, height}, size, align, until});
                 types &= needs.memoryTypeBits;
                 asked = std::max(asked, least);
-                step = std::max(step, align); // all are powers of two
                 largest = std::max(largest, size);
                 divisor = std::gcd(divisor, size);
                 live += size;
@@ -66,7 +64,7 @@ struct Program {
 };
 
 struct Counts {
-    uint32_t rooms, forRoom, overFrames, bound, wrong, refused;
+    uint32_t step, rooms, forRoom, overFrames, bound, wrong, refused;
     uint64_t moved, mostAFrame, compact, compared, differing; // bytes
 };
 
@@ -136,12 +134,12 @@ public:
     // As long as the largest image would be refused, moves images, at most MOST_A_FRAME bytes, and the next
     // time goes on behind them.
     void compact() {
-        if (space.refusalAligned(program.largest, program.step) == Refusal::granted) return;
+        if (space.refusalAligned(program.largest, space.step()) == Refusal::granted) return;
         const auto moved = [&](Move range) {
             counts.overFrames++;
             move(range);
         };
-        const Progress progress = space.compactWithin(program.step, next, MOST_A_FRAME, UINT32_MAX, moved);
+        const Progress progress = space.compactWithin(next, MOST_A_FRAME, UINT32_MAX, moved);
         must(progress.done, "to compact");
         next = progress.more ? progress.next : 0;
     }
@@ -221,11 +219,12 @@ private:
     // Moves as few bytes as make one free block for the image.
     void makeRoom(uint32_t size, uint32_t align) {
         counts.rooms++;
-        space.clone().compactBy(program.step, [&](Move range) { counts.compact += range.size; });
-        space.makeRoomBy(size, align, program.step, [&](Move range) {
+        space.clone().compact([&](Move range) { counts.compact += range.size; });
+        space.makeRoomAligned(size, align, [&](Move range) {
             counts.forRoom++;
             move(range);
         });
+        counts.step = space.step();
     }
 };
 
@@ -249,12 +248,12 @@ int main() {
     must(listens(), "to hear of a race: the validation layer checks no synchronization");
     uint32_t messages[2] = {}, size = 0;
     Counts parts[2];
-    uint32_t divisor = 0, asked = 0, step = 0;
+    uint32_t divisor = 0, asked = 0;
     for (int part = 0; part < 2; part++) {
         Device gpu(messages[part]);
         const Program program(gpu);
         size = program.peak + program.peak / 16;
-        divisor = program.divisor, asked = program.asked, step = program.step;
+        divisor = program.divisor, asked = program.asked;
         parts[part] = play(gpu, program, size, part == 1);
     }
     const auto row = [](const char *name, uint64_t first, uint64_t second) {
@@ -265,7 +264,7 @@ int main() {
     row("bytes of the memory", size, size);
     row("divisor of all sizes", divisor, divisor);
     row("alignment the driver asks for", asked, asked);
-    row("step", step, step);
+    row("step", a.step, b.step);
     row("frames", FRAMES, FRAMES);
     row("images", FRAMES * IMAGES_A_FRAME, FRAMES * IMAGES_A_FRAME);
     row("times room was made", a.rooms, b.rooms);
@@ -273,7 +272,7 @@ int main() {
     row("moves between frames", a.overFrames, b.overFrames);
     row("bytes moved", a.moved, b.moved);
     row("most bytes moved in a frame", a.mostAFrame, b.mostAFrame);
-    row("bytes compactBy would have moved", a.compact, b.compact);
+    row("bytes compact would have moved", a.compact, b.compact);
     row("alignments checked", a.bound, b.bound);
     row("offsets that are no multiple", a.wrong, b.wrong);
     row("refusals left", a.refused, b.refused);

@@ -357,7 +357,7 @@ fn compacted_guarded<NI: NodeIndex, T: Tables<Index = NI>>(
     ensures sizes { KeepsSizes space.old space.new }
     ensures serials { space.new ≡ record space.old { space = space.new.space } }
 {
-    space.compact(&mut |range: Move<NI>| seen.add(range));
+    space.compact_unaligned(&mut |range: Move<NI>| seen.add(range));
 }
 
 // Compacts a guarded space by whole steps, and collects the moves, as `compacted_by` does.
@@ -390,7 +390,7 @@ fn collect_guarded<NI: NodeIndex, T: Tables<Index = NI>>(
     ensures sizes { KeepsSizes space.old space.new }
     ensures serials { space.new ≡ record space.old { space = space.new.space } }
 {
-    space.make_room(size, &mut |it: Move<NI>| seen.add(it))
+    space.make_room_unaligned(size, &mut |it: Move<NI>| seen.add(it))
 }
 
 // Makes room in a guarded space by whole steps, and collects the moves, as `collect_by` does.
@@ -431,7 +431,7 @@ fn moved_within_guarded<NI: NodeIndex, T: Tables<Index = NI>>(
     ensures sizes { KeepsSizes space.old space.new }
     ensures serials { space.new ≡ record space.old { space = space.new.space } }
 {
-    space.compact_within(
+    space.compact_within_by(
         step,
         from,
         most_units,

@@ -51,3 +51,11 @@ module _ (a b g : ℕ) (some : 1 ≤ b) (is : IsGcd a b g) (multiples : (z n : �
 -- a step and an alignment have one step
 pub one_joined : (a b c d : ℕ) → IsJoined a b c → IsJoined a b d → c ≡ d
 one_joined a b c d p q = dvd_antisymm (p.least d q.fits q.first q.second) (q.least c p.fits p.first p.second)
+
+-- a step that an alignment divides stays
+pub joined_stays : (a b c : ℕ) → a ≤ 4294967295 → b ∣ a → IsJoined a b c → c ≡ a
+joined_stays a b c few d p = one_joined a b c a p (record { fits = few; first = dvd_refl a; second = d; least = λ n l p q. p })
+
+-- a divisor of something is something
+pub divisor_of_some : (g n : ℕ) → g ∣ n → 1 ≤ n → 1 ≤ g
+divisor_of_some g n d some = pos_of_dvd_of_pos d some

@@ -1,5 +1,6 @@
 -- What contracts see of a guarded allocator: which tickets are live, and what a call leaves of them.
 use Rattle.std.specs.Prelude.{codes, ◌≡◌, ℕ, ◌+◌, ◌-◌, ◌<◌, ◌≤◌, Bool, ◌&&◌, List, ◌++◌, length, replicate, Option, Some, None, IsSome, is_some, nat_eq, slice_index_or, slice_set, if◌then◌else◌, option_map, MatchOption}
+use Rattle.std.specs.Int.{◌∣◌}
 use Rattle.offset_allocator.specs.View.{View, Handle}
 use Rattle.offset_allocator.specs.Ranges.{Range}
 use Rattle.offset_allocator.specs.Ranges as named
@@ -94,6 +95,16 @@ KeepsLive g h = (t : Ticket) → is_some (range_of t h) ≡ is_some (range_of t 
 abbrev pub KeepsSizes : Guard → Guard → Type 0
 KeepsSizes g h = (t : Ticket) → option_map (λ (r : Range). r.size) (range_of t h)
     ≡ option_map (λ (r : Range). r.size) (range_of t g)
+
+-- a ticket that is live before and after keeps each alignment of its range that divides s
+abbrev pub KeepsDivisors : ℕ → Guard → Guard → Type 0
+KeepsDivisors s g h = (t : Ticket) (r q : Range) (a : ℕ) → range_of t g ≡ Some r → range_of t h ≡ Some q → a ∣ s → a ∣ r.offset → a ∣ q.offset
+
+-- a ticket that is live before and after keeps each alignment of its range that divides the step, and that divides the
+-- step after it too
+abbrev pub KeepsAlignments : Guard → Guard → Type 0
+KeepsAlignments g h = (t : Ticket) (r q : Range) (a : ℕ) → range_of t g ≡ Some r → range_of t h ≡ Some q → a ∣ g.step → a ∣ r.offset
+    → (a ∣ h.step) × (a ∣ q.offset)
 
 -- a ticket has n units after the call, from the same offset on
 abbrev pub HasUnits : Ticket → ℕ → Guard → Guard → Type 0

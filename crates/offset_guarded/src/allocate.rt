@@ -1,6 +1,7 @@
 //! Grants, each with the next serial, and why one is refused. Nothing else gives a serial.
 ghost use Rattle.std.specs.Prelude.{ℕ, ◌≡◌, ◌↔◌, ◌+◌, ◌*◌, ◌%◌, ◌<◌, ◌≤◌, None, Some, IsSome, IfSome};
 ghost use Rattle.std.specs.Prelude.{if◌then◌else◌, length, nat_eq, option_map, slice_set};
+ghost use Rattle.std.specs.Int.{◌∣◌, IsGcd};
 ghost use Rattle.offset_allocator.specs.Ranges as named;
 ghost use Rattle.offset_allocator.specs.Ranges.{size_of};
 ghost use Rattle.offset_allocator.specs.Moving.Relocating.{Relocates, RelocatesAligned, WouldBegin, offset_of};
@@ -18,7 +19,7 @@ ghost use Rattle.offset_guarded.specs.Step.{IsJoined};
 use crate::GuardedOf;
 use crate::refusal::Refusal;
 use crate::serials::Serials;
-use crate::step::joined;
+use crate::step::{common_divisor, joined};
 use crate::ticket::Ticket;
 use offset_allocator::{Accesses, Allocation, AllocatorOf, Tables};
 
@@ -254,8 +255,57 @@ impl<T: Tables> GuardedOf<T> {
         }
     }
 
-    /// Grants a second range of as many units as that of a ticket, which begins before it: the one that
-    /// `Allocator::relocate` grants, with the next serial. The old ticket stays live until it is freed.
+    /// Grants a second range of as many units as that of a ticket, which begins before it, and **has every alignment
+    /// that was asked for**: the one that `relocate_aligned` grants for what the step and the offset of the range
+    /// have in common, their greatest common divisor. The old ticket stays live until it is freed.
+    ///
+    /// `None` is returned where that call returns `None`, or where the space has no step; then all is as it was.
+    ///
+    /// It makes at most 75 accesses to the tables of the allocator: 8 to see whether the name is live, and where,
+    /// which the allocator does not count, and 67 that it counts.
+    ///
+    /// ```
+    /// let hole = guarded.allocate(320).unwrap();
+    /// let mesh = guarded.allocate_aligned(200, 256).unwrap();
+    /// guarded.free(hole);
+    /// let moved = guarded.relocate(mesh).unwrap();
+    /// assert_eq!((mesh.offset, moved.offset), (512, 0));
+    /// guarded.free(mesh);
+    /// ```
+    pub fn relocate(&mut self, ticket: Ticket) -> Option<Ticket>
+        ensures live { IsSome result → IsLive ticket self.old × HasSerialLeft self.old }
+        ensures grants { IfSome result (Grants (size_of ticket.name self.old.space) self.old self.new) }
+        // It has each alignment of the old range that divides the step.
+        ensures aligned { IfSome result (λ t. (a : ℕ) → a ∣ self.old.step
+            → a ∣ offset_of ticket.name self.old.space → a ∣ t.offset) }
+        // It ends where the old range begins, or before.
+        ensures before { IfSome result (λ t. t.offset + size_of ticket.name self.old.space
+            ≤ offset_of ticket.name self.old.space) }
+        ensures same { result ≡ None → IsSame self.old self.new }
+        ensures serials { result ≡ None → self.new ≡ record self.old { space = self.new.space } }
+        // Where there is no step, nothing changes.
+        ensures none { self.old.step ≡ 0 → (result ≡ None) × (self.new ≡ self.old) }
+        // The step of the allocator, where the ticket is live, a serial is left, and there is a step.
+        ensures step { IsLive ticket self.old → HasSerialLeft self.old → 1 ≤ self.old.step → (align : ℕ)
+            → IsGcd (offset_of ticket.name self.old.space) self.old.step align
+            → RelocatesAligned ticket.name align self.old.space self.new.space (option_map handle_in result) }
+        ensures same_step { self.new.step ≡ self.old.step }
+        // It counts the accesses of the step, without those of the test whether the ticket is live, at most 8.
+        ensures accesses_max { self.new.space.accesses ≤ self.old.space.accesses + 67 }
+    {
+        let step = self.step_number();
+        if step == 0 {
+            return None;
+        }
+        // one look at the tables says whether the ticket is live, and where its range begins
+        let handle = self.handle_fitting(ticket)?;
+        let offset = self.space.allocation_offset(handle)?;
+        self.second(handle, common_divisor(offset, step))
+    }
+
+    /// Grants a second range of as many units as that of a ticket, which begins before it, and **keeps no
+    /// alignment**: the one that `Allocator::relocate` grants, with the next serial. `relocate` keeps those that were
+    /// asked for. The old ticket stays live until it is freed.
     ///
     /// `None` is returned where that call returns `None`, where the ticket is not live, or where all serials
     /// are given; then all is as it was.
@@ -267,11 +317,11 @@ impl<T: Tables> GuardedOf<T> {
     /// let hole = guarded.allocate(320).unwrap();
     /// let mesh = guarded.allocate(320).unwrap();
     /// guarded.free(hole);
-    /// let moved = guarded.relocate(mesh).unwrap();
+    /// let moved = guarded.relocate_unaligned(mesh).unwrap();
     /// assert_eq!((mesh.offset, moved.offset), (320, 0));
     /// guarded.free(mesh);
     /// ```
-    pub fn relocate(&mut self, ticket: Ticket) -> Option<Ticket>
+    pub fn relocate_unaligned(&mut self, ticket: Ticket) -> Option<Ticket>
         ensures live { IsSome result → IsLive ticket self.old × HasSerialLeft self.old }
         ensures grants { IfSome result (Grants (size_of ticket.name self.old.space) self.old self.new) }
         // It ends where the old range begins, or before.
@@ -334,6 +384,25 @@ impl<T: Tables> GuardedOf<T> {
         ensures accesses_max { self.new.space.accesses ≤ self.old.space.accesses + 67 }
     {
         let handle = self.handle(ticket)?;
+        self.second(handle, align)
+    }
+
+    // Grants the second range of a live handle at a multiple of `align`, with the next serial.
+    fn second(&mut self, handle: Allocation<T::Index>, align: u32) -> Option<Ticket>
+        requires alignment { 1 ≤ align }
+        requires live { named.IsLive handle.name self.old.space }
+        ensures left { IsSome result → HasSerialLeft self.old }
+        ensures grants { IfSome result (Grants (size_of handle.name self.old.space) self.old self.new) }
+        ensures aligned { IfSome result (λ t. t.offset % align ≡ 0) }
+        ensures before { IfSome result (λ t. t.offset + size_of handle.name self.old.space
+            ≤ offset_of handle.name self.old.space) }
+        ensures same { result ≡ None → IsSame self.old self.new }
+        ensures serials { result ≡ None → self.new ≡ record self.old { space = self.new.space } }
+        ensures step { HasSerialLeft self.old
+            → RelocatesAligned handle.name align self.old.space self.new.space (option_map handle_in result) }
+        ensures joined { IfSome result (λ _. IsJoined self.old.step align self.new.step) }
+        ensures accesses_max { self.new.space.accesses ≤ self.old.space.accesses + 67 }
+    {
         if self.serials.is_spent() {
             return None;
         }

@@ -1,8 +1,11 @@
 //! What holds of every guarded allocator. Its functions do nothing. With them are questions with a count of their
 //! accesses.
-ghost use Rattle.std.specs.Prelude.{◌≡◌, ◌+◌, ◌<◌, ℕ, List};
+ghost use Rattle.std.specs.Int.{◌∣◌};
+ghost use Rattle.std.specs.Prelude.{◌≡◌, ◌+◌, ◌<◌, ℕ, List, Option, Some};
 ghost use Rattle.std.specs.List.{AllByRecursion};
-ghost use Rattle.offset_guarded.specs.Guard.{Guard};
+ghost use Rattle.offset_allocator.specs.Ranges.{Range};
+ghost use Rattle.offset_guarded.specs.Calls.{Call, HasAsked, KeepsAsked, Takes, TakesAligned, TakesAll, TakesSecond};
+ghost use Rattle.offset_guarded.specs.Guard.{Guard, Ticket, range_of};
 ghost use Rattle.offset_guarded.specs.State.{IsStateOf, IsWellFormed, SameGuard};
 
 use crate::GuardedOf;
@@ -26,4 +29,23 @@ pub fn a_state_is_read_back<T: Tables>(guarded: &GuardedOf<T>)
     // what is read recalls the invariant, and that a realm and a step have 32 bits
     let _ = guarded.realm();
     let _ = guarded.step_number();
+}
+
+/// For every list of calls of tickets, without those whose names say that they keep no alignment: a range that was
+/// granted at a multiple of an alignment that was asked for begins at one as long as it lives, whatever was granted,
+/// freed, moved, copied, stored and read. Calls that take a step are in the list where that is a multiple of the step
+/// of the space.
+pub fn alignments_are_kept()
+    // Each call keeps each alignment that was asked for.
+    ensures each { (c : Call) (g h : Guard) (r : Option Ticket) → Takes c g h r → KeepsAsked g h }
+    // A grant at a multiple of an alignment has it, and a second range by the step has those of the first one.
+    ensures granted { (n align : ℕ) (g h : Guard) (t : Ticket) → TakesAligned n align g h (Some t)
+        → HasAsked t align h }
+    ensures second { (t u : Ticket) (a : ℕ) (g h : Guard) → TakesSecond t g h (Some u) → HasAsked t a g
+        → HasAsked u a h }
+    // So, whatever calls follow the grant, its range begins at a multiple as long as it lives.
+    ensures lists { (n align : ℕ) (g h i : Guard) (t : Ticket) (cs : List Call) (rs : List (Option Ticket))
+        → TakesAligned n align g h (Some t) → TakesAll h cs rs i
+        → (r : Range) → range_of t i ≡ Some r → align ∣ r.offset }
+{
 }

@@ -178,11 +178,12 @@ impl<T: Tables> GuardedOf<T> {
     {
         let serials = self.serials.try_clone(alloc, max_allocs)?;
         let space = self.space.raised(alloc, max_allocs)?;
+        let step = self.step;
         Ok(GuardedOf {
             space,
             serials,
             realm: self.realm,
-            step: self.step,
+            step,
         })
     }
 

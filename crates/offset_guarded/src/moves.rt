@@ -1,6 +1,6 @@
-//! Ranges that slide to the front of the space, all, by whole steps, or to make room. It changes the
-//! allocator, and no serial.
-ghost use Rattle.std.specs.Prelude.{◌≡◌, ◌+◌, ◌*◌, ◌≤◌, ◌⊎◌, [], IfSome, max, length, if◌then◌else◌};
+//! Ranges that slide to the front of the space, all, within a budget, or to make room: by the step of the space,
+//! by another one, or by none. It changes the allocator, and no serial.
+ghost use Rattle.std.specs.Prelude.{◌≡◌, ◌+◌, ◌*◌, ◌≤◌, ◌⊎◌, [], IfSome, None, false, max, length, if◌then◌else◌};
 ghost use Rattle.std.specs.List.{FoldsTo};
 ghost use Rattle.offset_allocator.specs.Classes.{up, value};
 ghost use Rattle.offset_allocator.specs.Moving.Budget.{CompactsWithin};
@@ -9,36 +9,226 @@ ghost use Rattle.offset_allocator.specs.Moving.Compacting.{Compacts, IsCalledWit
 ghost use Rattle.offset_allocator.specs.Requests.{CanGrant, blocks_needed, units_needed};
 ghost use Rattle.offset_allocator.specs.Moving.Room.{IsLeastCost, MakesRoom, ranges_of};
 ghost use Rattle.offset_allocator.specs.Moving.RoomBySteps.{IsLeastCostBy, MakesRoomBy, names_short};
-ghost use Rattle.offset_guarded.specs.Guard.{KeepsSizes};
+ghost use Rattle.offset_guarded.specs.Guard.{KeepsAlignments, KeepsDivisors, KeepsSizes};
 
 use crate::GuardedOf;
+use offset_allocator::laws::is_well_formed;
 use offset_allocator::{Move, Progress, RoomCost, Tables};
 
 impl<T: Tables> GuardedOf<T> {
-    /// Slides every live range to the front of the space, as `Allocator::compact` does. Every ticket stays
-    /// live, with its size; `offset_of` returns where its range begins. A moved range keeps no alignment:
-    /// `compact_by` keeps those that divide its step. If `moved` panics, the guarded allocator must not be used any
-    /// more: drop it.
+    /// Slides live ranges to the front of the space by the step of the space, so that **each keeps every alignment
+    /// that was asked for**, as `compact_by(step)` does. Every ticket stays live, with its size; `offset_of` returns
+    /// where its range begins. If `moved` panics, the guarded allocator must not be used any more: drop it.
+    ///
+    /// `false` is returned, and nothing changes, where the space has no step, or `Allocator::compact_by` returns
+    /// `false`.
+    ///
+    /// ```
+    /// let hole = guarded.allocate(300).unwrap();
+    /// let mesh = guarded.allocate_aligned(100, 256).unwrap();
+    /// guarded.free(hole);
+    /// assert!(guarded.compact(&mut |it| assert_eq!((it.from, it.to, it.size), (512, 0, 100))));
+    /// assert_eq!(guarded.offset_of(mesh), Some(0));
+    /// ```
+    pub fn compact<F: FnMut(Move<T::Index>)>(&mut self, moved: &mut F) -> bool
+        requires callable { F.IsAlwaysCallable moved.old }
+        ensures sizes { KeepsSizes self.old self.new }
+        // Every range keeps each alignment that divides the step.
+        ensures aligned { KeepsAlignments self.old self.new }
+        // The closure is called with the moves, in space order, each by whole steps.
+        ensures moved { FoldsTo (IsCalledWith T.Index.NonMax.number (λ f range g. F.step f range tt g))
+            moved.old (if result then moves_by self.old.step 0 0 self.old.space.blocks else []) moved.new }
+        // Where there is no step, nothing changes.
+        ensures none { self.old.step ≡ 0 → (result ≡ false) × (self.new ≡ self.old) }
+        // The step of the allocator. All serials stay.
+        ensures step { 1 ≤ self.old.step → CompactsBy self.old.step self.old.space self.new.space result }
+        ensures serials { self.new ≡ record self.old { space = self.new.space } }
+        ensures accesses_max { self.new.space.accesses
+            ≤ self.old.space.accesses + 21 * length self.old.space.blocks + 40 }
+    {
+        let step = self.step_number();
+        if step == 0 {
+            return false;
+        }
+        self.compact_by(step, moved)
+    }
+
+    /// As `compact`, from the offset `from` on and within a budget, as `compact_within_by(step)` does: so a
+    /// compaction can be done over several frames. **Each range keeps every alignment that was asked for.** The
+    /// result says what moved, and where the next call goes on. If `moved` panics, the guarded allocator must not
+    /// be used any more: drop it.
+    ///
+    /// `None` is returned, and nothing changes, where the space has no step, or `Allocator::compact_within` returns
+    /// `None`.
     ///
     /// ```
     /// let hole = guarded.allocate(300).unwrap();
     /// let mesh = guarded.allocate(100).unwrap();
+    /// guarded.allocate(100);
     /// guarded.free(hole);
-    /// guarded.compact(&mut |it| assert_eq!((it.from, it.to, it.size), (300, 0, 100)));
+    /// let progress = guarded.compact_within(0, 150, 8, &mut |_| {}).unwrap();
+    /// assert_eq!((progress.units, progress.ranges, progress.next), (100, 1, Some(400)));
     /// assert_eq!(guarded.offset_of(mesh), Some(0));
     /// ```
-    pub fn compact<F: FnMut(Move<T::Index>)>(&mut self, moved: &mut F)
+    pub fn compact_within<F: FnMut(Move<T::Index>)>(
+        &mut self,
+        from: u32,
+        most_units: u32,
+        most_ranges: u32,
+        moved: &mut F,
+    ) -> Option<Progress>
         requires callable { F.IsAlwaysCallable moved.old }
         ensures sizes { KeepsSizes self.old self.new }
-        // The closure is called with the moves, in space order.
-        ensures moved { FoldsTo (IsCalledWith T.Index.NonMax.number (λ f range g. F.step f range tt g))
-            moved.old (moves 0 0 self.old.space.blocks) moved.new }
-        ensures step { Compacts self.old.space self.new.space }
+        // Every range keeps each alignment that divides the step.
+        ensures aligned { KeepsAlignments self.old self.new }
+        // One range, or as many as the budget allows.
+        ensures budget { IfSome result (λ p. (p.ranges ≡ 1)
+            ⊎ ((p.units ≤ most_units) × (p.ranges ≤ most_ranges))) }
+        // Where there is no step, nothing changes, and no move is seen.
+        ensures none { self.old.step ≡ 0 → (result ≡ None) × (self.new ≡ self.old) × (moved.new ≡ moved.old) }
+        // The step of the allocator, with the moves. All serials stay.
+        ensures step { 1 ≤ self.old.step → CompactsWithin (IsCalledWith T.Index.NonMax.number (λ f range g. F.step f range tt g))
+            self.old.step from most_units most_ranges self.old.space moved.old result self.new.space moved.new }
         ensures serials { self.new ≡ record self.old { space = self.new.space } }
         ensures accesses_max { self.new.space.accesses
-            ≤ self.old.space.accesses + 10 * length self.old.space.blocks + 384 }
+            ≤ self.old.space.accesses + 26 * length self.old.space.blocks + 60 }
+        ensures accesses_budget { self.new.space.accesses
+            ≤ self.old.space.accesses + 5 * length self.old.space.blocks + 42 * max 1 most_ranges + 60 }
     {
-        self.space.compact(moved);
+        let step = self.step_number();
+        if step == 0 {
+            return None;
+        }
+        self.compact_within_by(step, from, most_units, most_ranges, moved)
+    }
+
+    /// Makes room for `allocate(size)`, where ranges have to move for it, by the step of the space: **each range
+    /// that moves keeps every alignment that was asked for**. Every ticket stays live, with its size; `offset_of`
+    /// returns where its range begins. If `moved` panics, the guarded allocator must not be used any more: drop it.
+    ///
+    /// It returns what `room_cost` would have returned before: `None` where no run of blocks gives up enough, or the
+    /// space has no step, and then nothing changes.
+    ///
+    /// ```
+    /// let hole = guarded.allocate(300).unwrap();
+    /// guarded.allocate(100);
+    /// guarded.free(hole);
+    /// assert!(guarded.allocate(800).is_none());
+    /// guarded.make_room(800, &mut |it| assert_eq!((it.from, it.to, it.size), (300, 0, 100)));
+    /// assert!(guarded.allocate(800).is_some());
+    /// ```
+    pub fn make_room<F: FnMut(Move<T::Index>)>(
+        &mut self,
+        size: u32,
+        moved: &mut F,
+    ) -> Option<RoomCost>
+        requires callable { F.IsAlwaysCallable moved.old }
+        // It returns what `room_cost` would have returned before.
+        ensures cost { 1 ≤ self.old.step → IsLeastCostBy self.old.step (value (up (units_needed size 1)))
+            (names_short (blocks_needed 1) self.old.space) self.old.space.blocks result }
+        ensures sizes { KeepsSizes self.old self.new }
+        // Every range keeps each alignment that divides the step.
+        ensures aligned { KeepsAlignments self.old self.new }
+        // The allocator can grant the request then.
+        ensures granted { IfSome result (λ c. CanGrant (blocks_needed 1) (units_needed size 1)
+            self.new.space) }
+        // Where there is no step, nothing changes, and no move is seen.
+        ensures none { self.old.step ≡ 0 → (result ≡ None) × (self.new ≡ self.old) × (moved.new ≡ moved.old) }
+        // The step of the allocator, with the moves. All serials stay.
+        ensures step { 1 ≤ self.old.step → MakesRoomBy (IsCalledWith T.Index.NonMax.number (λ f range g. F.step f range tt g))
+            self.old.step (value (up (units_needed size 1))) (names_short (blocks_needed 1) self.old.space)
+            self.old.space moved.old result self.new.space moved.new }
+        ensures serials { self.new ≡ record self.old { space = self.new.space } }
+        ensures accesses_max { self.new.space.accesses
+            ≤ self.old.space.accesses + 7 * length self.old.space.blocks + 36 * ranges_of result + 60 }
+    {
+        let step = self.step_number();
+        if step == 0 {
+            return None;
+        }
+        self.make_room_by(size, 1, step, moved)
+    }
+
+    /// As `make_room`, for `allocate_aligned(size, align)`, where the alignment is from 1 on.
+    ///
+    /// ```
+    /// let hole = guarded.allocate(300).unwrap();
+    /// guarded.allocate_aligned(200, 256);
+    /// guarded.free(hole);
+    /// assert!(guarded.allocate_aligned(512, 256).is_none());
+    /// guarded.make_room_aligned(512, 256, &mut |it| assert_eq!((it.from, it.to, it.size), (512, 0, 200)));
+    /// assert!(guarded.allocate_aligned(512, 256).is_some());
+    /// ```
+    pub fn make_room_aligned<F: FnMut(Move<T::Index>)>(
+        &mut self,
+        size: u32,
+        align: u32,
+        moved: &mut F,
+    ) -> Option<RoomCost>
+        requires alignment { 1 ≤ align }
+        requires callable { F.IsAlwaysCallable moved.old }
+        // It returns what `room_cost_aligned` would have returned before.
+        ensures cost { 1 ≤ self.old.step → IsLeastCostBy self.old.step (value (up (units_needed size align)))
+            (names_short (blocks_needed align) self.old.space) self.old.space.blocks result }
+        ensures sizes { KeepsSizes self.old self.new }
+        // Every range keeps each alignment that divides the step.
+        ensures aligned { KeepsAlignments self.old self.new }
+        // The allocator can grant the request then.
+        ensures granted { IfSome result (λ c. CanGrant (blocks_needed align) (units_needed size align)
+            self.new.space) }
+        // Where there is no step, nothing changes, and no move is seen.
+        ensures none { self.old.step ≡ 0 → (result ≡ None) × (self.new ≡ self.old) × (moved.new ≡ moved.old) }
+        // The step of the allocator, with the moves. All serials stay.
+        ensures step { 1 ≤ self.old.step → MakesRoomBy (IsCalledWith T.Index.NonMax.number (λ f range g. F.step f range tt g))
+            self.old.step (value (up (units_needed size align))) (names_short (blocks_needed align) self.old.space)
+            self.old.space moved.old result self.new.space moved.new }
+        ensures serials { self.new ≡ record self.old { space = self.new.space } }
+        ensures accesses_max { self.new.space.accesses
+            ≤ self.old.space.accesses + 7 * length self.old.space.blocks + 36 * ranges_of result + 60 }
+    {
+        let step = self.step_number();
+        if step == 0 {
+            return None;
+        }
+        self.make_room_by(size, align, step, moved)
+    }
+
+    /// What has to move at least for `allocate(size)`, as `make_room` would move it: as `Allocator::room_cost_by`
+    /// by the step of the space. `None` is returned where no run of blocks gives up enough, or the space has no step.
+    ///
+    /// ```
+    /// let hole = guarded.allocate(300).unwrap();
+    /// guarded.allocate(100);
+    /// guarded.free(hole);
+    /// assert_eq!(guarded.room_cost(800).unwrap().units, 100);
+    /// ```
+    pub fn room_cost(&self, size: u32) -> Option<RoomCost>
+        ensures cost { 1 ≤ self.now.step → IsLeastCostBy self.now.step (value (up (units_needed size 1)))
+            (names_short (blocks_needed 1) self.now.space) self.now.space.blocks result }
+        ensures none { self.now.step ≡ 0 → result ≡ None }
+    {
+        self.room_cost_aligned(size, 1)
+    }
+
+    /// As `room_cost`, for `allocate_aligned(size, align)`, where the alignment is from 1 on.
+    ///
+    /// ```
+    /// let hole = guarded.allocate(300).unwrap();
+    /// guarded.allocate_aligned(200, 256);
+    /// guarded.free(hole);
+    /// assert_eq!(guarded.room_cost_aligned(512, 256).unwrap().units, 200);
+    /// ```
+    pub fn room_cost_aligned(&self, size: u32, align: u32) -> Option<RoomCost>
+        requires alignment { 1 ≤ align }
+        ensures cost { 1 ≤ self.now.step → IsLeastCostBy self.now.step (value (up (units_needed size align)))
+            (names_short (blocks_needed align) self.now.space) self.now.space.blocks result }
+        ensures none { self.now.step ≡ 0 → result ≡ None }
+    {
+        let step = self.step_number();
+        if step == 0 {
+            return None;
+        }
+        self.space.room_cost_by(size, align, step)
     }
 
     /// Slides live ranges to the front of the space by whole steps, as `Allocator::compact_by` does: each keeps
@@ -60,13 +250,19 @@ impl<T: Tables> GuardedOf<T> {
         // The closure is called with the moves, in space order, each by whole steps.
         ensures moved { FoldsTo (IsCalledWith T.Index.NonMax.number (λ f range g. F.step f range tt g))
             moved.old (if result then moves_by step 0 0 self.old.space.blocks else []) moved.new }
+        // A range keeps each alignment that divides `step`.
+        ensures divisors { KeepsDivisors step self.old self.new }
         // The step of the allocator. All serials stay.
         ensures step { CompactsBy step self.old.space self.new.space result }
         ensures serials { self.new ≡ record self.old { space = self.new.space } }
         ensures accesses_max { self.new.space.accesses
             ≤ self.old.space.accesses + 21 * length self.old.space.blocks + 40 }
     {
-        self.space.compact_by(step, moved)
+        // Steps of the proof, which do nothing: no name is that of two blocks.
+        is_well_formed(&self.space);
+        let done = self.space.compact_by(step, moved);
+        is_well_formed(&self.space);
+        done
     }
 
     /// Slides live ranges to the front by whole steps, from the offset `from` on and within a budget, as
@@ -80,11 +276,11 @@ impl<T: Tables> GuardedOf<T> {
     /// let mesh = guarded.allocate(100).unwrap();
     /// guarded.allocate(100);
     /// guarded.free(hole);
-    /// let progress = guarded.compact_within(1, 0, 150, 8, &mut |_| {}).unwrap();
+    /// let progress = guarded.compact_within_by(1, 0, 150, 8, &mut |_| {}).unwrap();
     /// assert_eq!((progress.units, progress.ranges, progress.next), (100, 1, Some(400)));
     /// assert_eq!(guarded.offset_of(mesh), Some(0));
     /// ```
-    pub fn compact_within<F: FnMut(Move<T::Index>)>(
+    pub fn compact_within_by<F: FnMut(Move<T::Index>)>(
         &mut self,
         step: u32,
         from: u32,
@@ -98,6 +294,8 @@ impl<T: Tables> GuardedOf<T> {
         // One range, or as many as the budget allows.
         ensures budget { IfSome result (λ p. (p.ranges ≡ 1)
             ⊎ ((p.units ≤ most_units) × (p.ranges ≤ most_ranges))) }
+        // A range keeps each alignment that divides `step`.
+        ensures divisors { KeepsDivisors step self.old self.new }
         // The step of the allocator, with the moves. All serials stay.
         ensures step { CompactsWithin (IsCalledWith T.Index.NonMax.number (λ f range g. F.step f range tt g))
             step from most_units most_ranges self.old.space moved.old result self.new.space moved.new }
@@ -107,41 +305,12 @@ impl<T: Tables> GuardedOf<T> {
         ensures accesses_budget { self.new.space.accesses
             ≤ self.old.space.accesses + 5 * length self.old.space.blocks + 42 * max 1 most_ranges + 60 }
     {
-        self.space
-            .compact_within(step, from, most_units, most_ranges, moved)
-    }
-
-    /// Makes room for a request of `size` units, where ranges have to move for it, as `Allocator::make_room`
-    /// does. Every ticket stays live, with its size; `offset_of` returns where its range begins. A moved range
-    /// keeps no alignment. If `moved` panics, the guarded allocator must not be used any more: drop it.
-    ///
-    /// ```
-    /// let hole = guarded.allocate(300).unwrap();
-    /// guarded.allocate(100);
-    /// guarded.free(hole);
-    /// assert!(guarded.allocate(800).is_none());
-    /// guarded.make_room(800, &mut |it| assert_eq!((it.from, it.to, it.size), (300, 0, 100)));
-    /// assert!(guarded.allocate(800).is_some());
-    /// ```
-    pub fn make_room<F: FnMut(Move<T::Index>)>(
-        &mut self,
-        size: u32,
-        moved: &mut F,
-    ) -> Option<RoomCost>
-        requires callable { F.IsAlwaysCallable moved.old }
-        // It returns what `room_cost` of the allocator would have returned before.
-        ensures cost { IsLeastCost (value (up size)) self.old.space.blocks result }
-        ensures sizes { KeepsSizes self.old self.new }
-        // Where ranges had to move, the allocator can grant the request then.
-        ensures granted { IfSome result (λ c. 1 ≤ c.ranges → CanGrant 1 size self.new.space) }
-        // The step of the allocator, with the moves. All serials stay.
-        ensures step { MakesRoom (IsCalledWith T.Index.NonMax.number (λ f range g. F.step f range tt g))
-            (value (up size)) self.old.space moved.old result self.new.space moved.new }
-        ensures serials { self.new ≡ record self.old { space = self.new.space } }
-        ensures accesses_max { self.new.space.accesses
-            ≤ self.old.space.accesses + 6 * length self.old.space.blocks + 40 * ranges_of result + 20 }
-    {
-        self.space.make_room(size, moved)
+        // Steps of the proof, which do nothing: no name is that of two blocks.
+        is_well_formed(&self.space);
+        let progress = self.space
+            .compact_within(step, from, most_units, most_ranges, moved);
+        is_well_formed(&self.space);
+        progress
     }
 
     /// Makes room for `allocate_aligned(size, align)` by whole steps, as `Allocator::make_room_by` does: each
@@ -175,6 +344,8 @@ impl<T: Tables> GuardedOf<T> {
         // The allocator can grant the request then.
         ensures granted { IfSome result (λ c. CanGrant (blocks_needed align) (units_needed size align)
             self.new.space) }
+        // A range keeps each alignment that divides `step`.
+        ensures divisors { KeepsDivisors step self.old self.new }
         // The step of the allocator, with the moves. All serials stay.
         ensures step { MakesRoomBy (IsCalledWith T.Index.NonMax.number (λ f range g. F.step f range tt g))
             step (value (up (units_needed size align))) (names_short (blocks_needed align) self.old.space)
@@ -183,6 +354,69 @@ impl<T: Tables> GuardedOf<T> {
         ensures accesses_max { self.new.space.accesses
             ≤ self.old.space.accesses + 7 * length self.old.space.blocks + 36 * ranges_of result + 60 }
     {
-        self.space.make_room_by(size, align, step, moved)
+        // Steps of the proof, which do nothing: no name is that of two blocks.
+        is_well_formed(&self.space);
+        let cost = self.space.make_room_by(size, align, step, moved);
+        is_well_formed(&self.space);
+        cost
+    }
+
+    /// Slides every live range to the front of the space, as `Allocator::compact` does: **a moved range keeps no
+    /// alignment**, whatever was asked for; `compact` keeps all. Every ticket stays live, with its size;
+    /// `offset_of` returns where its range begins. If `moved` panics, the guarded allocator must not be used any
+    /// more: drop it.
+    ///
+    /// ```
+    /// let hole = guarded.allocate(300).unwrap();
+    /// let mesh = guarded.allocate(100).unwrap();
+    /// guarded.free(hole);
+    /// guarded.compact_unaligned(&mut |it| assert_eq!((it.from, it.to, it.size), (300, 0, 100)));
+    /// assert_eq!(guarded.offset_of(mesh), Some(0));
+    /// ```
+    pub fn compact_unaligned<F: FnMut(Move<T::Index>)>(&mut self, moved: &mut F)
+        requires callable { F.IsAlwaysCallable moved.old }
+        ensures sizes { KeepsSizes self.old self.new }
+        // The closure is called with the moves, in space order.
+        ensures moved { FoldsTo (IsCalledWith T.Index.NonMax.number (λ f range g. F.step f range tt g))
+            moved.old (moves 0 0 self.old.space.blocks) moved.new }
+        ensures step { Compacts self.old.space self.new.space }
+        ensures serials { self.new ≡ record self.old { space = self.new.space } }
+        ensures accesses_max { self.new.space.accesses
+            ≤ self.old.space.accesses + 10 * length self.old.space.blocks + 384 }
+    {
+        self.space.compact(moved);
+    }
+
+    /// Makes room for a request of `size` units, where ranges have to move for it, as `Allocator::make_room`
+    /// does. **A moved range keeps no alignment**, whatever was asked for; `make_room` keeps all. Every ticket
+    /// stays live, with its size; `offset_of` returns where its range begins. If `moved` panics, the guarded allocator must not be used any more: drop it.
+    ///
+    /// ```
+    /// let hole = guarded.allocate(300).unwrap();
+    /// guarded.allocate(100);
+    /// guarded.free(hole);
+    /// assert!(guarded.allocate(800).is_none());
+    /// guarded.make_room_unaligned(800, &mut |it| assert_eq!((it.from, it.to, it.size), (300, 0, 100)));
+    /// assert!(guarded.allocate(800).is_some());
+    /// ```
+    pub fn make_room_unaligned<F: FnMut(Move<T::Index>)>(
+        &mut self,
+        size: u32,
+        moved: &mut F,
+    ) -> Option<RoomCost>
+        requires callable { F.IsAlwaysCallable moved.old }
+        // It returns what `room_cost` of the allocator would have returned before.
+        ensures cost { IsLeastCost (value (up size)) self.old.space.blocks result }
+        ensures sizes { KeepsSizes self.old self.new }
+        // Where ranges had to move, the allocator can grant the request then.
+        ensures granted { IfSome result (λ c. 1 ≤ c.ranges → CanGrant 1 size self.new.space) }
+        // The step of the allocator, with the moves. All serials stay.
+        ensures step { MakesRoom (IsCalledWith T.Index.NonMax.number (λ f range g. F.step f range tt g))
+            (value (up size)) self.old.space moved.old result self.new.space moved.new }
+        ensures serials { self.new ≡ record self.old { space = self.new.space } }
+        ensures accesses_max { self.new.space.accesses
+            ≤ self.old.space.accesses + 6 * length self.old.space.blocks + 40 * ranges_of result + 20 }
+    {
+        self.space.make_room(size, moved)
     }
 }

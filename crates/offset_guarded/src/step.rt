@@ -7,8 +7,8 @@ ghost use Rattle.offset_guarded.specs.Step.{IsJoined};
 use crate::GuardedOf;
 use offset_allocator::Tables;
 
-// The greatest common divisor, by Euclid.
-fn common_divisor(first: u32, second: u32) -> u32
+/// The greatest common divisor, by Euclid.
+pub(crate) fn common_divisor(first: u32, second: u32) -> u32
     ensures common { IsGcd first second result }
     // What divides a multiple of both by one number divides that multiple of it.
     ensures multiples { (z n : ℕ) → z ∣ first * n → z ∣ second * n → z ∣ result * n }

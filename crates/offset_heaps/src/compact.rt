@@ -29,7 +29,7 @@ pub(crate) fn compact_numbered<NI: NodeIndex, T: Tables<Index = NI>, F: FnMut(u3
     ensures moved { FoldsTo (IsCalledAt NI.NonMax.number (λ f k range g. F.step f k range tt g)) moved.old
         (numbered number (moves 0 0 heap.old.space.blocks)) moved.new }
 {
-    heap.compact(&mut |range: Move<NI>| moved(number, range));
+    heap.compact_unaligned(&mut |range: Move<NI>| moved(number, range));
 }
 
 // Slides every live range of each heap to the front of its space.

@@ -253,7 +253,7 @@ fn compact_in<T: Tables, F: FnMut(Move<T::Index>)>(slot: &mut Option<GuardedOf<T
         moved.old (moves_in slot.old) moved.new }
 {
     match slot {
-        Some(heap) => heap.compact(moved),
+        Some(heap) => heap.compact_unaligned(moved),
         None => unreachable!(),
     }
 }
@@ -289,7 +289,7 @@ fn make_room_in<T: Tables, F: FnMut(Move<T::Index>)>(
         slot.old slot.new }
 {
     match slot {
-        Some(heap) => heap.make_room(size, moved),
+        Some(heap) => heap.make_room_unaligned(size, moved),
         None => unreachable!(),
     }
 }

@@ -36,7 +36,7 @@ fn call<T: Tables>(
             12 => match number % 4 {
                 0 => u64::from(space.extend(number)),
                 1 => u64::from(space.retract(number % 8)),
-                2 => match space.relocate(ticket) {
+                2 => match space.relocate_unaligned(ticket) {
                     None => 1,
                     Some(second) => u64::from(space.free(second)),
                 },

@@ -367,8 +367,8 @@ public:
     bool extend(uint32 more) { return oa_extend(space, more); }
     bool retract(uint32 less) { return oa_retract(space, less); }
 
-    // A second range before that of a live allocation; where there is none, both parts are NO_SPACE, also where align is
-    // 0: align is at least 1.
+    // A second range before that of a live allocation, which keeps no alignment; by relocateAligned at a multiple of align,
+    // which is at least 1. Where there is none, both parts are NO_SPACE, also where align is 0.
     Allocation relocate(Allocation allocation) { return detail::of(oa_relocate(space, detail::in(allocation))); }
     Allocation relocateAligned(Allocation allocation, uint32 align) { return detail::of(oa_relocate_aligned(space, detail::in(allocation), align)); }
 
@@ -395,8 +395,8 @@ public:
         }
     }
 
-    // Handles stay live; a range that moves begins at allocationOffset from then on, and keeps no alignment, or, by compactBy,
-    // compactWithin and makeRoomBy, those that divide step. With a step of 0 nothing moves: compactBy returns false,
+    // compact and makeRoom break every alignment of the ranges that move; by compactBy, compactWithin and makeRoomBy they keep
+    // those that divide step. Handles stay live; a range that moves begins at allocationOffset from then on. With a step of 0 nothing moves: compactBy returns false,
     // compactWithin is not done, and makeRoomBy is not possible, nor is it where align is 0. compactBy and
     // compactWithin refuse also where, as oa_compact_by says, a node is missing. moved(Move) is called for each range that
     // moves. An exception of it goes on to the caller when all ranges have moved; after it, moved is not called again.
@@ -581,9 +581,11 @@ public:
     bool extend(uint32 more) { return oag_extend(space, more); }
     bool retract(uint32 less) { return oag_retract(space, less); }
 
-    // Where there is none, the ticket converts to false, also where align is 0: align is at least 1.
+    // A second range before that of a live ticket, which keeps every alignment that was asked for; by relocateAligned at a
+    // multiple of align, which is at least 1; by relocateUnaligned anywhere. Where there is none, the ticket converts to false.
     Ticket relocate(Ticket ticket) { return of(oag_relocate(space, in(ticket))); }
     Ticket relocateAligned(Ticket ticket, uint32 align) { return of(oag_relocate_aligned(space, in(ticket), align)); }
+    Ticket relocateUnaligned(Ticket ticket) { return of(oag_relocate_unaligned(space, in(ticket))); }
     Ticket firstLive() const { return of(oag_first_live(space)); }
     Ticket lastLive() const { return of(oag_last_live(space)); }
     Ticket liveBefore(Ticket ticket) const { return of(oag_live_before(space, in(ticket))); }
@@ -606,21 +608,18 @@ public:
     // The ticket of the allocation of a block or of a move; it converts to false where that is not live.
     Ticket ticketOf(Allocation allocation) const { return of(oag_ticket_of(space, detail::in(allocation))); }
 
-    // As those of Allocator.
-    template <class F> void compact(F &&moved) {
+    // Ranges that move keep every alignment that was asked for: they go by step(). Where there is none, compact returns
+    // false, compactWithin is not done, makeRoom and makeRoomAligned are not possible, and nothing moves. moved is as of
+    // Allocator.
+    template <class F> bool compact(F &&moved) {
         detail::Calling<F> each(moved);
-        oag_compact(space, detail::Calling<F>::moved, &each);
-        each.finish();
-    }
-    template <class F> bool compactBy(uint32 step, F &&moved) {
-        detail::Calling<F> each(moved);
-        const bool done = oag_compact_by(space, step, detail::Calling<F>::moved, &each);
+        const bool done = oag_compact(space, detail::Calling<F>::moved, &each);
         each.finish();
         return done;
     }
-    template <class F> Progress compactWithin(uint32 step, uint32 from, uint32 mostUnits, uint32 mostRanges, F &&moved) {
+    template <class F> Progress compactWithin(uint32 from, uint32 mostUnits, uint32 mostRanges, F &&moved) {
         detail::Calling<F> each(moved);
-        Progress done = detail::of(oag_compact_within(space, step, from, mostUnits, mostRanges, detail::Calling<F>::moved, &each));
+        Progress done = detail::of(oag_compact_within(space, from, mostUnits, mostRanges, detail::Calling<F>::moved, &each));
         each.finish();
         return done;
     }
@@ -630,9 +629,42 @@ public:
         each.finish();
         return cost;
     }
+    template <class F> RoomCost makeRoomAligned(uint32 size, uint32 align, F &&moved) {
+        detail::Calling<F> each(moved);
+        RoomCost cost = detail::of(oag_make_room_aligned(space, size, align, detail::Calling<F>::moved, &each));
+        each.finish();
+        return cost;
+    }
+
+    // The same by a step that you choose: a range keeps the alignments that divide it.
+    template <class F> bool compactBy(uint32 step, F &&moved) {
+        detail::Calling<F> each(moved);
+        const bool done = oag_compact_by(space, step, detail::Calling<F>::moved, &each);
+        each.finish();
+        return done;
+    }
+    template <class F> Progress compactWithinBy(uint32 step, uint32 from, uint32 mostUnits, uint32 mostRanges, F &&moved) {
+        detail::Calling<F> each(moved);
+        Progress done = detail::of(oag_compact_within_by(space, step, from, mostUnits, mostRanges, detail::Calling<F>::moved, &each));
+        each.finish();
+        return done;
+    }
     template <class F> RoomCost makeRoomBy(uint32 size, uint32 align, uint32 step, F &&moved) {
         detail::Calling<F> each(moved);
         RoomCost cost = detail::of(oag_make_room_by(space, size, align, step, detail::Calling<F>::moved, &each));
+        each.finish();
+        return cost;
+    }
+
+    // And by none: a range that moves keeps no alignment.
+    template <class F> void compactUnaligned(F &&moved) {
+        detail::Calling<F> each(moved);
+        oag_compact_unaligned(space, detail::Calling<F>::moved, &each);
+        each.finish();
+    }
+    template <class F> RoomCost makeRoomUnaligned(uint32 size, F &&moved) {
+        detail::Calling<F> each(moved);
+        RoomCost cost = detail::of(oag_make_room_unaligned(space, size, detail::Calling<F>::moved, &each));
         each.finish();
         return cost;
     }
@@ -662,13 +694,18 @@ public:
         return Refusal(oag_refusal_tight_aligned(space, size, align));
     }
     RoomCost roomCost(uint32 size) const { return detail::of(oag_room_cost(space, size)); }
+    RoomCost roomCostAligned(uint32 size, uint32 align) const {
+        return detail::of(oag_room_cost_aligned(space, size, align));
+    }
     RoomCost roomCostBy(uint32 size, uint32 align, uint32 step) const {
         return detail::of(oag_room_cost_by(space, size, align, step));
     }
+    RoomCost roomCostUnaligned(uint32 size) const { return detail::of(oag_room_cost_unaligned(space, size)); }
 
     bool isSpent() const { return oag_is_spent(space); }
     uint32 realm() const { return oag_realm(space); }
-    // By multiples of it ranges can move and keep the alignments that were asked for; 0: there is none.
+    // By multiples of it ranges move and keep the alignments that were asked for; 0: there is none, and no call that goes by it
+    // moves a range.
     uint32 step() const { return oag_step(space); }
     bool raiseStep(uint32 align) { return oag_raise_step(space, align); }
 

@@ -34,6 +34,16 @@ inline uint32 nameOf(const Ticket &ticket) { return ticket.name; }
 inline bool isGranted(const Allocation &allocation) { return allocation.metadata != Allocation::NO_SPACE; }
 inline bool isGranted(const Ticket &ticket) { return bool(ticket); }
 
+// The greatest common divisor.
+inline uint32 commonDivisor(uint32 a, uint32 b) {
+    while (b) {
+        const uint32 rest = a % b;
+        a = b;
+        b = rest;
+    }
+    return a;
+}
+
 // Bytes that are assigned, as a vector has them, without exceptions.
 class Bytes {
 public:
@@ -472,9 +482,15 @@ public:
         tape.write("grow %u %u\n", number(handle), size);
         return space.growInPlace(handle, size);
     }
+    // Of tickets it goes by the step of the space: its line has the alignment that the range keeps by that.
     Handle relocate(Handle handle) {
-        tape.write("relocate %u\n", number(handle));
+        writeRelocate(space, handle);
         return granted(space.relocate(handle));
+    }
+    // Of tickets alone.
+    Handle relocateUnaligned(Handle handle) {
+        tape.write("relocate %u\n", number(handle));
+        return granted(space.relocateUnaligned(handle));
     }
     // As allocateAligned, for an alignment of 0.
     Handle relocateAligned(Handle handle, uint32 align) {
@@ -489,11 +505,26 @@ public:
         tape.write("retract %u\n", less);
         return space.retract(less);
     }
-    template <class F> void compact(F &&moved) {
-        tape.write("compact\n");
-        space.compact(std::forward<F>(moved));
+    // Of tickets compact, compactWithin, makeRoom and makeRoomAligned go by the step of the space, which is in their lines; where
+    // it has none nothing changes, and nothing is written.
+    template <class F> auto compact(F &&moved) -> decltype(std::declval<A &>().compact(std::forward<F>(moved))) {
+        writeCompact(space);
+        return space.compact(std::forward<F>(moved));
     }
-    // A step of 0 is refused, as by A, and not written.
+    template <class F> Progress compactWithin(uint32 from, uint32 mostUnits, uint32 mostRanges, F &&moved) {
+        if (isValid(space.step() != 0)) tape.write("compact %u %u %u %u\n", space.step(), from, mostUnits, mostRanges);
+        return space.compactWithin(from, mostUnits, mostRanges, std::forward<F>(moved));
+    }
+    template <class F> RoomCost makeRoom(uint32 size, F &&moved) {
+        writeRoom(space, size);
+        return space.makeRoom(size, std::forward<F>(moved));
+    }
+    // An alignment of 0 is refused, as by A, and not written.
+    template <class F> RoomCost makeRoomAligned(uint32 size, uint32 align, F &&moved) {
+        if (isValid(align != 0 && space.step() != 0)) tape.write("room %u %u %u\n", size, align, space.step());
+        return space.makeRoomAligned(size, align, std::forward<F>(moved));
+    }
+    // A step of 0 is refused, as by A, and not written. Within a budget it is compactWithin of handles, compactWithinBy of tickets.
     template <class F> bool compactBy(uint32 step, F &&moved) {
         if (isValid(step != 0)) tape.write("compact %u\n", step);
         return space.compactBy(step, std::forward<F>(moved));
@@ -502,9 +533,18 @@ public:
         if (isValid(step != 0)) tape.write("compact %u %u %u %u\n", step, from, mostUnits, mostRanges);
         return space.compactWithin(step, from, mostUnits, mostRanges, std::forward<F>(moved));
     }
-    template <class F> RoomCost makeRoom(uint32 size, F &&moved) {
+    template <class F> Progress compactWithinBy(uint32 step, uint32 from, uint32 mostUnits, uint32 mostRanges, F &&moved) {
+        if (isValid(step != 0)) tape.write("compact %u %u %u %u\n", step, from, mostUnits, mostRanges);
+        return space.compactWithinBy(step, from, mostUnits, mostRanges, std::forward<F>(moved));
+    }
+    // Of tickets alone.
+    template <class F> void compactUnaligned(F &&moved) {
+        tape.write("compact\n");
+        space.compactUnaligned(std::forward<F>(moved));
+    }
+    template <class F> RoomCost makeRoomUnaligned(uint32 size, F &&moved) {
         tape.write("room %u\n", size);
-        return space.makeRoom(size, std::forward<F>(moved));
+        return space.makeRoomUnaligned(size, std::forward<F>(moved));
     }
     // An alignment or a step of 0 is refused, as by A, and not written.
     template <class F> RoomCost makeRoomBy(uint32 size, uint32 align, uint32 step, F &&moved) {
@@ -515,7 +555,7 @@ public:
         tape.write("reset\n");
         space.reset();
     }
-    // No line is written, since each move has its step in its line.
+    // No line is written, since each move by the step has it in its line.
     bool raiseStep(uint32 align) { return space.raiseStep(align); }
     // After it a line with the larger limit follows, and those after which its space is as this one, whose grants are numbered
     // from 1 again.
@@ -533,6 +573,20 @@ private:
     bool isValid(bool valid) {
         if (!valid) tape.unname();
         return valid;
+    }
+    // The lines of what goes by the step of tickets, and by none of handles.
+    void writeCompact(const Allocator &) { tape.write("compact\n"); }
+    void writeCompact(const GuardedAllocator &of) {
+        if (isValid(of.step() != 0)) tape.write("compact %u\n", of.step());
+    }
+    void writeRoom(const Allocator &, uint32 size) { tape.write("room %u\n", size); }
+    void writeRoom(const GuardedAllocator &of, uint32 size) {
+        if (isValid(of.step() != 0)) tape.write("room %u 1 %u\n", size, of.step());
+    }
+    void writeRelocate(const Allocator &, Handle handle) { tape.write("relocate %u\n", number(handle)); }
+    void writeRelocate(const GuardedAllocator &of, Handle handle) {
+        if (!of.isLive(handle)) tape.write("relocate 0\n");
+        else if (isValid(of.step() != 0)) tape.write("relocate %u %u\n", number(handle), detail::commonDivisor(of.offsetOf(handle), of.step()));
     }
     uint32 number(Handle handle) const { return space.isLive(handle) ? tape.number(detail::nameOf(handle)) : 0; }
     Handle granted(Handle handle) {

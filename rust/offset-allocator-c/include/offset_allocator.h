@@ -290,18 +290,20 @@ bool oa_extend(oa_allocator *space, uint32_t more);
  * the last block is used or has fewer units, or if the allocator is null. Bounded. */
 bool oa_retract(oa_allocator *space, uint32_t less);
 
-/* A second range of as many units before that of a live handle, from the block that oa_allocate takes for them. Both are live
- * until the old one is freed, so the units can be copied while the old ones are still read, and the copies do not overlap.
- * Both parts are OA_NO_SPACE, and nothing changes, where oa_allocate would refuse them, where that block begins after the
- * range, if the handle is not live, or if the allocator is null. It begins at any multiple. Bounded. */
+/* A second range of as many units before that of a live handle, which keeps no alignment (oa_relocate_aligned has one), from
+ * the block that oa_allocate takes for them. Both are live until the old one is freed, so the units can be copied while the
+ * old ones are still read, and the copies do not overlap. Both parts are OA_NO_SPACE, and nothing changes, where oa_allocate
+ * would refuse them, where that block begins after the range, if the handle is not live, or if the allocator is null.
+ * Bounded. */
 oa_allocation oa_relocate(oa_allocator *space, oa_allocation allocation);
 
 /* The same at a multiple of align, from the block that oa_allocate_aligned takes for these units. Both parts are OA_NO_SPACE,
  * and nothing changes, also where align is 0; align is at least 1. Bounded. */
 oa_allocation oa_relocate_aligned(oa_allocator *space, oa_allocation allocation, uint32_t align);
 
-/* Moves all live ranges to the front of the space, in order, so that all free units are one block. Handles stay live; a
- * range that moves begins at oa_allocation_offset from then on, and keeps no alignment: see oa_compact_by.
+/* Moves all live ranges to the front of the space, and breaks every alignment: a range that moves keeps none, by oa_compact_by
+ * those that divide a step. They stay in order, so all free units are one block. Handles stay live; a range that moves begins
+ * at oa_allocation_offset from then on.
  * `moved`, if it is not null, is called with `user` and each range that moves, in the order in which they can be copied
  * one after the other. It must return: no exception, no longjmp; and it must not use this allocator.
  * Nothing is done where the allocator is null. Cost: at most 10 accesses a block, and 384. */
@@ -345,11 +347,11 @@ oa_allocation oa_last_live(const oa_allocator *space);
 oa_allocation oa_live_before(const oa_allocator *space, oa_allocation allocation);
 oa_allocation oa_live_after(const oa_allocator *space, oa_allocation allocation);
 
-/* Makes room for a request of this size where ranges have to move for it: slides those of a run of blocks that costs what
- * oa_room_cost returns to its front, so that its free units are one block after them, which is large enough. `moved` is
- * called as by oa_compact, and the same holds of handles; a range that moves keeps no alignment. Returns what oa_room_cost
- * would have returned before; where that is not possible or has no ranges, nothing changes. Else oa_allocate grants the
- * request afterwards, at the node limit too.
+/* Makes room for a request of this size, and breaks every alignment of the ranges that move for it; by oa_make_room_by they
+ * keep those that divide a step. It slides those of a run of blocks that costs what oa_room_cost returns to its front, so that
+ * its free units are one block after them, which is large enough. `moved` is called as by oa_compact, and the same holds of
+ * handles. Returns what oa_room_cost would have returned before; where that is not possible or has no ranges, nothing changes.
+ * Else oa_allocate grants the request afterwards, at the node limit too.
  * All 0 for null. Cost: 6 accesses a block, 40 a range that moves, and 20. */
 oa_room oa_make_room(oa_allocator *space, uint32_t size, void (*moved)(void *user, oa_move range), void *user);
 
@@ -531,7 +533,7 @@ oag_allocator *oag_clone(const oag_allocator *space);
 /* As oa_raise_limit: all tickets stay live. */
 bool oag_raise_limit(oag_allocator *space, uint32_t max_allocs);
 
-/* The bytes of the state of a space with its tickets: as oa_write_state, and 48 more, and 8 for each node that was ever
+/* The bytes of the state of a space with its tickets: as oa_write_state, and 56 more, and 8 for each node that was ever
  * made. Null where memory is out, or space is null. To be dropped by oa_state_drop. */
 oa_state *oag_write_state(const oag_allocator *space);
 
@@ -588,10 +590,15 @@ bool oag_grow_in_place(oag_allocator *space, oag_ticket ticket, uint32_t size);
 bool oag_extend(oag_allocator *space, uint32_t more);
 bool oag_retract(oag_allocator *space, uint32_t less);
 
-/* As oa_relocate and oa_relocate_aligned: the ticket of the second range; the old one stays live. Its serial is 0 where there
- * is none. */
+/* A second range of as many units before that of a live ticket, which keeps every alignment that was asked for: as
+ * oa_relocate_aligned at the greatest common divisor of the step and the offset of the range. The serial is 0, and nothing
+ * changes, where that refuses, where the ticket is not live, where there is no step, or for null. The old ticket stays live. */
 oag_ticket oag_relocate(oag_allocator *space, oag_ticket ticket);
+
+/* As oa_relocate_aligned, at a multiple of an alignment that you choose, which is taken into the step; and as oa_relocate, which
+ * keeps none. The serial is 0 where there is no such range. */
 oag_ticket oag_relocate_aligned(oag_allocator *space, oag_ticket ticket, uint32_t align);
+oag_ticket oag_relocate_unaligned(oag_allocator *space, oag_ticket ticket);
 
 /* As oa_first_live, oa_last_live, oa_live_before and oa_live_after. The serial of the ticket is 0 where there is none. */
 oag_ticket oag_first_live(const oag_allocator *space);
@@ -599,17 +606,29 @@ oag_ticket oag_last_live(const oag_allocator *space);
 oag_ticket oag_live_before(const oag_allocator *space, oag_ticket ticket);
 oag_ticket oag_live_after(const oag_allocator *space, oag_ticket ticket);
 
-/* As oa_compact, oa_compact_by and oa_compact_within. Tickets stay live; a range that moves begins at oag_offset_of from then on, and keeps its
- * alignment by steps alone, where it divides the step. metadata of a move is the name in the ticket. */
-void oag_compact(oag_allocator *space, void (*moved)(void *user, oa_move range), void *user);
-bool oag_compact_by(oag_allocator *space, uint32_t step, void (*moved)(void *user, oa_move range), void *user);
-oa_progress oag_compact_within(oag_allocator *space, uint32_t step, uint32_t from, uint32_t most_units, uint32_t most_ranges,
+/* As oa_compact_by and oa_compact_within by the step of the space: ranges that move keep every alignment that was asked for.
+ * Tickets stay live; a range that moves begins at oag_offset_of from then on. metadata of a move is the name in the ticket.
+ * False, and not done, also where there is no step; then nothing changes. */
+bool oag_compact(oag_allocator *space, void (*moved)(void *user, oa_move range), void *user);
+oa_progress oag_compact_within(oag_allocator *space, uint32_t from, uint32_t most_units, uint32_t most_ranges,
                                void (*moved)(void *user, oa_move range), void *user);
 
-/* As oa_make_room and oa_make_room_by; the same of tickets. */
+/* The same by a step that you choose, where a range keeps the alignments that divide it; and as oa_compact, which keeps none. */
+bool oag_compact_by(oag_allocator *space, uint32_t step, void (*moved)(void *user, oa_move range), void *user);
+oa_progress oag_compact_within_by(oag_allocator *space, uint32_t step, uint32_t from, uint32_t most_units, uint32_t most_ranges,
+                                  void (*moved)(void *user, oa_move range), void *user);
+void oag_compact_unaligned(oag_allocator *space, void (*moved)(void *user, oa_move range), void *user);
+
+/* As oa_make_room_by by the step of the space, for oag_allocate and for oag_allocate_aligned: ranges that move keep every
+ * alignment that was asked for. Not possible also where there is no step, and where `align` is 0; then nothing changes. */
 oa_room oag_make_room(oag_allocator *space, uint32_t size, void (*moved)(void *user, oa_move range), void *user);
+oa_room oag_make_room_aligned(oag_allocator *space, uint32_t size, uint32_t align,
+                              void (*moved)(void *user, oa_move range), void *user);
+
+/* The same by a step that you choose; and as oa_make_room, where a range that moves keeps no alignment. */
 oa_room oag_make_room_by(oag_allocator *space, uint32_t size, uint32_t align, uint32_t step,
                          void (*moved)(void *user, oa_move range), void *user);
+oa_room oag_make_room_unaligned(oag_allocator *space, uint32_t size, void (*moved)(void *user, oa_move range), void *user);
 
 /* As the calls oa_* of these names. */
 uint32_t oag_size(const oag_allocator *space);
@@ -630,11 +649,12 @@ bool oag_is_spent(const oag_allocator *space);
 uint32_t oag_realm(const oag_allocator *space);
 
 /* The step: the least common multiple of the alignments of all grants since the space was made or reset, by multiples of
- * which its ranges can move and keep them; 1 at first, and 0 where it has more than 32 bits, or for null. */
+ * which its ranges move and keep them; 1 at first, and 0 where it has more than 32 bits, or for null: then no call that goes
+ * by it moves a range, until a reset. */
 uint32_t oag_step(const oag_allocator *space);
 
-/* Takes an alignment into the step that no request says, as of sizes or places that were given. False, and nothing is
- * changed, where it is 0, or for null. */
+/* Takes an alignment into the step that no request says, as of sizes or places that were given. False, and nothing
+ * changes, where it is 0, or for null. */
 bool oag_raise_step(oag_allocator *space, uint32_t align);
 
 /* As oa_would_begin. */
@@ -648,9 +668,13 @@ oa_reason oag_refusal_aligned(const oag_allocator *space, uint32_t size, uint32_
 oa_reason oag_refusal_tight(const oag_allocator *space, uint32_t size);
 oa_reason oag_refusal_tight_aligned(const oag_allocator *space, uint32_t size, uint32_t align);
 
-/* As oa_room_cost and oa_room_cost_by. */
+/* What oag_make_room and oag_make_room_aligned would return now: as oa_room_cost_by by the step of the space. */
 oa_room oag_room_cost(const oag_allocator *space, uint32_t size);
+oa_room oag_room_cost_aligned(const oag_allocator *space, uint32_t size, uint32_t align);
+
+/* What oag_make_room_by and oag_make_room_unaligned would return now. */
 oa_room oag_room_cost_by(const oag_allocator *space, uint32_t size, uint32_t align, uint32_t step);
+oa_room oag_room_cost_unaligned(const oag_allocator *space, uint32_t size);
 
 /* As oa_walk_start and oa_blocks_new, for oa_walk_next, oa_blocks_next and oa_blocks_drop. A block has a handle, which
  * oag_ticket_of makes a ticket. */

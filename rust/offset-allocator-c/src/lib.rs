@@ -832,6 +832,10 @@ exports! {
         guard(space.relocate(ticket(allocation)))
     } else NO_TICKET;
 
+    fn oag_relocate_unaligned([space: &mut GuardedSpace], allocation: Guard) -> Guard {
+        guard(space.relocate_unaligned(ticket(allocation)))
+    } else NO_TICKET;
+
     fn oag_relocate_aligned([space: &mut GuardedSpace], allocation: Guard, align: u32) -> Guard {
         guard(if align != 0 { space.relocate_aligned(ticket(allocation), align) } else { None })
     } else NO_TICKET;
@@ -852,8 +856,16 @@ exports! {
         [space: &mut GuardedSpace],
         moved: Option<Callback>,
         user: Option<NonNull<c_void>>
-    ) -> () {
+    ) -> bool {
         space.compact(calls(moved, user))
+    } else false;
+
+    fn oag_compact_unaligned(
+        [space: &mut GuardedSpace],
+        moved: Option<Callback>,
+        user: Option<NonNull<c_void>>
+    ) -> () {
+        space.compact_unaligned(calls(moved, user))
     } else ();
 
     fn oag_compact_by(
@@ -867,6 +879,17 @@ exports! {
 
     fn oag_compact_within(
         [space: &mut GuardedSpace],
+        from: u32,
+        most_units: u32,
+        most_ranges: u32,
+        moved: Option<Callback>,
+        user: Option<NonNull<c_void>>
+    ) -> Progressed {
+        progressed(space.compact_within(from, most_units, most_ranges, calls(moved, user)))
+    } else Progressed::default();
+
+    fn oag_compact_within_by(
+        [space: &mut GuardedSpace],
         step: u32,
         from: u32,
         most_units: u32,
@@ -877,7 +900,7 @@ exports! {
         if step == 0 {
             return Progressed::default();
         }
-        progressed(space.compact_within(step, from, most_units, most_ranges, calls(moved, user)))
+        progressed(space.compact_within_by(step, from, most_units, most_ranges, calls(moved, user)))
     } else Progressed::default();
 
     fn oag_make_room(
@@ -887,6 +910,28 @@ exports! {
         user: Option<NonNull<c_void>>
     ) -> Room {
         room(space.make_room(size, calls(moved, user)))
+    } else Room::default();
+
+    fn oag_make_room_aligned(
+        [space: &mut GuardedSpace],
+        size: u32,
+        align: u32,
+        moved: Option<Callback>,
+        user: Option<NonNull<c_void>>
+    ) -> Room {
+        if align == 0 {
+            return Room::default();
+        }
+        room(space.make_room_aligned(size, align, calls(moved, user)))
+    } else Room::default();
+
+    fn oag_make_room_unaligned(
+        [space: &mut GuardedSpace],
+        size: u32,
+        moved: Option<Callback>,
+        user: Option<NonNull<c_void>>
+    ) -> Room {
+        room(space.make_room_unaligned(size, calls(moved, user)))
     } else Room::default();
 
     fn oag_make_room_by(
@@ -966,7 +1011,15 @@ exports! {
         if align != 0 { guarded_reason(space.refusal_tight_aligned(size, align)) } else { Reason::BadCall }
     } else Reason::BadCall;
 
-    fn oag_room_cost([space: &GuardedSpace], size: u32) -> Room { room(space.allocator().room_cost(size)) } else Room::default();
+    fn oag_room_cost([space: &GuardedSpace], size: u32) -> Room { room(space.room_cost(size)) } else Room::default();
+
+    fn oag_room_cost_aligned([space: &GuardedSpace], size: u32, align: u32) -> Room {
+        room(if align != 0 { space.room_cost_aligned(size, align) } else { None })
+    } else Room::default();
+
+    fn oag_room_cost_unaligned([space: &GuardedSpace], size: u32) -> Room {
+        room(space.allocator().room_cost(size))
+    } else Room::default();
 
     fn oag_room_cost_by([space: &GuardedSpace], size: u32, align: u32, step: u32) -> Room {
         if align == 0 || step == 0 {

@@ -207,9 +207,13 @@ int main(void) {
     oag_allocate_aligned(tickets, 20, 8);
     oag_free(tickets, t);
     oag_make_room_by(tickets, 900, 1, 8, NULL, NULL);
-    oag_compact_within(tickets, 8, 0, 20, 1, NULL, NULL);
+    oag_make_room_aligned(tickets, 900, 2, NULL, NULL);
+    oag_make_room_unaligned(tickets, 900, NULL, NULL);
+    oag_compact_within_by(tickets, 8, 0, 20, 1, NULL, NULL);
+    oag_compact_within(tickets, 0, 20, 1, NULL, NULL);
     oag_compact_by(tickets, 8, NULL, NULL);
     oag_compact(tickets, NULL, NULL);
+    oag_compact_unaligned(tickets, NULL, NULL);
     oag_storage_report_full(tickets);
     oag_walk_start(tickets, &walk);
     while (oa_walk_next(&walk).kind != OA_END) {}

@@ -47,7 +47,7 @@ static void byHand(const std::string &path) {
         Recorded<GuardedAllocator> moved(std::move(heap));
         check(heap.isFailed() && !heap.allocate(1), "what was moved from is empty, and writes nothing");
         int moves = 0;
-        moved.compact([&](Move) { moves++; });
+        moved.compactUnaligned([&](Move) { moves++; });
         check(moves == 1 && moved->offsetOf(other) == 0 && moved.extend(24), "compacted");
         Ticket again = moved.allocate(1), aligned = moved.allocateAligned(32, 32);
         check(moved.free(other) && !moved.relocateAligned(aligned, 0), "no alignment");
@@ -56,11 +56,11 @@ static void byHand(const std::string &path) {
         auto step = [&](Move move) { check(move.from == move.to + 48, "a multiple of 16"); };
         check(!moved.compactBy(0, step) && moved.compactBy(16, step), "compacted by 16");
         check(moved->offsetOf(again) == 2 && moved->offsetOf(aligned) == 16, "both moved");
-        Progress progress = moved.compactWithin(1, 0, 7, 1, [](Move) {});
+        Progress progress = moved.compactWithinBy(1, 0, 7, 1, [](Move) {});
         check(progress.done && progress.ranges == 1 && progress.units == 1 && progress.more && progress.next == 16, "one range of a pass");
-        check(!moved.compactWithin(0, 0, 1, 1, [](Move) {}).done && !moved.makeRoomBy(1000, 1, 0, [](Move) {}).possible, "no step");
-        check(!moved.makeRoom(1000, [](Move) {}).possible && moved.retract(24) && moved.extend(24), "the end");
-        check(!moved.relocate(again) && moved.allocateTight(5) && !moved.allocateTightAligned(5, 0), "requests");
+        check(!moved.compactWithinBy(0, 0, 1, 1, [](Move) {}).done && !moved.makeRoomBy(1000, 1, 0, [](Move) {}).possible, "no step");
+        check(!moved.makeRoomUnaligned(1000, [](Move) {}).possible && moved.retract(24) && moved.extend(24), "the end");
+        check(!moved.relocateUnaligned(again) && moved.allocateTight(5) && !moved.allocateTightAligned(5, 0), "requests");
         RoomCost cost = moved.makeRoomBy(800, 64, 16, [](Move) {});
         check(cost.possible && cost.ranges == 0 && moved.allocateTightAligned(800, 64), "room by steps");
         moved.reset();
@@ -89,6 +89,45 @@ static std::string of(std::FILE *file, const std::string &path) {
     return read(path);
 }
 
+// Calls by the step of a space with tickets have it in their lines.
+static void byTheStep(const std::string &path) {
+    std::FILE *file = std::fopen(path.c_str(), "wb");
+    {
+        Recorded<GuardedAllocator> heap(file, 1000, 32);
+        auto none = [](Move) {};
+        Ticket hole = heap.allocate(50), first = heap.allocateAligned(24, 24), second = heap.allocateAligned(16, 16);
+        check(heap->offsetOf(first) == 72 && heap->offsetOf(second) == 96 && heap->step() == 48, "a step of 48");
+        check(heap.free(hole) && heap.compact(none), "compacted");
+        // of the 72 units before both 48 are a step
+        check(heap->offsetOf(first) == 24 && heap->offsetOf(second) == 48, "both keep their alignments");
+        check(!heap.makeRoom(950, none).possible && heap.makeRoomAligned(700, 32, none).possible, "room");
+        // 24 and 48 have 24 in common, and the 24 units before it are fewer than 24 + 23; 200 and 48 have 8, and 8 + 7 are fewer
+        check(!heap.relocate(first), "no range before it");
+        Ticket end = heap.allocateAt(200, 8);
+        check(heap->offsetOf(heap.relocate(end)) == 0 && heap.free(end), "relocated");
+        Progress progress = heap.compactWithin(5, 6, 7, none);
+        check(progress.done && !progress.more && progress.ranges == 0, "nothing has to move");
+        heap.compactUnaligned(none);
+        check(heap.makeRoomUnaligned(10, none).possible && !heap.relocateUnaligned(second), "without alignments");
+        check(!heap.makeRoomAligned(10, 0, none).possible, "no alignment");
+        // without a step nothing moves, and nothing is written, nor goes a name to another call
+        check(heap.raiseStep(4294967291u) && heap->step() == 0, "no step");
+        heap.name("lost");
+        check(!heap.compact(none) && !heap.compactWithin(0, 9, 9, none).done && !heap.makeRoom(10, none).possible, "refused");
+        check(!heap.makeRoomAligned(10, 1, none).possible && !heap.relocate(second) && !heap.relocate(end) && heap.allocate(1), "and a request");
+    }
+    check(of(file, path) == "space 1000 nodes 32 index 32\nalloc 50\nalign 24 24\nalign 16 16\nfree 1\ncompact 48\nroom 950 1 48\nroom 700 32 48\nrelocate 2 24\n"
+          "at 200 8\nrelocate 4 8\nfree 4\ncompact 48 5 6 7\ncompact\nroom 10\nrelocate 3\n# lost\n\nrelocate 0\nalloc 1\n", "the steps");
+}
+
+// A pass of handles and of tickets by a step.
+static Progress pass(Recorded<Allocator> &heap, uint32 step, uint32 from, uint32 units, uint32 ranges) {
+    return heap.compactWithin(step, from, units, ranges, [](Move) {});
+}
+static Progress pass(Recorded<GuardedAllocator> &heap, uint32 step, uint32 from, uint32 units, uint32 ranges) {
+    return heap.compactWithinBy(step, from, units, ranges, [](Move) {});
+}
+
 // 30 free units, 10 live, 8 live, 52 free: either budget alone stops before the second range, and the line has what was passed.
 template <class A> static void budgets(const std::string &path) {
     struct Row { uint32 units, ranges, moved; };
@@ -97,7 +136,7 @@ template <class A> static void budgets(const std::string &path) {
         Recorded<A> heap(file, 100, 16);
         auto hole = heap.allocate(30);
         heap.allocate(10), heap.allocate(8);
-        check(heap.free(hole) && heap.compactWithin(1, 0, row.units, row.ranges, [](Move) {}).ranges == row.moved, "as many ranges as the budget allows");
+        check(heap.free(hole) && pass(heap, 1, 0, row.units, row.ranges).ranges == row.moved, "as many ranges as the budget allows");
         check(of(file, path) == "space 100 nodes 16 index 32\nalloc 30\nalloc 10\nalloc 8\nfree 1\ncompact 1 0 " + std::to_string(row.units) + " " + std::to_string(row.ranges) + "\n",
               "the budget as it was passed");
     }
@@ -238,7 +277,7 @@ static void several(const std::string &path) {
     check(textures.allocate(5).offset == 0 && meshes.allocate(20), "requests");
     check(meshes.raiseLimit(9) && meshes.makeRoom(70, [](Move) {}).possible, "room");
     check(of(file, path) == "heap 0 space 100 nodes 8 index 32\n# the textures\nheap 1 space 50 nodes 8 index 32\nheap 2 space 9 nodes 8 index 32\n#! unit 32 heap 0\n#! unit 65536 heap 1\n#! frame\n#! time 18446744073709551615\n#! mark a level\n#! frame\n# lost\n\n"
-          "heap 1 alloc 5\n# mesh rock\nheap 0 alloc 20\nheap 0 space 100 nodes 9 index 32\nheap 0 at 0 100\nheap 0 shrink 1 20\n#! begun\nheap 0 room 70\n",
+          "heap 1 alloc 5\n# mesh rock\nheap 0 alloc 20\nheap 0 space 100 nodes 9 index 32\nheap 0 at 0 100\nheap 0 shrink 1 20\n#! begun\nheap 0 room 70 1 1\n",
           "one file");
 }
 
@@ -327,10 +366,33 @@ static uint32_t alignment(uint64_t &state, uint32_t bits) {
 template <class A> static void frees(const A &space, std::vector<bool> &order) {
     std::vector<uint8_t> bytes;
     check(space.save(bytes), "a state");
-    size_t at = bytes[0] == 'O' && bytes[1] == 'A' && bytes[2] == 'T' ? 8 * (6 + size_t(bytes[16] | bytes[17] << 8)) : 0;
+    size_t at = bytes[0] == 'O' && bytes[1] == 'A' && bytes[2] == 'T' ? 8 * (7 + size_t(bytes[16] | bytes[17] << 8)) : 0;
     auto word = [&](size_t i) { return uint32_t(bytes[at + 4 * i] | bytes[at + 4 * i + 1] << 8 | bytes[at + 4 * i + 2] << 16) | uint32_t(bytes[at + 4 * i + 3]) << 24; };
     uint32_t count = word(4), free = word(5), first = word(7 + 2 * (count - 1));
     for (uint32_t i = free; i-- > 0;) order.push_back(word(7 + 2 * count + i) == first);
+}
+
+// The answer of a call that makes room or compacts by the step of tickets, and of handles by none.
+static const char *compacted(Recorded<Allocator> &heap) {
+    heap.compact([](Move) {});
+    return "compacted\n";
+}
+static const char *compacted(Recorded<GuardedAllocator> &heap) {
+    bool has = heap->step() != 0, done = heap.compact([](Move) {});
+    check(has || !done, "nothing moves without a step");
+    return done ? "compacted\n" : has ? "none\n" : "";
+}
+static bool hasStep(const Allocator &) { return true; }
+static bool hasStep(const GuardedAllocator &space) { return space.step() != 0; }
+// What tickets have besides, kind of 5: a call by the step, or one without. Whether it is one of those with a cost, and its cost.
+static bool besides(Recorded<Allocator> &, uint64_t &, RoomCost &, Progress &, int &) { return false; }
+static bool besides(Recorded<GuardedAllocator> &heap, uint64_t &state, RoomCost &cost, Progress &progress, int &kind) {
+    kind = int(below(state, 4));
+    if (kind == 0) cost = heap.makeRoomAligned(below(state, 3000), alignment(state, 5), [](Move) {});
+    if (kind == 1) cost = heap.makeRoomUnaligned(below(state, 3000), [](Move) {});
+    if (kind == 2) progress = heap.compactWithin(below(state, 3000), below(state, 500), below(state, 9), [](Move) {});
+    if (kind == 3) heap.compactUnaligned([](Move) {});
+    return true;
 }
 
 template <class A, class H> static void randomCalls(uint64_t seed, const std::string &path) {
@@ -353,8 +415,23 @@ template <class A, class H> static void randomCalls(uint64_t seed, const std::st
                 if (cost.possible) std::fprintf(answers, "ranges %u units %u\n", cost.ranges, cost.units);
                 else std::fputs("none\n", answers);
             };
-            uint32_t kind = below(state, 26);
-            if (kind == 25) {
+            auto passed = [&](Progress progress) {
+                if (!progress.done) std::fputs("none\n", answers);
+                else if (!progress.more) std::fprintf(answers, "ranges %u units %u end\n", progress.ranges, progress.units);
+                else std::fprintf(answers, "ranges %u units %u next %u\n", progress.ranges, progress.units, progress.next);
+            };
+            const bool has = hasStep(*heap);
+            uint32_t kind = below(state, 28);
+            if (kind >= 26) {
+                RoomCost cost = {false, 0, 0};
+                Progress progress = {false, false, 0, 0, 0};
+                int of = 0;
+                if (!besides(heap, state, cost, progress, of)) continue;
+                if (of == 1 || (of == 0 && has)) room(cost);
+                if (of == 2 && has) passed(progress);
+                if (of == 3) std::fputs("compacted\n", answers);
+                check(has || (of != 0 && of != 2) || (!cost.possible && !progress.done), "nothing moves without a step");
+            } else if (kind == 25) {
                 granted(heap.allocateAt(below(state, 5000), below(state, 100)));
             } else if (kind == 24) {
                 // another space takes the place of this one: each live range is a grant, and so is a free block at the start
@@ -388,18 +465,18 @@ template <class A, class H> static void randomCalls(uint64_t seed, const std::st
             } else if (kind < 8 || live.empty()) {
                 granted(kind < 2 ? heap.allocateAligned(below(state, 200), alignment(state, 7)) : heap.allocate(below(state, 300)));
             } else if (kind == 23) {
-                Progress progress = heap.compactWithin(1 + below(state, 20), below(state, 3000), below(state, 500), below(state, 9), [](Move) {});
-                if (!progress.done) std::fputs("none\n", answers);
-                else if (!progress.more) std::fprintf(answers, "ranges %u units %u end\n", progress.ranges, progress.units);
-                else std::fprintf(answers, "ranges %u units %u next %u\n", progress.ranges, progress.units, progress.next);
+                const uint32_t step = 1 + below(state, 20), from = below(state, 3000), units = below(state, 500), ranges = below(state, 9);
+                passed(pass(heap, step, from, units, ranges));
             } else if (kind == 22) {
                 room(heap.makeRoomBy(below(state, 3000), alignment(state, 5), 1 + below(state, 40), [](Move) {}));
             } else if (kind == 21) {
-                room(heap.makeRoom(below(state, 3000), [](Move) {}));
+                RoomCost cost = heap.makeRoom(below(state, 3000), [](Move) {});
+                if (has) room(cost);
             } else if (kind == 20) {
                 std::fputs(heap.retract(below(state, 20)) ? "retracted\n" : "none\n", answers);
             } else if (kind == 19) {
-                granted(heap.relocate(live[below(state, uint32_t(live.size()))]));
+                H second = heap.relocate(live[below(state, uint32_t(live.size()))]);
+                if (has) granted(second);
             } else if (kind == 18) {
                 granted(below(state, 2) ? heap.allocateTight(below(state, 300)) : heap.allocateTightAligned(below(state, 200), alignment(state, 7)));
             } else if (kind == 17) {
@@ -407,8 +484,7 @@ template <class A, class H> static void randomCalls(uint64_t seed, const std::st
             } else if (kind == 16) {
                 granted(heap.relocateAligned(live[below(state, uint32_t(live.size()))], alignment(state, 7)));
             } else if (kind == 15) {
-                heap.compact([](Move) {});
-                std::fputs("compacted\n", answers);
+                std::fputs(compacted(heap), answers);
             } else if (kind == 14) {
                 std::fputs(heap.extend(below(state, 20)) ? "extended\n" : "none\n", answers);
             } else {
@@ -480,6 +556,7 @@ static void randomHeaps(uint64_t seed, const std::string &path) {
 int main(int, char **arguments) {
     std::string folder = arguments[1];
     byHand(folder + "/hand.script");
+    byTheStep(folder + "/step.script");
     budgets<Allocator>(folder + "/budgets.script");
     budgets<GuardedAllocator>(folder + "/budgets.script");
     beginnings(folder + "/begun.script");

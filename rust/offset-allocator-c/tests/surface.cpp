@@ -207,6 +207,14 @@ static void atTheLastNumber() {
     CHECK(!a.wouldBegin(1, 1).granted && !a.wouldBegin(1, 1).offset && !g.wouldBegin(1, 1).granted && !g.wouldBegin(0, 0).granted);
 }
 
+// A pass of handles and of tickets by a step.
+static Progress within(Allocator &space, uint32 step, uint32 units, uint32 ranges) {
+    return space.compactWithin(step, 0, units, ranges, [](Move) {});
+}
+static Progress within(GuardedAllocator &space, uint32 step, uint32 units, uint32 ranges) {
+    return space.compactWithinBy(step, 0, units, ranges, [](Move) {});
+}
+
 // Two ranges of 100 and 50 units behind a hole: either budget alone stops a compaction before the second.
 template <class A> static void budgets() {
     struct Row { uint32 units, ranges, moved; };
@@ -214,7 +222,7 @@ template <class A> static void budgets() {
         A space(1000, 16);
         auto hole = space.allocate(300);
         space.allocate(100), space.allocate(50);
-        CHECK(space.free(hole) && space.compactWithin(1, 0, row.units, row.ranges, [](Move) {}).ranges == row.moved);
+        CHECK(space.free(hole) && within(space, 1, row.units, row.ranges).ranges == row.moved);
     }
 }
 
@@ -523,8 +531,10 @@ static void tickets() {
     CHECK(g.refusalTight(86) == Refusal::granted && g.refusalTightAligned(87, 2) == Refusal::fragmented && !g.allocateTight(87));
     Ticket filled = g.allocateTightAligned(86, 2);
     CHECK(filled && g.offsetOf(filled) == 42 && g.free(filled) && g.free(g.allocateTight(86)));
-    RoomCost cost = g.roomCost(88);
-    CHECK(cost.possible && cost.units == 10 && cost.ranges == 1 && g.roomCost(80).ranges == 0 && !g.roomCost(99).possible);
+    // the step is 32, which the 12 free units have not
+    RoomCost cost = g.roomCostUnaligned(88);
+    CHECK(cost.possible && cost.units == 10 && cost.ranges == 1 && g.roomCost(80).ranges == 0 && !g.roomCostUnaligned(99).possible);
+    CHECK(g.step() == 32 && !g.roomCost(88).possible && g.roomCost(80).possible && !g.roomCostAligned(80, 8).possible && g.roomCostAligned(72, 8).possible);
     Statistics sums = g.statistics();
     CHECK(sums.freeUnits == 98 && g.freeUnits() == 98 && sums.liveUnits == g.liveUnits() && !g.isEmpty());
     CHECK(sums.liveRanges + sums.freeBlocks == 4 && sums.unusedNodes + 4 == g.maxAllocs());
@@ -545,7 +555,7 @@ static void tickets() {
     CHECK(g.wouldBegin(1, 1).granted && g.wouldBegin(1, 1).offset == 0 && !g.wouldBegin(1, 0).granted);
     // 32 units are three steps of 10, and 2
     GuardedAllocator bit = g.clone();
-    CHECK(bit.compactWithin(10, 0, 1, 1, [&](Move m) { CHECK(m.to == 2); }).units == 10 && bit.offsetOf(v) == 2);
+    CHECK(bit.compactWithinBy(10, 0, 1, 1, [&](Move m) { CHECK(m.to == 2); }).units == 10 && bit.offsetOf(v) == 2);
     GuardedAllocator stepped = g.clone();
     CHECK(stepped.compactBy(10, [&](Move m) { to.push_back(m.to); CHECK(m.from == 32 && m.size == 10); }));
     CHECK(to == (std::vector<uint32>{2}) && stepped.isLive(v) && stepped.offsetOf(v) == 2 && !stepped.compactBy(0, [](Move) {}));
@@ -564,8 +574,9 @@ static void tickets() {
     g.extend(1);
     Ticket w = g.allocate(1);
     g.free(v);
+    CHECK(g.compact([](Move) { CHECK(false); }) && g.offsetOf(w) == 10);
     try {
-        g.compact([](Move) { throw std::runtime_error("stop"); });
+        g.compactUnaligned([](Move) { throw std::runtime_error("stop"); });
     } catch (const std::runtime_error &) {
         caught = true;
     }
@@ -591,6 +602,105 @@ static void tickets() {
     std::vector<GuardedAllocator> several;
     for (uint32 i = 0; i < 5; i++) several.push_back(GuardedAllocator::withRealm(100 * i, 16, i));
     CHECK(several[4].allocate(200).realm == 4 && !several[0].allocate(1));
+}
+
+// What goes by the step of the space: 300 live, 212 free, 140 live from 512 on, 348 free, and then 512 free before it.
+static void byTheStep() {
+    GuardedAllocator g(1000, 16);
+    const auto never = [](Move) { CHECK(false); };
+    int moves = 0;
+    const auto count = [&](Move m) { CHECK(m.from == 512 && m.to == 0 && m.size == 140); moves++; };
+    Ticket first = g.allocate(300), mesh = g.allocateAligned(140, 256);
+    CHECK(g.step() == 256 && g.offsetOf(mesh) == 512 && g.compact(never) && g.compactWithin(0, 9, 9, never).ranges == 0);
+    CHECK(!g.makeRoom(500, never).possible && !g.roomCost(500).possible && g.roomCostUnaligned(500).units == 140 && !g.relocate(mesh));
+    CHECK(!g.makeRoomAligned(300, 0, never).possible && !g.roomCostAligned(300, 0).possible && g.free(first));
+    CHECK(g.roomCost(832).units == 140 && !g.roomCost(833).possible && g.roomCostAligned(800, 32).ranges == 1);
+    GuardedAllocator a = g.clone(), b = g.clone(), c = g.clone(), d = g.clone(), e = g.clone();
+    CHECK(a.makeRoom(832, count).units == 140 && a.offsetOf(mesh) == 0 && a.allocate(832));
+    CHECK(b.makeRoomAligned(800, 32, count).ranges == 1 && b.allocateAligned(800, 32));
+    CHECK(c.compact(count) && c.offsetOf(mesh) == 0 && d.compactWithin(0, 1, 1, count).units == 140 && d.offsetOf(mesh) == 0 && moves == 4);
+    Ticket second = e.relocate(mesh);
+    CHECK(e.offsetOf(second) == 0 && e.isLive(mesh) && e.step() == 256 && e.free(mesh) && !e.relocate(mesh));
+    // and by none: 460 free, 8 units from 600 on, 392 free
+    Ticket given = e.allocateAt(600, 8);
+    CHECK(e.makeRoomUnaligned(832, [](Move) {}).ranges == 1 && e.offsetOf(given) == 140 && e.free(second));
+    CHECK(e.offsetOf(e.relocateUnaligned(given)) == 0);
+    e.compactUnaligned([](Move) {});
+    CHECK(e.offsetOf(given) == 8);
+    // without a step nothing moves, and an exception of a move goes on to the caller
+    CHECK(g.raiseStep(4294967291u) && g.step() == 0 && !g.compact(never) && !g.compactWithin(0, 9, 9, never).done && !g.relocate(mesh));
+    CHECK(!g.makeRoom(1, never).possible && !g.makeRoomAligned(1, 1, never).possible && !g.roomCost(1).possible && !g.roomCostAligned(1, 1).possible);
+    GuardedAllocator thrown(1000, 16);
+    int caught = 0;
+    for (int kind = 0; kind < 6; kind++) {
+        thrown.reset();
+        Ticket hole = thrown.allocate(256);
+        mesh = thrown.allocateAligned(100, 256);
+        CHECK(thrown.free(hole));
+        const auto stop = [](Move) { throw std::runtime_error("stop"); };
+        try {
+            if (kind == 0) thrown.compact(stop);
+            else if (kind == 1) thrown.compactWithin(0, 1, 1, stop);
+            else if (kind == 2) thrown.makeRoom(896, stop);
+            else if (kind == 3) thrown.makeRoomAligned(800, 32, stop);
+            else if (kind == 4) thrown.compactUnaligned(stop);
+            else thrown.makeRoomUnaligned(896, stop);
+        } catch (const std::runtime_error &) {
+            caught++;
+        }
+        CHECK(thrown.offsetOf(mesh) == 0);
+    }
+    CHECK(caught == 6);
+}
+
+// Random calls, and whatever moves, is copied, stored and read: each range that was granted at a multiple of an alignment begins
+// at one as long as it lives, and the others keep the multiple of 4 at which they were.
+static void everyAlignment() {
+    uint64_t state = 88172645463325252u;
+    const auto below = [&](uint32 n) {
+        state = state * 6364136223846793005u + 1442695040888963407u;
+        return uint32((state >> 33) % n);
+    };
+    struct Held { Ticket ticket; uint32 align; };
+    const uint32 families[3][3] = {{12, 20, 32}, {4, 256, 4096}, {4, 36, 7}};
+    uint32 moves = 0;
+    for (int i = 0; i < 300; i++) {
+        GuardedAllocator g(20000, 100);
+        std::vector<Held> held;
+        CHECK(g.raiseStep(4));
+        for (int call = 0; call < 400; call++) {
+            const uint32 align = families[i % 3][below(3)], size = below(1u << below(11)), kind = below(16);
+            const auto note = [&](Move m) { moves += m.to < m.from; };
+            Ticket found;
+            uint32 of = align;
+            if (kind < 4) found = g.allocateAligned(size, align);
+            else if (kind == 4) found = g.allocateTightAligned(size, align);
+            else if (kind == 5) found = g.allocateAt(below(5000) * (of = 4), size);
+            else if (kind < 9 && !held.empty()) {
+                const size_t place = below(uint32(held.size()));
+                CHECK(g.free(held[place].ticket));
+                held.erase(held.begin() + long(place));
+            } else if (kind == 9 && !held.empty()) {
+                Held &old = held[below(uint32(held.size()))];
+                const Ticket second = g.relocate(old.ticket);
+                if (second && g.free(old.ticket)) old.ticket = second;
+                moves += bool(second);
+            } else if (kind == 10) g.compact(note);
+            else if (kind == 11) g.compactWithin(below(20000), size, 1 + below(4), note);
+            else if (kind == 12) g.makeRoom(size * 8, note);
+            else if (kind == 13) g.makeRoomAligned(size * 8, align, note);
+            else if (kind == 14) g = g.clone();
+            else {
+                std::vector<uint8_t> bytes;
+                CHECK(g.save(bytes));
+                g = std::move(GuardedAllocator::load(bytes.data(), bytes.size()).space);
+            }
+            if (found) held.push_back({found, of});
+            for (const Held &one : held)
+                if (g.offsetOf(one.ticket) % one.align) CHECK(false);
+        }
+    }
+    CHECK(moves > 2000);
 }
 
 // As README has them: no ticket of one is live in the other.
@@ -703,6 +813,8 @@ int main() {
     questions();
     questionsOfTickets();
     tickets();
+    byTheStep();
+    everyAlignment();
     realms();
     std::printf("C++: %d checks pass\n", checks);
 }

@@ -118,11 +118,11 @@ static void by_steps(void) {
     space = oag_with_realm(1000, 16, 9);
     hole = oag_allocate(space, 300), mesh = oag_allocate(space, 100);
     oag_ticket next = oag_allocate(space, 50);
-    CHECK(oag_free(space, hole) && !oag_compact_within(space, 0, 0, 100, 1, count, &moves).done && !oag_compact_within(NULL, 1, 0, 1, 1, count, &moves).done);
-    oa_progress far = oag_compact_within(space, 256, 0, 149, 8, count, &moves);
+    CHECK(oag_free(space, hole) && !oag_compact_within_by(space, 0, 0, 100, 1, count, &moves).done && !oag_compact_within_by(NULL, 1, 0, 1, 1, count, &moves).done);
+    oa_progress far = oag_compact_within_by(space, 256, 0, 149, 8, count, &moves);
     CHECK(far.done && far.more && far.units == 100 && far.ranges == 1 && far.next == 400 && moves == 2);
     CHECK(oag_offset_of(space, mesh) == 44 && oag_offset_of(space, next) == 400);
-    far = oag_compact_within(space, 256, far.next, 49, 0, NULL, NULL);
+    far = oag_compact_within_by(space, 256, far.next, 49, 0, NULL, NULL);
     CHECK(far.done && !far.more && far.units == 50 && far.next == 0 && oag_offset_of(space, next) == 144);
     oag_drop(space);
     /* 100 and 50 units are two ranges: either budget alone stops before the second */
@@ -130,7 +130,7 @@ static void by_steps(void) {
     for (int i = 0; i < 4; i++) {
         space = oag_with_realm(1000, 16, 9);
         hole = oag_allocate(space, 300), oag_allocate(space, 100), oag_allocate(space, 50);
-        CHECK(oag_free(space, hole) && oag_compact_within(space, 256, 0, budgets[i][0], budgets[i][1], NULL, NULL).ranges == budgets[i][2]);
+        CHECK(oag_free(space, hole) && oag_compact_within_by(space, 256, 0, budgets[i][0], budgets[i][1], NULL, NULL).ranges == budgets[i][2]);
         oag_drop(space);
     }
     /* no node is left for a free block at the end */
@@ -140,6 +140,52 @@ static void by_steps(void) {
     oag_free(space, hole);
     oag_allocate(space, 5);
     CHECK(!oag_compact_by(space, 4, count, &moves) && oag_offset_of(space, mesh) == 12 && oag_compact_by(space, 8, NULL, NULL));
+    oag_drop(space);
+}
+
+/* what goes by the step of the space: 300 live, 212 free, 140 live from 512 on, 348 free, and then 512 free before it */
+static void by_the_step(void) {
+    oag_allocator *space = oag_with_realm(1000, 16, 9);
+    int moves = 0;
+    oag_ticket first = oag_allocate(space, 300), hole = oag_allocate(space, 20), mesh = oag_allocate_aligned(space, 140, 256);
+    CHECK(oag_step(space) == 256 && oag_offset_of(space, mesh) == 512 && oag_free(space, hole));
+    /* no step of 256 is free before it */
+    CHECK(oag_compact(space, count, &moves) && !moves && !oag_room_cost(space, 500).possible && !oag_make_room(space, 500, count, &moves).possible);
+    CHECK(oag_room_cost_unaligned(space, 500).units == 140 && oag_refusal(space, 500) == OA_FRAGMENTED && !oag_relocate(space, mesh).serial);
+    CHECK(oag_make_room_aligned(space, 300, 2, count, &moves).possible && oag_room_cost_aligned(space, 300, 2).ranges == 0 && !moves);
+    CHECK(!oag_room_cost_aligned(space, 300, 0).possible && !oag_make_room_aligned(space, 300, 0, count, &moves).possible);
+    /* two steps, and 860 units together, the class of 832 */
+    CHECK(oag_free(space, first));
+    oa_room room = oag_room_cost_aligned(space, 800, 32);
+    CHECK(room.possible && room.units == 140 && room.ranges == 1 && oag_room_cost(space, 832).units == 140 && !oag_room_cost(space, 833).possible);
+    oag_allocator *other = oag_clone(space), *third = oag_clone(space);
+    room = oag_make_room_aligned(other, 800, 32, NULL, NULL);
+    CHECK(room.possible && room.ranges == 1 && oag_offset_of(other, mesh) == 0 && oag_allocate_aligned(other, 800, 32).serial);
+    CHECK(oag_make_room(third, 832, NULL, NULL).units == 140 && oag_offset_of(third, mesh) == 0 && oag_allocate(third, 832).serial);
+    /* the offset 512 and the step have 256 in common: 140 + 255 units are in the first block alone */
+    oag_ticket second = oag_relocate(space, mesh);
+    CHECK(second.serial == 4 && oag_offset_of(space, second) == 0 && oag_step(space) == 256 && oag_free(space, mesh) && !oag_relocate(space, mesh).serial);
+    /* 560 free units are two steps and 48: from 700 to 188, which has 4 in common with the step */
+    oag_ticket given = oag_allocate_at(space, 700, 8);
+    oa_progress far = oag_compact_within(space, 0, 8, 1, NULL, NULL);
+    CHECK(far.done && far.ranges == 1 && far.units == 8 && oag_offset_of(space, given) == 188);
+    CHECK(oag_offset_of(space, oag_relocate(space, given)) == 140 && !oag_compact_within(NULL, 0, 8, 1, NULL, NULL).done);
+    /* those that keep none */
+    oag_ticket any = oag_relocate_unaligned(space, given);
+    CHECK(oag_offset_of(space, any) == 148 && !oag_relocate_unaligned(NULL, given).serial && oag_step(space) == 256);
+    CHECK(oag_make_room_unaligned(space, 800, NULL, NULL).ranges == 1 && oag_offset_of(space, given) == 156);
+    CHECK(oag_free(space, second));
+    oag_compact_unaligned(space, NULL, NULL);
+    CHECK(oag_offset_of(space, given) == 16 && !oag_make_room_unaligned(NULL, 0, NULL, NULL).possible && !oag_room_cost_unaligned(NULL, 0).possible);
+    oag_compact_unaligned(NULL, NULL, NULL);
+    /* without a step nothing moves */
+    CHECK(oag_free(space, oag_live_at(space, 0)) && oag_raise_step(space, 4294967291u) && oag_step(space) == 0);
+    CHECK(!oag_compact(space, count, &moves) && !oag_compact_within(space, 0, 9, 9, count, &moves).done && !oag_relocate(space, given).serial);
+    CHECK(!oag_make_room(space, 1, count, &moves).possible && !oag_make_room_aligned(space, 1, 1, count, &moves).possible && !moves);
+    CHECK(!oag_room_cost(space, 1).possible && !oag_room_cost_aligned(space, 1, 1).possible && oag_offset_of(space, given) == 16);
+    CHECK(!oag_compact(NULL, count, &moves) && !oag_make_room_aligned(NULL, 1, 1, count, &moves).possible && !oag_room_cost_aligned(NULL, 1, 1).possible);
+    oag_drop(third);
+    oag_drop(other);
     oag_drop(space);
 }
 
@@ -408,7 +454,7 @@ static void nulls(void) {
     CHECK(!oag_blocks_new(NULL) && !oag_ticket_of(NULL, handle).serial);
     CHECK(oag_refusal_aligned(NULL, 1, 1) == OA_BAD_CALL && !oag_storage_report_full(NULL).free_regions[0].count);
     CHECK(!oag_statistics(NULL).unused_nodes);
-    CHECK(!oag_room_cost(NULL, 0).possible && !oag_make_room(NULL, 0, NULL, NULL).possible);
+    CHECK(!oag_room_cost(NULL, 0).possible && !oag_make_room(NULL, 0, NULL, NULL).possible && !oag_compact(NULL, NULL, NULL));
     oag_walk_start(NULL, &walk);
     CHECK(oa_walk_next(&walk).kind == OA_END);
     CHECK(oag_refusal_tight(NULL, 1) == OA_BAD_CALL && oag_refusal_tight_aligned(NULL, 1, 1) == OA_BAD_CALL);
@@ -417,7 +463,6 @@ static void nulls(void) {
     CHECK(none.serial == 0 && !oag_free(NULL, none) && !oag_is_live(NULL, none) && !oag_extend(NULL, 1));
     CHECK(oag_refusal(NULL, 1) == OA_BAD_CALL && oag_offset_of(NULL, none) == OA_NO_SPACE);
     oag_reset(NULL);
-    oag_compact(NULL, NULL, NULL);
 }
 
 /* a million tickets of random numbers, between real ones: none touches a live range */
@@ -452,11 +497,98 @@ static void random_tickets(void) {
     oag_drop(space);
 }
 
+/* Random calls, and whatever moves, is copied, stored and read: each range that was granted at a multiple of an alignment begins
+ * at one as long as it lives. The step is the least common multiple, of which a multiple is looked for here. */
+static void every_alignment(void) {
+    static const uint32_t families[4][4] = {{1, 16, 256, 4096}, {12, 20, 32, 48}, {1, 3, 5, 8}, {7, 101, 4093, 8191}};
+    enum { MOST = 80 };
+    static oag_ticket held[MOST];
+    static uint32_t aligns[MOST];
+    long moves = 0, ends = 0;
+    for (int i = 0; i < 600; i++) {
+        oag_allocator *space = oag_with_realm((uint32_t) (next() % 20000), 2 + (uint32_t) (next() % 80), 1);
+        uint32_t step = 1;
+        int live = 0;
+        CHECK(space);
+        for (int call = 0; call < 400; call++) {
+            uint32_t align = families[i % 4][next() % 4], size = (uint32_t) (next() % (1u << (next() % 11)));
+            uint32_t before = OA_NO_SPACE, place = live ? (uint32_t) (next() % (unsigned) live) : 0;
+            uint64_t kind = next() % 24;
+            oag_ticket found = {0, 0, 0};
+            for (int k = 0; k < live; k++) before = before * 31 + oag_offset_of(space, held[k]);
+            if (kind < 3) {
+                align = 1;
+                found = oag_allocate(space, size);
+            } else if (kind < 9) {
+                found = oag_allocate_aligned(space, size, align);
+            } else if (kind < 10) {
+                found = oag_allocate_tight_aligned(space, size, align);
+            } else if (kind < 15 && live) {
+                if (!oag_free(space, held[place])) CHECK(0);
+                held[place] = held[--live];
+                aligns[place] = aligns[live];
+            } else if (kind == 15 && live) {
+                oag_ticket second = oag_relocate(space, held[place]);
+                if (second.serial) {
+                    if (!step || !oag_free(space, held[place])) CHECK(0);
+                    held[place] = second;
+                }
+            } else if (kind == 16) {
+                if (oag_compact(space, NULL, NULL) && !step) CHECK(0);
+            } else if (kind == 17) {
+                if (oag_compact_within(space, (uint32_t) (next() % 20000), size, 1 + (uint32_t) (next() % 4), NULL, NULL).done && !step) CHECK(0);
+            } else if (kind == 18) {
+                oa_room room = oag_room_cost(space, size), made = oag_make_room(space, size, NULL, NULL);
+                if (room.possible != made.possible || room.units != made.units || room.ranges != made.ranges) CHECK(0);
+                if (made.possible && oag_refusal(space, size) != OA_GRANTED) CHECK(0);
+            } else if (kind == 19) {
+                oa_room room = oag_room_cost_aligned(space, size, align), made = oag_make_room_aligned(space, size, align, NULL, NULL);
+                if (room.possible != made.possible || room.units != made.units || room.ranges != made.ranges) CHECK(0);
+                if (made.possible && oag_refusal_aligned(space, size, align) != OA_GRANTED) CHECK(0);
+            } else if (kind == 20) {
+                oag_allocator *copy = oag_clone(space);
+                oag_drop(space);
+                space = copy;
+            } else if (kind == 21) {
+                oa_state *state = oag_write_state(space);
+                oag_read read = oag_read_state(state, 1000);
+                oag_drop(space);
+                oa_state_drop(state);
+                space = read.space;
+            } else if (kind == 22 && next() % 8 == 0) {
+                oag_reset(space);
+                live = 0;
+                step = 1;
+            } else {
+                oag_extend(space, (uint32_t) (next() % 4));
+            }
+            if (found.serial) {
+                uint64_t all = step;
+                while (all % align) all += step;
+                step = all > 4294967295u ? 0 : (uint32_t) all;
+                held[live] = found;
+                aligns[live++] = align;
+            }
+            if (!space || live > MOST || oag_step(space) != step) CHECK(0);
+            uint32_t after = OA_NO_SPACE;
+            for (int k = 0; k < live; k++) {
+                if (oag_offset_of(space, held[k]) % aligns[k]) CHECK(0);
+                after = after * 31 + oag_offset_of(space, held[k]);
+            }
+            moves += kind >= 15 && kind < 20 && after != before;
+        }
+        ends += step == 0;
+        oag_drop(space);
+    }
+    CHECK(moves > 2000 && ends > 0);
+}
+
 int main(void) {
     stale();
     realms();
     to_a_multiple();
     by_steps();
+    by_the_step();
     room_by_steps();
     at_the_last_number();
     from_the_end();
@@ -469,6 +601,7 @@ int main(void) {
     nulls();
     dumps();
     random_tickets();
+    every_alignment();
     printf("C: %d checks of tickets pass\n", checks);
     return 0;
 }

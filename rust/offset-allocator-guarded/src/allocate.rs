@@ -5,7 +5,7 @@
 use crate::GuardedOf;
 use crate::refusal::Refusal;
 use crate::serials::Serials;
-use crate::step::joined;
+use crate::step::{common_divisor, joined};
 use crate::ticket::Ticket;
 use offset_allocator::{Accesses, Allocation, AllocatorOf, Tables};
 
@@ -186,8 +186,41 @@ impl<T: Tables> GuardedOf<T> {
         }
     }
 
-    /// Grants a second range of as many units as that of a ticket, which begins before it: the one that
-    /// `Allocator::relocate` grants, with the next serial. The old ticket stays live until it is freed.
+    /// Grants a second range of as many units as that of a ticket, which begins before it, and **has every alignment
+    /// that was asked for**: the one that `relocate_aligned` grants for what the step and the offset of the range
+    /// have in common, their greatest common divisor. The old ticket stays live until it is freed.
+    ///
+    /// `None` is returned where that call returns `None`, or where the space has no step; then all is as it was.
+    ///
+    /// It makes at most 75 accesses to the tables of the allocator: 8 to see whether the name is live, and where,
+    /// which the allocator does not count, and 67 that it counts.
+    ///
+    /// ```
+    /// # use offset_allocator_guarded::*;
+    /// # let alloc = Global;
+    /// let mut guarded = Guarded::<u32>::new(alloc, 1000)?;
+    /// let hole = guarded.allocate(320).unwrap();
+    /// let mesh = guarded.allocate_aligned(200, 256).unwrap();
+    /// guarded.free(hole);
+    /// let moved = guarded.relocate(mesh).unwrap();
+    /// assert_eq!((mesh.offset, moved.offset), (512, 0));
+    /// guarded.free(mesh);
+    /// # Ok::<(), AllocError>(())
+    /// ```
+    pub fn relocate(&mut self, ticket: Ticket) -> Option<Ticket> {
+        let step = self.step_number();
+        if step == 0 {
+            return None;
+        }
+        // one look at the tables says whether the ticket is live, and where its range begins
+        let handle = self.handle_fitting(ticket)?;
+        let offset = self.space.allocation_offset(handle)?;
+        self.second(handle, common_divisor(offset, step))
+    }
+
+    /// Grants a second range of as many units as that of a ticket, which begins before it, and **keeps no
+    /// alignment**: the one that `Allocator::relocate` grants, with the next serial. `relocate` keeps those that were
+    /// asked for. The old ticket stays live until it is freed.
     ///
     /// `None` is returned where that call returns `None`, where the ticket is not live, or where all serials
     /// are given; then all is as it was.
@@ -202,12 +235,12 @@ impl<T: Tables> GuardedOf<T> {
     /// let hole = guarded.allocate(320).unwrap();
     /// let mesh = guarded.allocate(320).unwrap();
     /// guarded.free(hole);
-    /// let moved = guarded.relocate(mesh).unwrap();
+    /// let moved = guarded.relocate_unaligned(mesh).unwrap();
     /// assert_eq!((mesh.offset, moved.offset), (320, 0));
     /// guarded.free(mesh);
     /// # Ok::<(), AllocError>(())
     /// ```
-    pub fn relocate(&mut self, ticket: Ticket) -> Option<Ticket> {
+    pub fn relocate_unaligned(&mut self, ticket: Ticket) -> Option<Ticket> {
         let handle = self.handle(ticket)?;
         if self.serials.is_spent() {
             return None;
@@ -249,6 +282,11 @@ impl<T: Tables> GuardedOf<T> {
     pub fn relocate_aligned(&mut self, ticket: Ticket, align: u32) -> Option<Ticket> {
         assert!(1 <= align, "the alignment must be at least 1");
         let handle = self.handle(ticket)?;
+        self.second(handle, align)
+    }
+
+    // Grants the second range of a live handle at a multiple of `align`, with the next serial.
+    fn second(&mut self, handle: Allocation<T::Index>, align: u32) -> Option<Ticket> {
         if self.serials.is_spent() {
             return None;
         }

@@ -183,11 +183,12 @@ impl<T: Tables> GuardedOf<T> {
         assert!(max_allocs < T::Index::MAX - 1, "max_allocs must be at most NI::MAX - 2");
         let serials = self.serials.try_clone(alloc, max_allocs)?;
         let space = self.space.raised(alloc, max_allocs)?;
+        let step = self.step;
         Ok(GuardedOf {
             space,
             serials,
             realm: self.realm,
-            step: self.step,
+            step,
         })
     }
 

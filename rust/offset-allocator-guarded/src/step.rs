@@ -6,8 +6,8 @@
 use crate::GuardedOf;
 use offset_allocator::Tables;
 
-// The greatest common divisor, by Euclid.
-fn common_divisor(first: u32, second: u32) -> u32 {
+/// The greatest common divisor, by Euclid.
+pub(crate) fn common_divisor(first: u32, second: u32) -> u32 {
     let mut divisor = first;
     let mut rest = second;
     while rest != 0 {

@@ -104,10 +104,10 @@ fn closures_are_taken_and_lent() {
     space.allocate(20).unwrap();
     space.free(first);
     let mut moves = Vec::new();
-    space.compact(|it| moves.push((it.from, it.to, it.size)));
+    space.compact_unaligned(|it| moves.push((it.from, it.to, it.size)));
     assert_eq!(moves, [(10, 0, 20)]);
     let mut again = |_| unreachable!();
-    space.compact(&mut again);
+    space.compact_unaligned(&mut again);
     space.compact_by(8, &mut again);
 }
 

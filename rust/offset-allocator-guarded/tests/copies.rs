@@ -21,7 +21,7 @@ fn call(space: &mut Guarded, held: &mut Vec<Ticket>, random: &mut Random) -> (Op
         (_, _) => {
             match random.below(40) {
                 0 => space.reset(),
-                _ => space.compact(|_| {}),
+                _ => space.compact_unaligned(|_| {}),
             }
             (None, true)
         }

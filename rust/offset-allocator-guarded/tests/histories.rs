@@ -279,7 +279,7 @@ impl<T: Tables> Space for GuardedOf<T> {
 
     fn compact(&mut self, mut moved: impl FnMut(u32, u32, u32)) -> Vec<Option<Ticket>> {
         let mut found = Vec::new();
-        self.compact(|range| {
+        self.compact_unaligned(|range| {
             moved(range.from, range.to, range.size);
             found.push(range.allocation());
         });

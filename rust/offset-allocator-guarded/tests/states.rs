@@ -87,7 +87,7 @@ impl<T: Tables<Index = u32>> Worked<T> {
             (7, Some(ticket)) => (self.space.grow_in_place(ticket, size).map_or(2, u64::from), None),
             _ => {
                 match random.below(60) {
-                    0 => self.space.compact(|_| {}),
+                    0 => self.space.compact_unaligned(|_| {}),
                     1 => {
                         self.space.reset();
                         self.step = Some(1);

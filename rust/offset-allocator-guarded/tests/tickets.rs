@@ -130,7 +130,7 @@ impl<NI: NodeIndex> Run<NI> {
         match self.numbers.below(64) {
             0 => {
                 let live = &mut self.live;
-                self.space.compact(|moved| {
+                self.space.compact_unaligned(|moved| {
                     for range in live.values_mut().filter(|range| range.offset == moved.from) {
                         range.offset = moved.to;
                     }

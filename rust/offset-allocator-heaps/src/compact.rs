@@ -17,7 +17,7 @@ pub(crate) fn compact_numbered<NI: NodeIndex, T: Tables<Index = NI>, F: FnMut(u3
     number: u32,
     moved: &mut F,
 ) {
-    heap.compact(&mut |range: Move<NI>| moved(number, range));
+    heap.compact_unaligned(&mut |range: Move<NI>| moved(number, range));
 }
 
 // Slides every live range of each heap to the front of its space.

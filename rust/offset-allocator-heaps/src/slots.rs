@@ -160,7 +160,7 @@ fn resize_in<T: Tables>(
 // Slides every live range of a heap to the front of its space.
 fn compact_in<T: Tables, F: FnMut(Move<T::Index>)>(slot: &mut Option<GuardedOf<T>>, moved: &mut F) {
     match slot {
-        Some(heap) => heap.compact(moved),
+        Some(heap) => heap.compact_unaligned(moved),
         None => unreachable!(),
     }
 }
@@ -184,7 +184,7 @@ fn make_room_in<T: Tables, F: FnMut(Move<T::Index>)>(
     moved: &mut F,
 ) -> Option<RoomCost> {
     match slot {
-        Some(heap) => heap.make_room(size, moved),
+        Some(heap) => heap.make_room_unaligned(size, moved),
         None => unreachable!(),
     }
 }

@@ -12,7 +12,8 @@ fn load(heap: &mut Heap, left: &mut Vec<Ticket>, name: &str, units: u32) -> Opti
     if let Some(found) = heap.name(name).allocate(units) {
         return Some(found);
     }
-    heap.compact(|_| ());
+    // no range asks for an alignment
+    heap.compact_unaligned(|_| ());
     if let Some(found) = heap.name(name).allocate(units) {
         return Some(found);
     }

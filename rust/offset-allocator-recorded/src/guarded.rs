@@ -125,10 +125,38 @@ impl<T: Tables, W: Write> Recorded<GuardedOf<T>, W> {
         self.space.grow_in_place(ticket, size)
     }
 
-    /// `GuardedOf::relocate`: for a ticket that is not live, `relocate 0` is written.
+    // The step of the space, by which a call goes that is written next. Where there is none it changes nothing, and is not
+    // written: a name that was given to it is that of no other call.
+    fn step_of_call(&mut self) -> Option<u32> {
+        let step = self.space.step();
+        if step.is_none() {
+            self.tape.unname();
+        }
+        step
+    }
+
+    /// `GuardedOf::relocate`: the line has the alignment that the range keeps by the step of the space. For a ticket that is
+    /// not live, `relocate 0` is written; where the space has no step, nothing.
     pub fn relocate(&mut self, ticket: Ticket) -> Option<Ticket> {
-        self.tape.write(format_args!("relocate {}", self.number(ticket)));
+        match self.space.offset_of(ticket) {
+            None => self.tape.write(format_args!("relocate 0")),
+            Some(offset) => {
+                let (mut align, mut rest) = (self.step_of_call()?, offset);
+                while rest != 0 {
+                    (align, rest) = (rest, align % rest);
+                }
+                self.tape.write(format_args!("relocate {} {align}", self.number(ticket)));
+            }
+        }
         let found = self.space.relocate(ticket)?;
+        self.tape.grant(found.name());
+        Some(found)
+    }
+
+    /// `GuardedOf::relocate_unaligned`: for a ticket that is not live, `relocate 0` is written.
+    pub fn relocate_unaligned(&mut self, ticket: Ticket) -> Option<Ticket> {
+        self.tape.write(format_args!("relocate {}", self.number(ticket)));
+        let found = self.space.relocate_unaligned(ticket)?;
         self.tape.grant(found.name());
         Some(found)
     }
@@ -156,10 +184,18 @@ impl<T: Tables, W: Write> Recorded<GuardedOf<T>, W> {
         self.space.retract(less)
     }
 
-    /// `GuardedOf::compact`.
-    pub fn compact<F: FnMut(Move<T::Index>)>(&mut self, moved: F) {
+    /// `GuardedOf::compact`: the line has the step of the space. Where it has none, nothing is written, as of each call here
+    /// that goes by it.
+    pub fn compact<F: FnMut(Move<T::Index>)>(&mut self, moved: F) -> bool {
+        let Some(step) = self.step_of_call() else { return false };
+        self.tape.write(format_args!("compact {step}"));
+        self.space.compact(moved)
+    }
+
+    /// `GuardedOf::compact_unaligned`.
+    pub fn compact_unaligned<F: FnMut(Move<T::Index>)>(&mut self, moved: F) {
         self.tape.write(format_args!("compact"));
-        self.space.compact(moved);
+        self.space.compact_unaligned(moved);
     }
 
     /// `GuardedOf::compact_by`: `step` has to be at least 1. For 0 it panics, and writes nothing.
@@ -170,9 +206,22 @@ impl<T: Tables, W: Write> Recorded<GuardedOf<T>, W> {
         self.space.compact_by(step, moved)
     }
 
-    /// `GuardedOf::compact_within`: as `compact_by`.
-    #[track_caller]
+    /// `GuardedOf::compact_within`: as `compact`.
     pub fn compact_within<F: FnMut(Move<T::Index>)>(
+        &mut self,
+        from: u32,
+        most_units: u32,
+        most_ranges: u32,
+        moved: F,
+    ) -> Option<Progress> {
+        let step = self.step_of_call()?;
+        self.tape.write(format_args!("compact {step} {from} {most_units} {most_ranges}"));
+        self.space.compact_within(from, most_units, most_ranges, moved)
+    }
+
+    /// `GuardedOf::compact_within_by`: as `compact_by`.
+    #[track_caller]
+    pub fn compact_within_by<F: FnMut(Move<T::Index>)>(
         &mut self,
         step: u32,
         from: u32,
@@ -182,13 +231,29 @@ impl<T: Tables, W: Write> Recorded<GuardedOf<T>, W> {
     ) -> Option<Progress> {
         self.check(step >= 1, "step must be at least 1");
         self.tape.write(format_args!("compact {step} {from} {most_units} {most_ranges}"));
-        self.space.compact_within(step, from, most_units, most_ranges, moved)
+        self.space.compact_within_by(step, from, most_units, most_ranges, moved)
     }
 
-    /// `GuardedOf::make_room`.
+    /// `GuardedOf::make_room`: as `compact`.
     pub fn make_room<F: FnMut(Move<T::Index>)>(&mut self, size: u32, moved: F) -> Option<RoomCost> {
-        self.tape.write(format_args!("room {size}"));
+        let step = self.step_of_call()?;
+        self.tape.write(format_args!("room {size} 1 {step}"));
         self.space.make_room(size, moved)
+    }
+
+    /// `GuardedOf::make_room_aligned`: as `compact`, and `align` has to be at least 1. For 0 it panics, and writes nothing.
+    #[track_caller]
+    pub fn make_room_aligned<F: FnMut(Move<T::Index>)>(&mut self, size: u32, align: u32, moved: F) -> Option<RoomCost> {
+        self.check(align >= 1, "the alignment must be at least 1");
+        let step = self.step_of_call()?;
+        self.tape.write(format_args!("room {size} {align} {step}"));
+        self.space.make_room_aligned(size, align, moved)
+    }
+
+    /// `GuardedOf::make_room_unaligned`.
+    pub fn make_room_unaligned<F: FnMut(Move<T::Index>)>(&mut self, size: u32, moved: F) -> Option<RoomCost> {
+        self.tape.write(format_args!("room {size}"));
+        self.space.make_room_unaligned(size, moved)
     }
 
     /// `GuardedOf::make_room_by`: `align` and `step` have to be at least 1. For 0 it panics, and writes nothing.
@@ -206,7 +271,7 @@ impl<T: Tables, W: Write> Recorded<GuardedOf<T>, W> {
         self.space.reset();
     }
 
-    /// `GuardedOf::raise_step`. No line is written, since each move has its step in its line.
+    /// `GuardedOf::raise_step`. No line is written, since each move by the step has it in its line.
     pub fn raise_step(&mut self, align: u32) {
         self.space.raise_step(align);
     }

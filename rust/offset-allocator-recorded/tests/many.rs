@@ -140,7 +140,7 @@ fn allocators_of_ones_own() {
         text,
         "heap 0 space 100 nodes 8 index 32\n# the textures\nheap 1 space 50 nodes 8 index 16\nheap 1 at 0 50\nheap 1 shrink 1 9\n#! begun\n#! frame\n# lost\n\n\
          heap 1 alloc 5\n# mesh\nheap 0 alloc 20\nheap 1 free 1\nheap 0 space 100 nodes 9 index 32\nheap 0 at 0 100\nheap 0 shrink 1 20\n#! begun\n\
-         heap 0 room 70\n"
+         heap 0 room 70 1 1\n"
     );
     assert_eq!(
         answers(&text),

@@ -21,7 +21,7 @@ pub(crate) fn relocate<T: Tables>(
     if !player.space.is_live(ticket) {
         return Ok(Reply::Answer(Answer::Gone));
     }
-    let granted = player.space.relocate(ticket);
+    let granted = player.space.relocate_unaligned(ticket);
     Ok(Reply::Answer(keep(&mut player.tickets, granted)?))
 }
 

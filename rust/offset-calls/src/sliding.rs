@@ -233,7 +233,7 @@ fn compacted_guarded<NI: NodeIndex, T: Tables<Index = NI>>(
     space: &mut GuardedOf<T>,
     seen: &mut Slides<NI>,
 ) {
-    space.compact(&mut |range: Move<NI>| seen.add(range));
+    space.compact_unaligned(&mut |range: Move<NI>| seen.add(range));
 }
 
 // Compacts a guarded space by whole steps, and collects the moves, as `compacted_by` does.
@@ -251,7 +251,7 @@ fn collect_guarded<NI: NodeIndex, T: Tables<Index = NI>>(
     size: u32,
     seen: &mut Slides<NI>,
 ) -> Option<RoomCost> {
-    space.make_room(size, &mut |it: Move<NI>| seen.add(it))
+    space.make_room_unaligned(size, &mut |it: Move<NI>| seen.add(it))
 }
 
 // Makes room in a guarded space by whole steps, and collects the moves, as `collect_by` does.
@@ -274,7 +274,7 @@ fn moved_within_guarded<NI: NodeIndex, T: Tables<Index = NI>>(
     most_ranges: u32,
     seen: &mut Slides<NI>,
 ) -> Option<Progress> {
-    space.compact_within(
+    space.compact_within_by(
         step,
         from,
         most_units,

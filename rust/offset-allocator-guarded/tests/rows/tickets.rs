@@ -21,7 +21,7 @@ fn expect_dead<T: Tables>(space: &mut GuardedOf<T>, ticket: Ticket) {
     assert_same(&space.offset_of(ticket), &None);
     assert_same(&space.shrink(ticket, 0), &None);
     assert_same(&space.grow_in_place(ticket, 64), &None);
-    assert_same(&space.relocate(ticket), &None);
+    assert_same(&space.relocate_unaligned(ticket), &None);
     assert_same(&space.relocate_aligned(ticket, 1), &None);
     assert_same(&space.live_before(ticket), &None);
     assert_same(&space.live_after(ticket), &None);
@@ -96,7 +96,7 @@ fn of_another_space<T: Tables>() {
 // Counts the units that move, from the offset 8 to the offset 0.
 fn compacted<T: Tables>(space: &mut GuardedOf<T>) -> u32 {
     let mut moved = 0u32;
-    space.compact(|range: Move<T::Index>| {
+    space.compact_unaligned(|range: Move<T::Index>| {
         if range.from == 8 && range.to == 0 {
             moved = moved.wrapping_add(range.size);
         }
@@ -204,9 +204,9 @@ fn of_ranges_from_the_end<T: Tables>() {
     assert_same(&space.live_before(third), &Some(second));
     assert_same(&space.live_after(first), &Some(second));
     assert_same(&space.live_before(first), &None);
-    assert_same(&space.relocate(third), &None);
+    assert_same(&space.relocate_unaligned(third), &None);
     assert_that(space.free(second));
-    let fourth = space.relocate(third).expect("a grant");
+    let fourth = space.relocate_unaligned(third).expect("a grant");
     expect_ticket(fourth, 8, 4, 9);
     assert_that(space.is_live(third));
     assert_same(&space.live_after(fourth), &Some(third));

@@ -1,6 +1,15 @@
-use Rattle.std.proofs.Common.{sym, ap}
-use Rattle.offset_guarded.specs.Guard.{Guard}
+use Rattle.std.proofs.Common.{ℕ, ap, subst}
+use Rattle.offset_guarded.specs.Guard.{Guard, KeepsDivisors}
+use Rattle.offset_guarded.proofs.Offsets.{kept_alignments, same_aligned}
 use Rattle.offset_guarded.proofs.GuardedOf.compact_within.Goals as goal
 
+pub returns-then-step-eq0-clause-aligned : goal.returns-then-step-eq0-clause-aligned
+returns-then-step-eq0-clause-aligned g c = same_aligned c.args.self.now
+
+pub returns-clause-aligned : goal.returns-clause-aligned
+returns-clause-aligned g c =
+    kept_alignments c.args.self.now c.compact_within_by.new.self (ap (λ (k : Guard). k.step) c.compact_within_by.ensures.serials)
+    (subst (λ (n : ℕ). KeepsDivisors n c.args.self.now c.compact_within_by.new.self) c.step_number-step.ensures c.compact_within_by.ensures.divisors)
+
 pub returns-clause-step : goal.returns-clause-step
-returns-clause-step g c = rw (ap (λ (g : Guard). g.space) (sym c.self.view_is)) c.compact_within.ensures.step
+returns-clause-step g c some = rw c.step_number-step.ensures at c.compact_within_by.ensures.step

@@ -1,11 +1,18 @@
-use Rattle.std.proofs.Common.{sym, ap, subst}
-use Rattle.offset_allocator.specs.Classes.{up, value}
-use Rattle.offset_allocator.specs.Moving.Room.{IsLeastCost}
-use Rattle.offset_guarded.specs.Guard.{Guard}
+use Rattle.std.proofs.Common.{ℕ, ap, subst}
+use Rattle.offset_guarded.specs.Guard.{Guard, KeepsDivisors}
+use Rattle.offset_guarded.proofs.Offsets.{kept_alignments, same_aligned}
 use Rattle.offset_guarded.proofs.GuardedOf.make_room.Goals as goal
 
+pub returns-then-step-eq0-clause-aligned : goal.returns-then-step-eq0-clause-aligned
+returns-then-step-eq0-clause-aligned g c = same_aligned c.args.self.now
+
+pub returns-clause-aligned : goal.returns-clause-aligned
+returns-clause-aligned g c =
+    kept_alignments c.args.self.now c.make_room_by.new.self (ap (λ (k : Guard). k.step) c.make_room_by.ensures.serials)
+    (subst (λ (n : ℕ). KeepsDivisors n c.args.self.now c.make_room_by.new.self) c.step_number-step.ensures c.make_room_by.ensures.divisors)
+
 pub returns-clause-step : goal.returns-clause-step
-returns-clause-step g c = rw (ap (λ (g : Guard). g.space) (sym c.self.view_is)) c.make_room.ensures.step
+returns-clause-step g c some = rw c.step_number-step.ensures at c.make_room_by.ensures.step
 
 pub returns-clause-cost : goal.returns-clause-cost
-returns-clause-cost g c = subst (λ (k : Guard). IsLeastCost (value (up c.args.size)) k.space.blocks c.make_room.result) c.self.view_is c.make_room.ensures.cost
+returns-clause-cost g c some = rw c.step_number-step.ensures at c.make_room_by.ensures.cost

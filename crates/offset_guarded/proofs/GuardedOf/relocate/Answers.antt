@@ -1,30 +1,51 @@
-use Rattle.std.proofs.Common.{◌≡◌, ◌∙◌, ℕ, None, Some, ap, subst, sym}
-use Rattle.offset_allocator.specs.Ranges.{size_of}
-use Rattle.offset_allocator.specs.Moving.Relocating.{Relocates}
-use Rattle.offset_guarded.specs.Guard.{Grants, Guard, Ticket, handle_in}
-use Rattle.offset_guarded.proofs.Guards.{granted_as, guard, issued, same_limit_plain}
+use Rattle.std.proofs.Common.{◌≡◌, ◌∙◌, ◌%◌, ◌≤◌, ℕ, Option, Some, None, IfSome, ap, ap₂, arith, option_map, refl, subst, subst₂, sym}
+use Rattle.std.proofs.Math.Nat.{dvd_of_mod-eq-zero, dvd_trans}
+use Rattle.std.specs.Int.{◌∣◌, IsGcd}
+use Rattle.std.proofs.lemmas.Nat.Gcd.{same_from_IsGcd}
+use Rattle.std.specs.Prelude.{unwrap_or}
+use Rattle.offset_allocator.specs.Moving.Relocating.{RelocatesAligned, offset_of}
+use Rattle.offset_allocator.specs.Ranges.{Range, range_of}
+use Rattle.offset_allocator.specs.View.{View}
+use Rattle.offset_guarded.specs.Guard.{Guard, Ticket, handle_in}
+use Rattle.offset_guarded.specs.Step.{IsJoined}
+use Rattle.offset_guarded.proofs.{Divisors.divisor_of_some, Divisors.joined_stays}
 use Rattle.offset_guarded.proofs.GuardedOf.relocate.Goals as goal
 
-pub invariant_of-self-in-Some : goal.invariant_of-self-in-Some
-invariant_of-self-in-Some g c =
-    issued _ _ 0 _ _ _ _ _ c.self.invariant c.in-Some.ensures.grants c.ticket_for.ensures.cells c.ticket_for.ensures.given
-    (same_limit_plain (size_of c.in_ok-handle.handle.name c.self.inside.space) _ _ _ c.in-Some.ensures.step.0) c.ticket_for.ensures.room
+pub second-requires-clause-alignment : goal.second-requires-clause-alignment
+second-requires-clause-alignment g c = divisor_of_some c.common_divisor.result c.step_number-step.result c.common_divisor.ensures.common.1 (omega (arith, c.if-step-eq0.false))
 
-pub returns-in-Some-clause-grants : goal.returns-in-Some-clause-grants
-returns-in-Some-clause-grants g c =
-    let size : size_of c.in_ok-handle.handle.name c.self.inside.space ≡ size_of c.args.ticket.name c.args.self.now.space =
-    ap (λ (x : ℕ). size_of x c.self.inside.space) c.in_ok-handle.ensures.range.0 ∙ ap (λ (k : Guard). size_of c.args.ticket.name k.space) c.self.view_is in
-    subst (λ (n : ℕ). Grants n c.args.self.now (guard c.relocate.new.self c.ticket_for.new.serials c.self.inside.realm c.self.inside.step) c.ticket_for.result) size
-    (granted_as g.T.Index.NodeIndex.MAX (size_of c.in_ok-handle.handle.name c.self.inside.space) c.self.inside.realm c.self.inside.space c.relocate.new.self c.self.inside.serials
-    c.ticket_for.new.serials c.in-Some.second c.self.invariant c.in-Some.ensures.grants c.ticket_for.ensures.cells c.ticket_for.ensures.given c.ticket_for.ensures.table c.self.inside.step c.self.inside.step _ _ c.self.view_is c.ticket_for.ensures.ticket)
+-- a result keeps the step where it is none, or its alignment divides the step
+stays : (s d t : ℕ) → s ≤ 4294967295 → d ∣ s → (r : Option Ticket) → IfSome r (λ _. IsJoined s d t) → (r ≡ None → t ≡ s) → t ≡ s
+stays s d t few divides None joined none = none refl
+stays s d t few divides (Some x) joined none = joined_stays s d t few divides joined
 
-pub returns-in-Some-clause-step : goal.returns-in-Some-clause-step
-returns-in-Some-clause-step g c live left =
-    subst (λ (t : Ticket). Relocates c.args.ticket.name c.args.self.now.space c.relocate.new.self (Some (handle_in t))) (sym c.ticket_for.ensures.ticket)
-    (subst (λ (x : ℕ). Relocates x c.args.self.now.space c.relocate.new.self (Some c.in-Some.second)) c.in_ok-handle.ensures.range.0
-    (subst (λ (k : Guard). Relocates c.in_ok-handle.handle.name k.space c.relocate.new.self (Some c.in-Some.second)) c.self.view_is c.in-Some.ensures.step))
+pub returns-clause-same_step : goal.returns-clause-same_step
+returns-clause-same_step g c =
+    let now = c.step_number-step.ensures in
+    stays c.args.self.now.step c.common_divisor.result c.second.new.self.step (omega (arith, now, c.step_number-step.type_inv)) (subst (λ (n : ℕ). c.common_divisor.result ∣ n) now c.common_divisor.ensures.common.1)
+    c.second.result c.second.ensures.joined (λ e. ap (λ (k : Guard). k.step) (c.second.ensures.serials e))
 
-pub returns-in-None-clause-step : goal.returns-in-None-clause-step
-returns-in-None-clause-step g c live left =
-    subst (λ (x : ℕ). Relocates x c.args.self.now.space c.relocate.new.self None) c.in_ok-handle.ensures.range.0
-    (subst (λ (k : Guard). Relocates c.in_ok-handle.handle.name k.space c.relocate.new.self None) c.self.view_is c.in-None.ensures.step)
+-- where the range of a name begins, which has another word, and so has the space
+offset_by : (x y : ℕ) (v w : View) (o : ℕ) → x ≡ y → v ≡ w → Some o ≡ option_map (λ (r : Range). r.offset) (range_of x v) → offset_of y w ≡ o
+offset_by x y v w o e d f =
+    ap₂ (λ (x : ℕ) (v : View). offset_of x v) (sym e) (sym d) ∙ ap (λ (q : Option ℕ). unwrap_or q 0) (sym f)
+
+-- where a range begins at a multiple, it begins at one of each divisor
+divides : (o s d : ℕ) (r : Option Ticket) → IsGcd o s d → IfSome r (λ t. t.offset % d ≡ 0) → IfSome r (λ t. (a : ℕ) → a ∣ s → a ∣ o → a ∣ t.offset)
+divides o s d None is e = tt
+divides o s d (Some t) is e = λ a p q. dvd_trans a (is.2 a q p) (dvd_of_mod-eq-zero d e)
+
+pub returns-clause-aligned : goal.returns-clause-aligned
+returns-clause-aligned g c =
+    let o = offset_by c.in_ok-handle.handle.name c.args.ticket.name c.self.inside.space c.args.self.now.space c.in_ok-offset.offset c.in_ok-handle.ensures.range.0 (ap (λ (k : Guard). k.space) c.self.view_is) c.in_ok-offset.ensures in
+    divides (offset_of c.args.ticket.name c.args.self.now.space) c.args.self.now.step c.common_divisor.result c.second.result
+    (subst₂ (λ (n s : ℕ). IsGcd n s c.common_divisor.result) (sym o) c.step_number-step.ensures c.common_divisor.ensures.common) c.second.ensures.aligned
+
+pub returns-clause-step : goal.returns-clause-step
+returns-clause-step g c live left some align is =
+    let o = offset_by c.in_ok-handle.handle.name c.args.ticket.name c.self.inside.space c.args.self.now.space c.in_ok-offset.offset c.in_ok-handle.ensures.range.0 (ap (λ (k : Guard). k.space) c.self.view_is) c.in_ok-offset.ensures in
+    let own : IsGcd (offset_of c.args.ticket.name c.args.self.now.space) c.args.self.now.step c.common_divisor.result =
+    subst₂ (λ (n s : ℕ). IsGcd n s c.common_divisor.result) (sym o) c.step_number-step.ensures c.common_divisor.ensures.common in
+    subst (λ (d : ℕ). RelocatesAligned c.args.ticket.name d c.args.self.now.space c.second.new.self.space (option_map handle_in c.second.result))
+    (same_from_IsGcd (offset_of c.args.ticket.name c.args.self.now.space) c.args.self.now.step c.common_divisor.result align own is)
+    (subst (λ (x : ℕ). RelocatesAligned x c.common_divisor.result c.args.self.now.space c.second.new.self.space (option_map handle_in c.second.result)) c.in_ok-handle.ensures.range.0 (c.second.ensures.step left))

@@ -1,37 +1,17 @@
-use Rattle.std.proofs.Common.{◌≡◌, ◌∙◌, ◌%◌, ℕ, None, Some, ap, subst, sym}
+use Rattle.std.proofs.Common.{◌+◌, ◌≤◌, ℕ, IfSome, option_map, subst}
 use Rattle.offset_allocator.specs.Ranges.{size_of}
-use Rattle.offset_allocator.specs.Moving.Relocating.{RelocatesAligned}
-use Rattle.offset_guarded.specs.Guard.{Grants, Guard, Ticket, handle_in}
-use Rattle.offset_guarded.specs.Step.{IsJoined}
-use Rattle.offset_guarded.proofs.Guards.{granted_as, guard, issued, same_limit}
+use Rattle.offset_allocator.specs.Moving.Relocating.{RelocatesAligned, offset_of}
+use Rattle.offset_guarded.specs.Guard.{Grants, handle_in}
 use Rattle.offset_guarded.proofs.GuardedOf.relocate_aligned.Goals as goal
 
-pub invariant_of-self-in-Some : goal.invariant_of-self-in-Some
-invariant_of-self-in-Some g c =
-    issued _ _ 0 _ _ _ _ _ c.self.invariant c.in-Some.ensures.grants c.ticket_for.ensures.cells c.ticket_for.ensures.given
-    (same_limit (size_of c.in_ok-handle.handle.name c.self.inside.space) c.args.align _ _ _ c.in-Some.ensures.step.0) c.ticket_for.ensures.room
+pub returns-clause-grants : goal.returns-clause-grants
+returns-clause-grants g c =
+    subst (λ (x : ℕ). IfSome c.second.result (Grants (size_of x c.args.self.now.space) c.args.self.now c.second.new.self)) c.in_ok-handle.ensures.range.0 c.second.ensures.grants
 
-pub returns-in-Some-clause-grants : goal.returns-in-Some-clause-grants
-returns-in-Some-clause-grants g c =
-    let size : size_of c.in_ok-handle.handle.name c.self.inside.space ≡ size_of c.args.ticket.name c.args.self.now.space =
-    ap (λ (x : ℕ). size_of x c.self.inside.space) c.in_ok-handle.ensures.range.0 ∙ ap (λ (k : Guard). size_of c.args.ticket.name k.space) c.self.view_is in
-    subst (λ (n : ℕ). Grants n c.args.self.now (guard c.relocate_aligned.new.self c.ticket_for.new.serials c.self.inside.realm c.joined-self-inside.result) c.ticket_for.result) size
-    (granted_as g.T.Index.NodeIndex.MAX (size_of c.in_ok-handle.handle.name c.self.inside.space) c.self.inside.realm c.self.inside.space c.relocate_aligned.new.self c.self.inside.serials
-    c.ticket_for.new.serials c.in-Some.second c.self.invariant c.in-Some.ensures.grants c.ticket_for.ensures.cells c.ticket_for.ensures.given c.ticket_for.ensures.table c.self.inside.step c.joined-self-inside.result _ _ c.self.view_is c.ticket_for.ensures.ticket)
+pub returns-clause-before : goal.returns-clause-before
+returns-clause-before g c =
+    subst (λ (x : ℕ). IfSome c.second.result (λ t. t.offset + size_of x c.args.self.now.space ≤ offset_of x c.args.self.now.space)) c.in_ok-handle.ensures.range.0 c.second.ensures.before
 
-pub returns-in-Some-clause-step : goal.returns-in-Some-clause-step
-returns-in-Some-clause-step g c live left =
-    subst (λ (t : Ticket). RelocatesAligned c.args.ticket.name c.args.align c.args.self.now.space c.relocate_aligned.new.self (Some (handle_in t))) (sym c.ticket_for.ensures.ticket)
-    (subst (λ (x : ℕ). RelocatesAligned x c.args.align c.args.self.now.space c.relocate_aligned.new.self (Some c.in-Some.second)) c.in_ok-handle.ensures.range.0
-    (subst (λ (k : Guard). RelocatesAligned c.in_ok-handle.handle.name c.args.align k.space c.relocate_aligned.new.self (Some c.in-Some.second)) c.self.view_is c.in-Some.ensures.step))
-
-pub returns-in-None-clause-step : goal.returns-in-None-clause-step
-returns-in-None-clause-step g c live left =
-    subst (λ (x : ℕ). RelocatesAligned x c.args.align c.args.self.now.space c.relocate_aligned.new.self None) c.in_ok-handle.ensures.range.0
-    (subst (λ (k : Guard). RelocatesAligned c.in_ok-handle.handle.name c.args.align k.space c.relocate_aligned.new.self None) c.self.view_is c.in-None.ensures.step)
-
-pub returns-in-Some-clause-aligned : goal.returns-in-Some-clause-aligned
-returns-in-Some-clause-aligned g c = subst (λ (t : Ticket). t.offset % c.args.align ≡ 0) (sym c.ticket_for.ensures.ticket) c.in-Some.ensures.aligned
-
-pub returns-in-Some-clause-joined : goal.returns-in-Some-clause-joined
-returns-in-Some-clause-joined g c = subst (λ (k : Guard). IsJoined k.step c.args.align c.joined-self-inside.result) c.self.view_is c.joined-self-inside.ensures
+pub returns-clause-step : goal.returns-clause-step
+returns-clause-step g c live left =
+    subst (λ (x : ℕ). RelocatesAligned x c.args.align c.args.self.now.space c.second.new.self.space (option_map handle_in c.second.result)) c.in_ok-handle.ensures.range.0 (c.second.ensures.step left)

@@ -19,8 +19,8 @@ returns-clause-moved g c = given
     let s : goal.F-step g p.0.now p.1.now k.0 tt q.0.now = search rules in
     let n : q.0.ghost_name ≡ p.0.ghost_name = search rules in
     let m : q.1 ≡ p.1 = search rules in
-    ((k.0, k.1, s), n, m)) _ _ _ c.compact.ensures.moved) (λ ran.
-    let f : FoldsTo (IsCalledAt g.NI.NonMax.NodeIndexNonMax.number (λ f k range h. goal.F-step g f k range tt h)) c.args.moved.now (numbered c.args.number (moves 0 0 c.args.heap.now.space.blocks)) c.compact.new.moved.0.now =
+    ((k.0, k.1, s), n, m)) _ _ _ c.compact_unaligned.ensures.moved) (λ ran.
+    let f : FoldsTo (IsCalledAt g.NI.NonMax.NodeIndexNonMax.number (λ f k range h. goal.F-step g f k range tt h)) c.args.moved.now (numbered c.args.number (moves 0 0 c.args.heap.now.space.blocks)) c.compact_unaligned.new.moved.0.now =
     ran.0 in
     subst (λ m. FoldsTo (IsCalledAt g.NI.NonMax.NodeIndexNonMax.number (λ f k range h. goal.F-step g f k range tt h)) c.args.moved.now (numbered c.args.number (moves 0 0 c.args.heap.now.space.blocks)) m)
     (search (rules, ran.1)) f)
@@ -32,8 +32,8 @@ returns-clause-callable g c = given
     let s : goal.F-step g p.0.now p.1.now k.0 tt q.0.now = search rules in
     let n : q.0.ghost_name ≡ p.0.ghost_name = search rules in
     let m : q.1 ≡ p.1 = search rules in
-    ((k.0, k.1, s), n, m)) _ _ _ c.compact.ensures.moved) (λ ran.
-    let f : goal.F-IsAlwaysCallable g c.compact.new.moved.0.now =
+    ((k.0, k.1, s), n, m)) _ _ _ c.compact_unaligned.ensures.moved) (λ ran.
+    let f : goal.F-IsAlwaysCallable g c.compact_unaligned.new.moved.0.now =
     kept_along (IsCalledAt g.NI.NonMax.NodeIndexNonMax.number (λ f k range h. goal.F-step g f k range tt h)) (goal.F-IsAlwaysCallable g)
-    (λ f x h s may. mut_next g.F.FnMut f (x.0, (s.0, tt)) tt h h s.2 refl may) _ c.args.moved.now c.compact.new.moved.0.now ran.0 c.requires.callable in
+    (λ f x h s may. mut_next g.F.FnMut f (x.0, (s.0, tt)) tt h h s.2 refl may) _ c.args.moved.now c.compact_unaligned.new.moved.0.now ran.0 c.requires.callable in
     search (rules, ran.1, f))
