@@ -149,6 +149,7 @@ IMPORTS = {
     "std::marker::Model": None,                             # the model of a type, for contracts, which are erased
     "std::marker::PhantomData": "core::marker::PhantomData",  # the library has no std
     "std::mem::replace": "core::mem::replace",              # the same
+    "std::ops::Deref": "core::ops::Deref",                  # the library has no std
     "std::str": "std::str",                                 # the same
 }
 

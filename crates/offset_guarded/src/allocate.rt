@@ -28,7 +28,7 @@ use offset_allocator::{Accesses, Allocation, AllocatorOf, Tables};
 fn ticket_for<T: Tables>(
     space: &AllocatorOf<T>,
     serials: &mut Serials,
-    realm: u32,
+    realm: &u32,
     handle: Allocation<T::Index>,
 ) -> Ticket
     requires live { named.IsLive handle.name space.now }
@@ -44,12 +44,12 @@ fn ticket_for<T: Tables>(
       offset = handle.offset;
       name = handle.name;
       serial = serials.old.given + 1;
-      realm = realm;
+      realm = realm.now;
     } }
 {
     serials.cover(space.node_count());
     let (offset, name) = handle.to_parts();
-    Ticket::of(offset, name, serials.give(name), realm)
+    Ticket::of(offset, name, serials.give(name), *realm)
 }
 
 /// As `would_begin` of `Guarded`. The count grows by at most 4.
@@ -111,7 +111,7 @@ impl<T: Tables> GuardedOf<T> {
         }
         match self.space.allocate(size) {
             None => None,
-            Some(handle) => Some(ticket_for(&self.space, &mut self.serials, self.realm, handle)),
+            Some(handle) => Some(ticket_for(&self.space, &mut self.serials, &self.realm, handle)),
         }
     }
 
@@ -147,7 +147,7 @@ impl<T: Tables> GuardedOf<T> {
             None => None,
             Some(handle) => {
                 self.step = joined(self.step, align);
-                Some(ticket_for(&self.space, &mut self.serials, self.realm, handle))
+                Some(ticket_for(&self.space, &mut self.serials, &self.realm, handle))
             }
         }
     }
@@ -181,7 +181,7 @@ impl<T: Tables> GuardedOf<T> {
         }
         match self.space.allocate_tight(size) {
             None => None,
-            Some(handle) => Some(ticket_for(&self.space, &mut self.serials, self.realm, handle)),
+            Some(handle) => Some(ticket_for(&self.space, &mut self.serials, &self.realm, handle)),
         }
     }
 
@@ -217,7 +217,7 @@ impl<T: Tables> GuardedOf<T> {
             None => None,
             Some(handle) => {
                 self.step = joined(self.step, align);
-                Some(ticket_for(&self.space, &mut self.serials, self.realm, handle))
+                Some(ticket_for(&self.space, &mut self.serials, &self.realm, handle))
             }
         }
     }
@@ -251,7 +251,7 @@ impl<T: Tables> GuardedOf<T> {
         }
         match self.space.allocate_at(offset, size) {
             None => None,
-            Some(handle) => Some(ticket_for(&self.space, &mut self.serials, self.realm, handle)),
+            Some(handle) => Some(ticket_for(&self.space, &mut self.serials, &self.realm, handle)),
         }
     }
 
@@ -342,7 +342,7 @@ impl<T: Tables> GuardedOf<T> {
         }
         match self.space.relocate(handle) {
             None => None,
-            Some(second) => Some(ticket_for(&self.space, &mut self.serials, self.realm, second)),
+            Some(second) => Some(ticket_for(&self.space, &mut self.serials, &self.realm, second)),
         }
     }
 
@@ -410,7 +410,7 @@ impl<T: Tables> GuardedOf<T> {
             None => None,
             Some(second) => {
                 self.step = joined(self.step, align);
-                Some(ticket_for(&self.space, &mut self.serials, self.realm, second))
+                Some(ticket_for(&self.space, &mut self.serials, &self.realm, second))
             }
         }
     }

@@ -51,6 +51,7 @@ pub use state::{StateFault, StateFaultKind};
 use std::alloc::{AllocError, Global};
 use std::fmt;
 use std::marker::Model;
+use std::ops::Deref;
 pub use ticket::Ticket;
 pub use values::Beside;
 
@@ -83,6 +84,24 @@ impl<T: Tables> Model for GuardedOf<T> {
     } };
 
     ghost invariant = { λ a. IsGuarded T.Index.MAX a.space a.serials };
+}
+
+/// Each question of the allocator that needs no handle is asked of the space with tickets itself: its reports and
+/// statistics, its blocks, its sizes, whether it is empty. Where both have a call of a name, it is that with tickets.
+///
+/// ```
+/// guarded.allocate(300);
+/// assert_eq!(guarded.live_units(), 300);
+/// assert_eq!(guarded.blocks().count(), 2);
+/// ```
+impl<T: Tables> Deref for GuardedOf<T> {
+    type Target = AllocatorOf<T>;
+
+    ghost deref_gives = { λ g v. v ≡ g.space };
+
+    fn deref(&self) -> &AllocatorOf<T> {
+        &self.space
+    }
 }
 
 impl<T: Tables> GuardedOf<T> {
@@ -232,7 +251,7 @@ impl<T: Tables> GuardedOf<T> {
         ensures range { IfSome result (λ h. (h.name ≡ ticket.name)
             × (range_of ticket self.now ≡ named.range_of ticket.name self.now.space)) }
     {
-        if ticket.realm() != self.realm || ticket.serial() != self.serials.at(ticket.name()) {
+        if ticket.realm() != self.realm || !self.serials.is_last(ticket.name(), ticket.serial()) {
             return None;
         }
         let Some(handle) = Allocation::from_parts(ticket.offset, ticket.name()) else {

@@ -133,6 +133,17 @@ impl Serials {
         }
     }
 
+    /// Whether a name was last granted with a serial.
+    #[inline]
+    pub(crate) fn is_last(&self, name: u32, serial: u64) -> bool
+        ensures { IsTrue result ↔ (serial ≡ cell name self.now.cells) }
+    {
+        match self.cells.get(name as usize) {
+            None => serial == 0,
+            Some(last) => serial == *last,
+        }
+    }
+
     /// How many serials are given.
     pub(crate) fn count(&self) -> u64
         ensures { result ≡ self.now.given }
@@ -160,8 +171,9 @@ impl Serials {
           given = self.old.given + 1;
         } }
     {
-        self.given += 1;
-        self.cells[name as usize] = self.given;
-        self.given
+        let serial = self.given + 1;
+        self.given = serial;
+        self.cells[name as usize] = serial;
+        serial
     }
 }

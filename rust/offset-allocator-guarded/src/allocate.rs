@@ -14,12 +14,12 @@ use offset_allocator::{Accesses, Allocation, AllocatorOf, Tables};
 fn ticket_for<T: Tables>(
     space: &AllocatorOf<T>,
     serials: &mut Serials,
-    realm: u32,
+    realm: &u32,
     handle: Allocation<T::Index>,
 ) -> Ticket {
     serials.cover(space.node_count());
     let (offset, name) = handle.to_parts();
-    Ticket::of(offset, name, serials.give(name), realm)
+    Ticket::of(offset, name, serials.give(name), *realm)
 }
 
 /// As `would_begin` of `Guarded`. The count grows by at most 4.
@@ -64,7 +64,7 @@ impl<T: Tables> GuardedOf<T> {
         }
         match self.space.allocate(size) {
             None => None,
-            Some(handle) => Some(ticket_for(&self.space, &mut self.serials, self.realm, handle)),
+            Some(handle) => Some(ticket_for(&self.space, &mut self.serials, &self.realm, handle)),
         }
     }
 
@@ -97,7 +97,7 @@ impl<T: Tables> GuardedOf<T> {
             None => None,
             Some(handle) => {
                 self.step = joined(self.step, align);
-                Some(ticket_for(&self.space, &mut self.serials, self.realm, handle))
+                Some(ticket_for(&self.space, &mut self.serials, &self.realm, handle))
             }
         }
     }
@@ -123,7 +123,7 @@ impl<T: Tables> GuardedOf<T> {
         }
         match self.space.allocate_tight(size) {
             None => None,
-            Some(handle) => Some(ticket_for(&self.space, &mut self.serials, self.realm, handle)),
+            Some(handle) => Some(ticket_for(&self.space, &mut self.serials, &self.realm, handle)),
         }
     }
 
@@ -156,7 +156,7 @@ impl<T: Tables> GuardedOf<T> {
             None => None,
             Some(handle) => {
                 self.step = joined(self.step, align);
-                Some(ticket_for(&self.space, &mut self.serials, self.realm, handle))
+                Some(ticket_for(&self.space, &mut self.serials, &self.realm, handle))
             }
         }
     }
@@ -182,7 +182,7 @@ impl<T: Tables> GuardedOf<T> {
         }
         match self.space.allocate_at(offset, size) {
             None => None,
-            Some(handle) => Some(ticket_for(&self.space, &mut self.serials, self.realm, handle)),
+            Some(handle) => Some(ticket_for(&self.space, &mut self.serials, &self.realm, handle)),
         }
     }
 
@@ -247,7 +247,7 @@ impl<T: Tables> GuardedOf<T> {
         }
         match self.space.relocate(handle) {
             None => None,
-            Some(second) => Some(ticket_for(&self.space, &mut self.serials, self.realm, second)),
+            Some(second) => Some(ticket_for(&self.space, &mut self.serials, &self.realm, second)),
         }
     }
 
@@ -294,7 +294,7 @@ impl<T: Tables> GuardedOf<T> {
             None => None,
             Some(second) => {
                 self.step = joined(self.step, align);
-                Some(ticket_for(&self.space, &mut self.serials, self.realm, second))
+                Some(ticket_for(&self.space, &mut self.serials, &self.realm, second))
             }
         }
     }

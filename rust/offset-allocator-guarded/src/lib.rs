@@ -60,6 +60,7 @@ pub use refusal::Refusal;
 use serials::Serials;
 pub use state::{StateFault, StateFaultKind};
 use core::fmt;
+use core::ops::Deref;
 pub use ticket::Ticket;
 pub use values::Beside;
 
@@ -75,6 +76,26 @@ pub struct GuardedOf<T: Tables> {
     realm: u32,
     // what `step` says, or 0 where there is none
     step: u32,
+}
+
+/// Each question of the allocator that needs no handle is asked of the space with tickets itself: its reports and
+/// statistics, its blocks, its sizes, whether it is empty. Where both have a call of a name, it is that with tickets.
+///
+/// ```
+/// # use offset_allocator_guarded::*;
+/// # let alloc = Global;
+/// let mut guarded = Guarded::<u32>::new(alloc, 1000)?;
+/// guarded.allocate(300);
+/// assert_eq!(guarded.live_units(), 300);
+/// assert_eq!(guarded.blocks().count(), 2);
+/// # Ok::<(), AllocError>(())
+/// ```
+impl<T: Tables> Deref for GuardedOf<T> {
+    type Target = AllocatorOf<T>;
+
+    fn deref(&self) -> &AllocatorOf<T> {
+        &self.space
+    }
 }
 
 impl<T: Tables> GuardedOf<T> {
@@ -236,7 +257,7 @@ impl<T: Tables> GuardedOf<T> {
     // The handle of a ticket that has the realm, and the serial that its name was last granted with.
     #[inline(always)]
     fn handle_fitting(&self, ticket: Ticket) -> Option<Allocation<T::Index>> {
-        if ticket.realm() != self.realm || ticket.serial() != self.serials.at(ticket.name()) {
+        if ticket.realm() != self.realm || !self.serials.is_last(ticket.name(), ticket.serial()) {
             return None;
         }
         let Some(handle) = Allocation::from_parts(ticket.offset, ticket.name()) else {

@@ -91,6 +91,15 @@ impl Serials {
         }
     }
 
+    /// Whether a name was last granted with a serial.
+    #[inline]
+    pub(crate) fn is_last(&self, name: u32, serial: u64) -> bool {
+        match self.cells.get(name as usize) {
+            None => serial == 0,
+            Some(last) => serial == *last,
+        }
+    }
+
     /// How many serials are given.
     pub(crate) fn count(&self) -> u64 {
         self.given
@@ -105,8 +114,9 @@ impl Serials {
     /// Gives the next serial to a name.
     #[inline]
     pub(crate) fn give(&mut self, name: u32) -> u64 {
-        self.given += 1;
-        self.cells[name as usize] = self.given;
-        self.given
+        let serial = self.given + 1;
+        self.given = serial;
+        self.cells[name as usize] = serial;
+        serial
     }
 }
