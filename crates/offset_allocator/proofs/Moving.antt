@@ -1,6 +1,7 @@
 -- Live ranges that slide, what that costs and copies, and what empties the end of a space.
 pub mod Begins
 pub mod Compacted
+pub mod CompactCosts
 pub mod Compacting
 pub mod DecidedBudget
 pub mod DecidedRooms

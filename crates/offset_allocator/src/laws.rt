@@ -40,6 +40,7 @@ ghost use Rattle.offset_allocator.specs.Moving.Pieces.{pieces, copied, all_copie
 use crate::AllocatorOf;
 use crate::accesses::Accesses;
 pub use crate::at_offset::{in_the_way_counted, is_free_at_counted};
+pub use crate::moves::compact_cost::compact_cost_by_counted;
 pub use crate::moves::room::room_cost_counted;
 pub use crate::moves::room_by_steps::room_cost_by_counted;
 pub use crate::reports::beginning::would_begin_counted;

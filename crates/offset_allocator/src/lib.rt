@@ -59,6 +59,7 @@ pub use handle::Allocation;
 pub use index::{NodeIndex, NodeIndexNonMax};
 pub use layouts::by_field::ByField;
 pub use layouts::by_node::ByNode;
+pub use moves::compact_cost::CompactCost;
 pub use moves::over_frames::Progress;
 pub use moves::pieces::{MovePieces, Piece};
 pub use moves::room::RoomCost;

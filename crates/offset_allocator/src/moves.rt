@@ -1,6 +1,7 @@
 //! Live ranges that slide, what that costs and copies, and what empties the end of a space.
 
 pub(crate) mod compact;
+pub(crate) mod compact_cost;
 pub(crate) mod gap;
 pub(crate) mod make_room;
 pub(crate) mod one_move;

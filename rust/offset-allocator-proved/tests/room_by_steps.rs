@@ -1,14 +1,15 @@
 //! What `room_cost_by` returns and what `make_room_by` leaves, by steps of 1, 2, 3, 16 and 256 units, for requests at
 //! alignments, against a search over all runs of blocks in 100,000 random spaces, on all layouts. Each run is slid in a plain
 //! list of blocks, written for this test from the words of the documents alone, and the request looked for in what is left.
+//! In the same spaces, what `compact_cost_by` says of a compaction, against that list, and against a copy that is compacted.
 //!
 //! `SPACES=1000000 cargo test --release --test room_by_steps` tries as many spaces.
 
 #[path = "../../random.rs"]
 mod random;
 
-use offset_allocator_proved::laws::room_cost_by_counted;
-use offset_allocator_proved::{Accesses, Allocation, AllocatorOf, ByField, ByNode, Global, RoomCost, Tables};
+use offset_allocator_proved::laws::{compact_cost_by_counted, room_cost_by_counted};
+use offset_allocator_proved::{Accesses, Allocation, AllocatorOf, ByField, ByNode, CompactCost, Global, RoomCost, Tables};
 use random::Random;
 
 const STEPS: [u32; 5] = [1, 2, 3, 16, 256];
@@ -125,11 +126,20 @@ fn space<T: Tables<Index = u32>>(random: &mut Random) -> AllocatorOf<T> {
     for _ in 0..random.below(60) {
         held.extend(space.allocate(size_of(random).wrapping_mul(unit)));
     }
+    // in some the last block is live, and small grants take the nodes that are left
+    let is_packed = random.below(4) == 0;
+    if is_packed {
+        let last = space.blocks().next().filter(|it| it.allocation.is_none()).map_or(0, |it| it.size);
+        held.extend(space.allocate_tight(last));
+    }
     let one_of = 2 + random.below(2);
     for handle in held {
         if random.below(one_of) == 0 {
             space.free(handle);
         }
+    }
+    for _ in 0..if is_packed { 20 } else { 0 } {
+        space.allocate(1 + random.below(2));
     }
     space
 }
@@ -147,6 +157,9 @@ struct Seen {
     // refused at the node limit, though a free block is large enough
     without_names: u64,
     kept: u64,
+    // compactions that move something, and those that are refused
+    foretold: u64,
+    refused: u64,
 }
 
 // Makes room, and copies the data as it says.
@@ -210,10 +223,61 @@ fn try_to_make<T: Tables<Index = u32>>(
     }
 }
 
+// The largest number of four significant bits that is at most `size`.
+fn reported(size: u32) -> u32 {
+    let shift = (0..32).find(|shift| size >> shift < 16).unwrap();
+    (size >> shift) << shift
+}
+
+// What slides behind the first free block of at least a step that has a block after it, to the end of the space: the blocks
+// then, and what `compact_cost_by` has to say, where the node limit admits these blocks.
+fn compacted(before: &[Part], step: u32, limit: u32) -> (Vec<Part>, Option<CompactCost>) {
+    let last = before.len() - 1;
+    let Some(first) = before[..last].iter().position(|it| it.name.is_none() && it.size >= step) else {
+        let largest = before.iter().filter(|it| it.name.is_none()).map(|it| reported(it.size)).max();
+        return (before.to_vec(), Some(CompactCost { units: 0, ranges: 0, largest: largest.unwrap_or(0) }));
+    };
+    let mut all = before.to_vec();
+    if let Some(at) = before.last().filter(|it| it.name.is_some()) {
+        all.push(Part { offset: at.offset + at.size, size: 0, name: None });
+    }
+    let after = slid(&all, first, all.len() - 1, step);
+    let moved = before[first..].iter().filter(|it| it.name.is_some());
+    let cost = CompactCost {
+        units: moved.clone().map(|it| it.size).sum(),
+        ranges: moved.count() as u32,
+        largest: after.iter().filter(|it| it.name.is_none()).map(|it| reported(it.size)).max().unwrap(),
+    };
+    let fits = after.len() < limit as usize;
+    (after, fits.then_some(cost))
+}
+
+fn try_to_foretell<T: Tables<Index = u32>>(space: &AllocatorOf<T>, before: &[Part], step: u32, seen: &mut Seen) {
+    let (after, wanted) = compacted(before, step, space.max_allocs());
+    let mut accesses = Accesses::new();
+    assert_eq!(compact_cost_by_counted(space, step, &mut accesses), wanted, "by {step} in {before:?}");
+    assert_eq!(space.compact_cost_by(step), wanted);
+    let mut copy = space.try_clone(Global).unwrap();
+    let (mut units, mut ranges) = (0, 0);
+    assert_eq!(copy.compact_by(step, |it| (units, ranges) = (units + it.size, ranges + 1)), wanted.is_some());
+    let Some(cost) = wanted else {
+        seen.refused += 1;
+        return;
+    };
+    assert_eq!((units, ranges), (cost.units, cost.ranges));
+    assert_eq!(parts(&copy), after);
+    seen.foretold += u64::from(cost.ranges > 0);
+    if !copy.is_full() {
+        assert!(cost.largest == 0 || copy.refusal(cost.largest).is_none(), "by {step} in {before:?}");
+        assert!(copy.refusal(cost.largest + 1).is_some(), "by {step} in {before:?}");
+    }
+}
+
 fn try_one<T: Tables<Index = u32>>(random: &mut Random, seen: &mut Seen) {
     let space = space::<T>(random);
     let before = parts(&space);
     for step in STEPS {
+        try_to_foretell(&space, &before, step, seen);
         let size = match random.below(12) {
             0 => random.next() as u32,
             1 => space.size(),
@@ -265,8 +329,8 @@ fn it_is_the_least_cost_of_all_runs_by_steps() {
         }
     }
     println!("{seen:?}");
-    let Seen { none, nothing, few, many, dearer, full, without_names, kept } = seen;
+    let Seen { none, nothing, few, many, dearer, full, without_names, kept, foretold, refused } = seen;
     // each kind of answer is frequent
-    assert!([none, nothing, few, many, dearer, kept].iter().all(|it| *it > count() / 100), "{seen:?}");
+    assert!([none, nothing, few, many, dearer, kept, foretold, refused].iter().all(|it| *it > count() / 100), "{seen:?}");
     assert!([full, without_names].iter().all(|it| *it > count() / 1000), "{seen:?}");
 }

@@ -83,15 +83,14 @@ fn first_free<T: Tables>(tables: &T, last: u32, start: u32, count: &mut Accesses
 }
 
 impl<T: Tables> AllocatorOf<T> {
-    /// Slides every live range to the front of the space, in space order, so that all free units are one
-    /// block at its end. `moved` is called for each range that gets another offset, in space order: the units
-    /// from `from` on are to be copied to `to`, as `copy_within` does. In this order no copy writes on a unit
-    /// that a later one reads.
+    /// Slides every live range to the front of the space, **where it keeps no alignment**: `compact_by` keeps those
+    /// that divide its step. The ranges keep their order, and all free units are one block behind them. `moved` is
+    /// called for each range that gets another offset, in space order: the units from `from` on are to be copied to
+    /// `to`, as `copy_within` does. In this order no copy writes on a unit that a later one reads.
     ///
     /// Every handle stays live, with its name and its size; only the public `offset` of a moved one is that
-    /// of before, and `allocation_offset` returns the new one. A moved range keeps no alignment: `compact_by`
-    /// keeps those that divide its step. The free block at the end has the name of the first one that there
-    /// was. `moved` has to be callable with any move: its contract may require nothing of it but what every
+    /// of before, and `allocation_offset` returns the new one. The free block at the end has the name of the first
+    /// one that there was. `moved` has to be callable with any move: its contract may require nothing of it but what every
     /// move is, to a smaller offset and within the offsets that there are. If `moved` panics, the allocator must
     /// not be used any more: drop it. It makes at most 10 accesses to the tables for each block, and 384, and
     /// takes no memory.

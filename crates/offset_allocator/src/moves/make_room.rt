@@ -16,14 +16,14 @@ use crate::tables::Tables;
 use crate::{AllocatorOf, Move, bins};
 
 impl<T: Tables> AllocatorOf<T> {
-    /// Makes room for a request of `size` units where ranges have to move for it, and then as few as
-    /// possible: slides the live ranges of a run of blocks to its front, so that its free units are one block
+    /// Makes room for a request of `size` units by ranges that move, **and keep no alignment**: `make_room_by` keeps
+    /// those that divide its step. It moves as few as possible, and none where none has to move: it slides the live ranges of a run of blocks to its front, so that its free units are one block
     /// after them, which is large enough. The run is one that costs what `room_cost(size)` returns, which
     /// this returns too: ask that first where a budget has to be kept. `moved` is called for each range that
     /// moves, in space order, as by `compact`: the units from `from` on are to be copied to `to`.
     ///
     /// Every handle stays live, with its name and its size; only the public `offset` of a moved one is that
-    /// of before, and `allocation_offset` returns the new one. A moved range keeps no alignment. Nothing
+    /// of before, and `allocation_offset` returns the new one. Nothing
     /// changes, and `moved` is not called, where no range has to move: where `None` is returned, since all
     /// free units together are not enough, and where the cost has no ranges, since one free block is large
     /// enough. Else the request is granted afterwards, also at the node limit. For an aligned request ask

@@ -73,9 +73,9 @@ fn is_freed_by<T: Tables>(
     freed || tables.size(name, count) % step == 0
 }
 
-// The name of the first free block of at least `step` units that ends at the offset `from` or behind it and has
-// a block after it, if there is one. The walk goes back from the last block, as far as `from`.
-fn first_from<T: Tables>(
+/// The name of the first free block of at least `step` units that ends at the offset `from` or behind it and has
+/// a block after it, if there is one. The walk goes back from the last block, as far as `from`.
+pub(crate) fn first_from<T: Tables>(
     tables: &T,
     last: u32,
     step: u32,

@@ -33,15 +33,14 @@ impl<T: Tables> AllocatorOf<T> {
         Some(self.store.tables.offset(name, &mut self.store.accesses))
     }
 
-    /// Grants a second range of as many units as that of a live handle, which begins before it, and returns
-    /// its handle. The old range stays live until it is freed: so the units can be copied, and the copies do
+    /// Grants a second range of as many units as that of a live handle, which begins before it, **at any multiple**
+    /// (`relocate_aligned` keeps an alignment), and returns its handle. The old range stays live until it is freed: so the units can be copied, and the copies do
     /// not overlap, while the old ones are still read. Done for the last ranges of a space (`last_live`,
     /// `live_before`), it empties the end. For a range of no units it is granted one of no units.
     ///
     /// The block is the one that `allocate` takes for these units. `None` is returned where that would refuse
     /// them, or where the block begins after the range; then the space is as it was. The handle has to be
-    /// live, and only its name counts. The second range begins at any multiple: for an alignment see
-    /// `relocate_aligned`. It makes at most 67 accesses to the tables, and takes no memory.
+    /// live, and only its name counts. It makes at most 67 accesses to the tables, and takes no memory.
     ///
     /// ```
     /// let hole = space.allocate(320).unwrap();

@@ -52,9 +52,9 @@ fn report<NI: NodeIndex, F: FnMut(Move<NI>)>(
     moved(one_move::Move::make(NI::from_u32(name).to_name(), from, to, size));
 }
 
-// What a free block of `size` units keeps, which has the block after it that a link names: what whole steps
-// leave of it, and nothing at the end.
-fn kept(size: u32, step: u32, after: Option<u32>) -> u32
+/// What a free block of `size` units keeps, which has the block after it that a link names: what whole steps
+/// leave of it, and nothing at the end.
+pub(crate) fn kept(size: u32, step: u32, after: Option<u32>) -> u32
     requires { 1 ≤ step }
     ensures kept { (bs : List Block) → after ≡ first_or None bs → result ≡ kept step size bs }
     ensures within { result ≤ size }
