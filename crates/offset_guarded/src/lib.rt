@@ -41,9 +41,10 @@ mod walks;
 
 use offset_allocator::laws::is_well_formed;
 pub use offset_allocator::{
-    Allocation, Allocator, AllocatorOf, Block, Blocks, BlocksOf, ByField, ByNode, Move, MovePieces,
-    NodeIndex, NodeIndexNonMax, Piece, Progress, ReadError, RoomCost, Scale, Statistics,
-    StorageReport, StorageReportFull, StorageReportFullRegion, Tables, json_of, vma_json_of,
+    Allocation, Allocator, AllocatorOf, Block, Blocks, BlocksOf, ByField, ByNode, CompactCost,
+    Move, MovePieces, NodeIndex, NodeIndexNonMax, Piece, Progress, ReadError, RoomCost, Scale,
+    Statistics, StorageReport, StorageReportFull, StorageReportFullRegion, Tables, json_of,
+    vma_json_of,
 };
 pub use refusal::Refusal;
 use serials::Serials;

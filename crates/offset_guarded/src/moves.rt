@@ -1,19 +1,21 @@
 //! Ranges that slide to the front of the space, all, within a budget, or to make room: by the step of the space,
 //! by another one, or by none. It changes the allocator, and no serial.
-ghost use Rattle.std.specs.Prelude.{◌≡◌, ◌+◌, ◌*◌, ◌≤◌, ◌⊎◌, [], IfSome, None, false, max, length, if◌then◌else◌};
+ghost use Rattle.std.specs.Prelude.{ℕ, ◌≡◌, ◌≢◌, ◌↔◌, ◌+◌, ◌*◌, ◌≤◌, ◌⊎◌, [], IfSome, None, true, false, max, length};
+ghost use Rattle.std.specs.Prelude.{if◌then◌else◌};
 ghost use Rattle.std.specs.List.{FoldsTo};
 ghost use Rattle.offset_allocator.specs.Classes.{up, value};
 ghost use Rattle.offset_allocator.specs.Moving.Budget.{CompactsWithin};
-ghost use Rattle.offset_allocator.specs.Moving.BySteps.{CompactsBy, moves_by};
+ghost use Rattle.offset_allocator.specs.Moving.BySteps.{CanFollow, CompactsBy, moves_by, run_by};
 ghost use Rattle.offset_allocator.specs.Moving.Compacting.{Compacts, IsCalledWith, moves};
-ghost use Rattle.offset_allocator.specs.Requests.{CanGrant, blocks_needed, units_needed};
+ghost use Rattle.offset_allocator.specs.Requests.{AdmitsBlocks, CanGrant, blocks_needed, units_needed};
 ghost use Rattle.offset_allocator.specs.Moving.Room.{IsLeastCost, MakesRoom, ranges_of};
 ghost use Rattle.offset_allocator.specs.Moving.RoomBySteps.{IsLeastCostBy, MakesRoomBy, names_short};
+ghost use Rattle.offset_allocator.specs.View.{View, IsWellFormed, count_used, used_units};
 ghost use Rattle.offset_guarded.specs.Guard.{KeepsAlignments, KeepsDivisors, KeepsSizes};
 
 use crate::GuardedOf;
 use offset_allocator::laws::is_well_formed;
-use offset_allocator::{Move, Progress, RoomCost, Tables};
+use offset_allocator::{CompactCost, Move, Progress, RoomCost, Tables};
 
 impl<T: Tables> GuardedOf<T> {
     /// Slides live ranges to the front of the space by the step of the space, so that **each keeps every alignment
@@ -193,6 +195,38 @@ impl<T: Tables> GuardedOf<T> {
         self.make_room_by(size, align, step, moved)
     }
 
+    /// What `compact` would copy now, and what would be granted after it, without moving anything: as
+    /// `Allocator::compact_cost_by` by the step of the space. `None` is returned exactly where `compact` would return
+    /// `false`.
+    ///
+    /// ```
+    /// let hole = guarded.allocate(300).unwrap();
+    /// guarded.allocate_aligned(100, 256);
+    /// guarded.free(hole);
+    /// let cost = guarded.compact_cost().unwrap();
+    /// assert_eq!((cost.units, cost.ranges, cost.largest), (100, 1, 896));
+    /// ```
+    pub fn compact_cost(&self) -> Option<CompactCost>
+        ensures none { self.now.step ≡ 0 → result ≡ None }
+        // It is `None` exactly where the compaction would be refused.
+        ensures refused { 1 ≤ self.now.step → result ≡ None
+            ↔ ((run_by self.now.step self.now.space.blocks ≢ [])
+            × (CanFollow self.now.step self.now.space (run_by self.now.step self.now.space.blocks) → ⊥)) }
+        // The ranges that would move are those behind the first free block of at least a step.
+        ensures units { IfSome result (λ c. c.units ≡ used_units (run_by self.now.step self.now.space.blocks)) }
+        ensures ranges { IfSome result (λ c. c.ranges ≡ count_used (run_by self.now.step self.now.space.blocks)) }
+        // Whatever the compaction leaves, this is the largest request that the allocator grants then.
+        ensures granted { IfSome result (λ c. (n : ℕ) (w : View) → 1 ≤ n → IsWellFormed w
+            → CompactsBy self.now.step self.now.space w true
+            → CanGrant 1 n w ↔ (AdmitsBlocks 1 w × (n ≤ c.largest))) }
+    {
+        let step = self.step_number();
+        if step == 0 {
+            return None;
+        }
+        self.space.compact_cost_by(step)
+    }
+
     /// What has to move at least for `allocate(size)`, as `make_room` would move it: as `Allocator::room_cost_by`
     /// by the step of the space. `None` is returned where no run of blocks gives up enough, or the space has no step.
     ///
@@ -307,7 +341,8 @@ impl<T: Tables> GuardedOf<T> {
     {
         // Steps of the proof, which do nothing: no name is that of two blocks.
         is_well_formed(&self.space);
-        let progress = self.space
+        let progress = self
+            .space
             .compact_within(step, from, most_units, most_ranges, moved);
         is_well_formed(&self.space);
         progress

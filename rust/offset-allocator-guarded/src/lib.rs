@@ -52,9 +52,10 @@ mod values;
 mod walks;
 
 pub use offset_allocator::{
-    Allocation, Allocator, AllocatorOf, Block, Blocks, BlocksOf, ByField, ByNode, Move, MovePieces,
-    NodeIndex, NodeIndexNonMax, Piece, Progress, ReadError, RoomCost, Scale, Statistics,
-    StorageReport, StorageReportFull, StorageReportFullRegion, Tables, json_of, vma_json_of,
+    Allocation, Allocator, AllocatorOf, Block, Blocks, BlocksOf, ByField, ByNode, CompactCost,
+    Move, MovePieces, NodeIndex, NodeIndexNonMax, Piece, Progress, ReadError, RoomCost, Scale,
+    Statistics, StorageReport, StorageReportFull, StorageReportFullRegion, Tables, json_of,
+    vma_json_of,
 };
 pub use refusal::Refusal;
 use serials::Serials;

@@ -4,7 +4,7 @@
 //! by another one, or by none. It changes the allocator, and no serial.
 
 use crate::GuardedOf;
-use offset_allocator::{Move, Progress, RoomCost, Tables};
+use offset_allocator::{CompactCost, Move, Progress, RoomCost, Tables};
 
 impl<T: Tables> GuardedOf<T> {
     /// Slides live ranges to the front of the space by the step of the space, so that **each keeps every alignment
@@ -132,6 +132,29 @@ impl<T: Tables> GuardedOf<T> {
         self.make_room_by(size, align, step, &mut moved)
     }
 
+    /// What `compact` would copy now, and what would be granted after it, without moving anything: as
+    /// `Allocator::compact_cost_by` by the step of the space. `None` is returned exactly where `compact` would return
+    /// `false`.
+    ///
+    /// ```
+    /// # use offset_allocator_guarded::*;
+    /// # let alloc = Global;
+    /// let mut guarded = Guarded::<u32>::new(alloc, 1000)?;
+    /// let hole = guarded.allocate(300).unwrap();
+    /// guarded.allocate_aligned(100, 256);
+    /// guarded.free(hole);
+    /// let cost = guarded.compact_cost().unwrap();
+    /// assert_eq!((cost.units, cost.ranges, cost.largest), (100, 1, 512));
+    /// # Ok::<(), AllocError>(())
+    /// ```
+    pub fn compact_cost(&self) -> Option<CompactCost> {
+        let step = self.step_number();
+        if step == 0 {
+            return None;
+        }
+        self.space.compact_cost_by(step)
+    }
+
     /// What has to move at least for `allocate(size)`, as `make_room` would move it: as `Allocator::room_cost_by`
     /// by the step of the space. `None` is returned where no run of blocks gives up enough, or the space has no step.
     ///
@@ -235,7 +258,8 @@ impl<T: Tables> GuardedOf<T> {
         mut moved: F,
     ) -> Option<Progress> {
         assert!(1 <= step, "the step must be at least 1");
-        let progress = self.space
+        let progress = self
+            .space
             .compact_within(step, from, most_units, most_ranges, &mut moved);
         progress
     }
