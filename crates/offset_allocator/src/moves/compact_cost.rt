@@ -31,14 +31,14 @@ pub struct CompactCost {
 // Neighbouring blocks that would slide: the units of their ranges, and how many these are, the units that the free ones
 // give up, and whether one of these gives up all.
 #[derive(Clone, Copy)]
-struct Sums {
+struct Totals {
     units: u32,
     ranges: u32,
     given: u32,
     empties: bool,
 }
 
-impl Sums {
+impl Totals {
     // With one more block, which keeps so many units where it is free.
     fn and(self, size: u32, used: bool, keep: u32) -> Self
         requires keep { keep ≤ size }
@@ -50,13 +50,13 @@ impl Sums {
         ensures empties { IsTrue result.empties ↔ (IsTrue self.empties ⊎ ((used ≡ false) × (keep ≡ 0))) }
     {
         if used {
-            Sums {
+            Totals {
                 units: self.units + size,
                 ranges: self.ranges + 1,
                 ..self
             }
         } else {
-            Sums {
+            Totals {
                 given: self.given + (size - keep),
                 empties: self.empties || keep == 0,
                 ..self
@@ -66,7 +66,7 @@ impl Sums {
 }
 
 // These of the blocks from the one of a name on, to the end of the space.
-fn sums_from<T: Tables>(tables: &T, first: u32, step: u32, count: &mut Accesses) -> Sums
+fn sums_from<T: Tables>(tables: &T, first: u32, step: u32, count: &mut Accesses) -> Totals
     requires some { 1 ≤ step }
     requires place { (last spare : ℕ) × (front run : List Block) × IsSpace (T.cells tables.now).chain last spare
         × (blocks (T.cells tables.now).chain last ≡ front ++ run) × (first_or None run ≡ Some first) }
@@ -77,7 +77,7 @@ fn sums_from<T: Tables>(tables: &T, first: u32, step: u32, count: &mut Accesses)
         × (count.old ≤ count.new) × (count.new ≤ count.old + 3 * length run) }
 {
     tables.shape();
-    let mut sums = Sums {
+    let mut sums = Totals {
         units: 0,
         ranges: 0,
         given: 0,

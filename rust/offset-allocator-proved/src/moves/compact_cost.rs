@@ -26,24 +26,24 @@ pub struct CompactCost {
 // Neighbouring blocks that would slide: the units of their ranges, and how many these are, the units that the free ones
 // give up, and whether one of these gives up all.
 #[derive(Clone, Copy)]
-struct Sums {
+struct Totals {
     units: u32,
     ranges: u32,
     given: u32,
     empties: bool,
 }
 
-impl Sums {
+impl Totals {
     // With one more block, which keeps so many units where it is free.
     fn and(self, size: u32, used: bool, keep: u32) -> Self {
         if used {
-            Sums {
+            Totals {
                 units: self.units + size,
                 ranges: self.ranges + 1,
                 ..self
             }
         } else {
-            Sums {
+            Totals {
                 given: self.given + (size - keep),
                 empties: self.empties || keep == 0,
                 ..self
@@ -53,8 +53,8 @@ impl Sums {
 }
 
 // These of the blocks from the one of a name on, to the end of the space.
-fn sums_from<T: Tables>(tables: &T, first: u32, step: u32, count: &mut Accesses) -> Sums {
-    let mut sums = Sums {
+fn sums_from<T: Tables>(tables: &T, first: u32, step: u32, count: &mut Accesses) -> Totals {
+    let mut sums = Totals {
         units: 0,
         ranges: 0,
         given: 0,
