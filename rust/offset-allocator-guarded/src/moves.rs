@@ -144,7 +144,7 @@ impl<T: Tables> GuardedOf<T> {
     /// guarded.allocate_aligned(100, 256);
     /// guarded.free(hole);
     /// let cost = guarded.compact_cost().unwrap();
-    /// assert_eq!((cost.units, cost.ranges, cost.largest), (100, 1, 512));
+    /// assert_eq!((cost.units, cost.ranges, cost.largest), (100, 1, 896));
     /// # Ok::<(), AllocError>(())
     /// ```
     pub fn compact_cost(&self) -> Option<CompactCost> {
