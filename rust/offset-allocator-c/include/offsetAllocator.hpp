@@ -100,6 +100,15 @@ struct RoomCost {
     uint32 ranges;
 };
 
+// What a compaction by whole steps would copy, and the largest request that would be granted then; all 0 where it would not be
+// done.
+struct CompactCost {
+    bool possible;
+    uint32 units;
+    uint32 ranges;
+    uint32 largest;
+};
+
 // Where a range would begin; where the request would not be granted, the offset is 0.
 struct Beginning {
     bool granted;
@@ -151,6 +160,8 @@ inline Statistics of(const oa_totals &from) {
 inline Progress of(oa_progress from) { return {from.done, from.more, from.units, from.ranges, from.next}; }
 
 inline RoomCost of(oa_room from) { return {from.possible, from.units, from.ranges}; }
+
+inline CompactCost of(oa_compaction from) { return {from.possible, from.units, from.ranges, from.largest}; }
 
 inline Beginning of(oa_beginning from) { return {from.granted, from.offset}; }
 
@@ -471,6 +482,7 @@ public:
     RoomCost roomCostBy(uint32 size, uint32 align, uint32 step) const {
         return detail::of(oa_room_cost_by(space, size, align, step));
     }
+    CompactCost compactCostBy(uint32 step) const { return detail::of(oa_compact_cost_by(space, step)); }
 
 private:
     explicit Allocator(oa_allocator *made) noexcept : space(made) {}
@@ -701,6 +713,8 @@ public:
         return detail::of(oag_room_cost_by(space, size, align, step));
     }
     RoomCost roomCostUnaligned(uint32 size) const { return detail::of(oag_room_cost_unaligned(space, size)); }
+    CompactCost compactCost() const { return detail::of(oag_compact_cost(space)); }
+    CompactCost compactCostBy(uint32 step) const { return detail::of(oag_compact_cost_by(space, step)); }
 
     bool isSpent() const { return oag_is_spent(space); }
     uint32 realm() const { return oag_realm(space); }

@@ -92,6 +92,15 @@ typedef struct oa_room {
     uint32_t ranges;
 } oa_room;
 
+/* What a compaction by whole steps would copy, in units and in ranges, and the largest request that would be granted then,
+ * while the node limit admits one block more. possible: whether it would be done; if not, all is 0. */
+typedef struct oa_compaction {
+    bool possible;
+    uint32_t units;
+    uint32_t ranges;
+    uint32_t largest;
+} oa_compaction;
+
 /* Where a range would begin. granted: whether the request would be granted; if not, offset is 0. */
 typedef struct oa_beginning {
     bool granted;
@@ -425,6 +434,11 @@ oa_room oa_room_cost(const oa_allocator *space, uint32_t size);
  * accesses a block, and 2. */
 oa_room oa_room_cost_by(const oa_allocator *space, uint32_t size, uint32_t align, uint32_t step);
 
+/* What oa_compact_by of this step would copy now, and the largest request that would be granted then; nothing moves. Not
+ * possible exactly where oa_compact_by would return false. All 0 for null, or where `step` is 0. Cost: 7 accesses a block,
+ * and 8. */
+oa_compaction oa_compact_cost_by(const oa_allocator *space, uint32_t step);
+
 /* The smallest size of a fresh space that grants a request of this size; 0 above 4026531840, where none does. */
 uint32_t oa_min_allocator_size(uint32_t size);
 
@@ -671,6 +685,10 @@ oa_reason oag_refusal_tight_aligned(const oag_allocator *space, uint32_t size, u
 /* What oag_make_room and oag_make_room_aligned would return now: as oa_room_cost_by by the step of the space. */
 oa_room oag_room_cost(const oag_allocator *space, uint32_t size);
 oa_room oag_room_cost_aligned(const oag_allocator *space, uint32_t size, uint32_t align);
+
+/* What oag_compact would copy now, as oa_compact_cost_by by the step of the space; and what oag_compact_by would. */
+oa_compaction oag_compact_cost(const oag_allocator *space);
+oa_compaction oag_compact_cost_by(const oag_allocator *space, uint32_t step);
 
 /* What oag_make_room_by and oag_make_room_unaligned would return now. */
 oa_room oag_room_cost_by(const oag_allocator *space, uint32_t size, uint32_t align, uint32_t step);

@@ -15,7 +15,7 @@ use offset_allocator_proved::ext::min_allocator_size;
 use offset_allocator_proved::small_float::{float_to_uint, uint_to_float_round_down, uint_to_float_round_up};
 use offset_allocator_proved::{
     json_of, memory, vma_json_of, AllocError, Allocation, Allocator, AllocatorOf, Global, Move, MovePieces, Piece, Progress,
-    ReadError, Refusal, RoomCost, Scale, StateFaultKind, Tables,
+    CompactCost, ReadError, Refusal, RoomCost, Scale, StateFaultKind, Tables,
 };
 
 /// The value of a missing offset or name.
@@ -108,6 +108,16 @@ pub struct Room {
     possible: bool,
     units: u32,
     ranges: u32,
+}
+
+/// What a compaction would copy, and the largest request that would be granted then.
+#[repr(C)]
+#[derive(Default)]
+pub struct Compaction {
+    possible: bool,
+    units: u32,
+    ranges: u32,
+    largest: u32,
 }
 
 /// Where a range would begin.
@@ -311,6 +321,13 @@ fn progressed(found: Option<Progress>) -> Progressed {
 
 fn room(cost: Option<RoomCost>) -> Room {
     cost.map_or(Room::default(), |cost| Room { possible: true, units: cost.units, ranges: cost.ranges })
+}
+
+fn compaction(cost: Option<CompactCost>) -> Compaction {
+    match cost {
+        Some(cost) => Compaction { possible: true, units: cost.units, ranges: cost.ranges, largest: cost.largest },
+        None => Compaction::default(),
+    }
 }
 
 fn beginning(offset: Option<u32>) -> Beginning {
@@ -693,6 +710,10 @@ exports! {
         room(space.room_cost_by(size, align, step))
     } else Room::default();
 
+    fn oa_compact_cost_by([space: &Space], step: u32) -> Compaction {
+        compaction(if step != 0 { space.compact_cost_by(step) } else { None })
+    } else Compaction::default();
+
     fn oa_would_begin([space: &Space], size: u32, align: u32) -> Beginning {
         beginning(if align != 0 { space.would_begin(size, align) } else { None })
     } else Beginning::default();
@@ -1012,6 +1033,12 @@ exports! {
     } else Reason::BadCall;
 
     fn oag_room_cost([space: &GuardedSpace], size: u32) -> Room { room(space.room_cost(size)) } else Room::default();
+
+    fn oag_compact_cost([space: &GuardedSpace],) -> Compaction { compaction(space.compact_cost()) } else Compaction::default();
+
+    fn oag_compact_cost_by([space: &GuardedSpace], step: u32) -> Compaction {
+        compaction(if step != 0 { space.compact_cost_by(step) } else { None })
+    } else Compaction::default();
 
     fn oag_room_cost_aligned([space: &GuardedSpace], size: u32, align: u32) -> Room {
         room(if align != 0 { space.room_cost_aligned(size, align) } else { None })

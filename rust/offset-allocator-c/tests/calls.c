@@ -524,6 +524,10 @@ static void at_the_last_number(void) {
     oa_drop(space);
 }
 
+static bool brings(oa_compaction it, uint32_t units, uint32_t ranges, uint32_t largest) {
+    return it.possible && it.units == units && it.ranges == ranges && it.largest == largest;
+}
+
 /* 30 free units, 10 live at 30, 8 live at 40, 52 free: steps of 8 give up 24 of the 30, so 76 are together */
 static void room_by_steps(void) {
     oa_allocator *space = oa_new(100, 16);
@@ -535,6 +539,9 @@ static void room_by_steps(void) {
     CHECK(costs(oa_room_cost_by(space, 52, 1, 8), 0, 0) && costs(oa_room_cost_by(space, 72, 1, 8), 18, 2));
     CHECK(costs(oa_room_cost(space, 73), 18, 2) && costs(oa_room_cost_by(space, 73, 1, 1), 18, 2));
     CHECK(!oa_room_cost_by(space, 73, 1, 8).possible && !oa_room_cost_by(space, 72, 1, 31).possible);
+    /* the class of 76 is 72, that of all 82 is 80 */
+    CHECK(brings(oa_compact_cost_by(space, 8), 18, 2, 72) && brings(oa_compact_cost_by(space, 1), 18, 2, 80));
+    CHECK(brings(oa_compact_cost_by(space, 31), 0, 0, 52) && !oa_compact_cost_by(space, 0).possible && !oa_compact_cost_by(NULL, 1).possible);
     CHECK(costs(oa_room_cost_by(space, 57, 16, 8), 18, 2) && !oa_room_cost_by(space, 58, 16, 8).possible);
     CHECK(!oa_room_cost_by(space, 4294967295u, 2, 8).possible && !oa_room_cost_by(space, 1, 2147483648u, 8).possible);
     CHECK(!oa_room_cost_by(space, 1, 1, 0).possible && !oa_room_cost_by(space, 1, 0, 1).possible);

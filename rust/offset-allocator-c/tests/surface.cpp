@@ -418,6 +418,7 @@ static void beside() {
     to.clear();
     // two steps of 8 units, and all 24 of the second hole: 40 are needed for 33 at a multiple of 8
     Allocator aligned = a.clone();
+    CHECK(aligned.compactCostBy(16).ranges == 2 && aligned.compactCostBy(16).possible && !aligned.compactCostBy(0).possible);
     CHECK(aligned.roomCostBy(33, 8, 16).ranges == 1 && !aligned.roomCostBy(33, 8, 0).possible && !aligned.roomCostBy(42, 1, 16).possible);
     made = aligned.makeRoomBy(33, 8, 16, [&](Move m) { to.push_back(m.to); CHECK(m.from == 24 && m.size == 24); });
     CHECK(made.possible && made.units == 24 && to == std::vector<uint32>{8} && aligned.wouldBegin(33, 8).granted && aligned.wouldBegin(33, 8).offset == 32);
@@ -614,6 +615,8 @@ static void byTheStep() {
     CHECK(g.step() == 256 && g.offsetOf(mesh) == 512 && g.compact(never) && g.compactWithin(0, 9, 9, never).ranges == 0);
     CHECK(!g.makeRoom(500, never).possible && !g.roomCost(500).possible && g.roomCostUnaligned(500).units == 140 && !g.relocate(mesh));
     CHECK(!g.makeRoomAligned(300, 0, never).possible && !g.roomCostAligned(300, 0).possible && g.free(first));
+    CompactCost all = g.compactCost();
+    CHECK(all.possible && all.units == 140 && all.ranges == 1 && all.largest == 832 && g.compactCostBy(512).units == 140);
     CHECK(g.roomCost(832).units == 140 && !g.roomCost(833).possible && g.roomCostAligned(800, 32).ranges == 1);
     GuardedAllocator a = g.clone(), b = g.clone(), c = g.clone(), d = g.clone(), e = g.clone();
     CHECK(a.makeRoom(832, count).units == 140 && a.offsetOf(mesh) == 0 && a.allocate(832));

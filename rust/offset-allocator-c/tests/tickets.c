@@ -139,6 +139,7 @@ static void by_steps(void) {
     mesh = oag_allocate(space, 8);
     oag_free(space, hole);
     oag_allocate(space, 5);
+    CHECK(!oag_compact_cost_by(space, 4).possible && oag_compact_cost_by(space, 8).possible);
     CHECK(!oag_compact_by(space, 4, count, &moves) && oag_offset_of(space, mesh) == 12 && oag_compact_by(space, 8, NULL, NULL));
     oag_drop(space);
 }
@@ -154,8 +155,11 @@ static void by_the_step(void) {
     CHECK(oag_room_cost_unaligned(space, 500).units == 140 && oag_refusal(space, 500) == OA_FRAGMENTED && !oag_relocate(space, mesh).serial);
     CHECK(oag_make_room_aligned(space, 300, 2, count, &moves).possible && oag_room_cost_aligned(space, 300, 2).ranges == 0 && !moves);
     CHECK(!oag_room_cost_aligned(space, 300, 0).possible && !oag_make_room_aligned(space, 300, 0, count, &moves).possible);
+    CHECK(oag_compact_cost(space).possible && !oag_compact_cost(space).ranges && oag_compact_cost(space).largest == 320);
     /* two steps, and 860 units together, the class of 832 */
     CHECK(oag_free(space, first));
+    oa_compaction cost = oag_compact_cost(space);
+    CHECK(cost.possible && cost.units == 140 && cost.ranges == 1 && cost.largest == 832 && !oag_compact_cost(NULL).possible);
     oa_room room = oag_room_cost_aligned(space, 800, 32);
     CHECK(room.possible && room.units == 140 && room.ranges == 1 && oag_room_cost(space, 832).units == 140 && !oag_room_cost(space, 833).possible);
     oag_allocator *other = oag_clone(space), *third = oag_clone(space);
