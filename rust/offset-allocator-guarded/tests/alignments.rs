@@ -73,7 +73,21 @@ impl<T: Tables<Index = u32>> Spaces<T> {
             (17, Some(place)) => {
                 let _ = self.space.shrink(self.held[place].0, size);
             }
-            (18, _) => assert!(!self.space.compact(&mut note) || self.step.is_some()),
+            (18, _) => {
+                // what it copies, and what is granted then, was said before
+                let cost = self.space.compact_cost();
+                let (mut units, mut ranges) = (0, 0);
+                let done = self.space.compact(|it: Move| {
+                    note(it);
+                    (units, ranges) = (units + it.size, ranges + 1);
+                });
+                assert!(!done || self.step.is_some());
+                assert_eq!(cost.map(|it| (it.units, it.ranges)), done.then_some((units, ranges)));
+                if let Some(cost) = cost.filter(|_| !self.space.is_full()) {
+                    let is_granted = |size| self.space.allocator().refusal(size).is_none();
+                    assert!((cost.largest == 0 || is_granted(cost.largest)) && !is_granted(cost.largest + 1));
+                }
+            }
             (19, _) => {
                 let found = self.space.compact_within(random.below(20_000), size, 1 + random.below(4), &mut note);
                 assert!(found.is_none() || self.step.is_some());
