@@ -91,10 +91,13 @@ resized t n g h s = by_done s.3.0 s.3.1 s.3.2 s.3.3
   where
     alike : (u : Ticket) (g : Guard) → AreAlike u t → range_of u g ≡ range_of t g
     alike u g k = ap₂ (λ (x : ℕ) (b : Bool). if b then named.range_of x g.space else None) k.0 (ap₂ (λ (r : ℕ) (c : Bool). nat_eq r g.realm && c) k.2 (ap₂ nat_eq k.1 (ap (λ (x : ℕ). serial_of x g) k.0)))
+
     own : HasUnits t n g h → (u : Ticket) (r q : Range) → range_of u g ≡ Some r → range_of u h ≡ Some q → AreAlike u t → q.offset ≡ r.offset
     own units u r q e f k = offset_of_some q (record r { size = n }) (sym f ∙ alike u h k ∙ units r (sym (alike u g k) ∙ e))
+
     other : (u : Ticket) (r q : Range) → range_of u g ≡ Some r → range_of u h ≡ Some q → (AreAlike u t → ⊥) → q.offset ≡ r.offset
     other u r q e f k = offset_of_some q r (sym f ∙ s.0 u k ∙ e)
+
     begins : HasUnits t n g h → (u : Ticket) (r q : Range) → range_of u g ≡ Some r → range_of u h ≡ Some q → q.offset ≡ r.offset
     begins units u r q e f = by_cases (cases_eq u.name t.name) (cases_eq u.serial t.serial) (cases_eq u.realm t.realm)
       where
@@ -103,6 +106,7 @@ resized t n g h s = by_done s.3.0 s.3.1 s.3.2 s.3.3
         by_cases (inr a) b c = other u r q e f (λ k. a k.0)
         by_cases a (inr b) c = other u r q e f (λ k. b k.1)
         by_cases a b (inr c) = other u r q e f (λ k. c k.2)
+
     by_done : (d : Option Bool) → (d ≡ Some true → HasUnits t n g h) → (d ≡ Some false → IsSame g h) → (d ≡ None → h ≡ g) → KeepsAsked g h
     by_done None f i j = subst (KeepsAsked g) (sym (j refl)) (λ t a k. k)
     by_done (Some false) f i j = same g h (i refl)
@@ -152,6 +156,7 @@ inherited t u a g h s k =
     let was = some_of (range_of t g) (s.3 refl) in
     let old = k.1 was.0 was.1 in
     let o = offset_in t g was.0.offset (sym (ap (λ (o : Option Range). option_map (λ (r : Range). r.offset) o) was.1)) in
-    let new : a ∣ u.offset = s.4 a old.0 (subst (λ (o : ℕ). a ∣ o) (sym o) old.1) in
-    (let x = s.0.given in omega (arith, x),
-    λ r e. (subst (λ (n : ℕ). a ∣ n) (sym s.2) old.0, subst (λ (o : ℕ). a ∣ o) (offset_of_some (record { offset = u.offset; size = named.size_of t.name g.space }) r (sym s.0.range ∙ e)) new))
+    let new : a ∣ u.offset = s.4 a old.0 (subst (λ (o : ℕ). a ∣ o) (sym o) old.1) in (
+      let x = s.0.given in omega (arith, x),
+      λ r e. (subst (λ (n : ℕ). a ∣ n) (sym s.2) old.0, subst (λ (o : ℕ). a ∣ o) (offset_of_some (record { offset = u.offset; size = named.size_of t.name g.space }) r (sym s.0.range ∙ e)) new),
+    )

@@ -47,5 +47,4 @@ pub fn alignments_are_kept()
     ensures lists { (n align : ℕ) (g h i : Guard) (t : Ticket) (cs : List Call) (rs : List (Option Ticket))
         → TakesAligned n align g h (Some t) → TakesAll h cs rs i
         → (r : Range) → range_of t i ≡ Some r → align ∣ r.offset }
-{
-}
+{}

@@ -307,7 +307,8 @@ impl<T: Tables> GuardedOf<T> {
     {
         // Steps of the proof, which do nothing: no name is that of two blocks.
         is_well_formed(&self.space);
-        let progress = self.space
+        let progress = self
+            .space
             .compact_within(step, from, most_units, most_ranges, moved);
         is_well_formed(&self.space);
         progress
@@ -389,7 +390,8 @@ impl<T: Tables> GuardedOf<T> {
 
     /// Makes room for a request of `size` units, where ranges have to move for it, as `Allocator::make_room`
     /// does. **A moved range keeps no alignment**, whatever was asked for; `make_room` keeps all. Every ticket
-    /// stays live, with its size; `offset_of` returns where its range begins. If `moved` panics, the guarded allocator must not be used any more: drop it.
+    /// stays live, with its size; `offset_of` returns where its range begins. If `moved` panics, the guarded
+    /// allocator must not be used any more: drop it.
     ///
     /// ```
     /// let hole = guarded.allocate(300).unwrap();
