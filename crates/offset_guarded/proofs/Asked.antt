@@ -1,5 +1,5 @@
 -- Alignments that were asked for are kept by each call of tickets, and so by every list of them.
-use Rattle.std.proofs.Common.{◌≡◌, ◌∙◌, ℕ, ◌+◌, ◌%◌, ◌≤◌, Bool, true, false, ◌&&◌, List, [], ◌∷◌, Option, Some, None, IfSome, nat_eq, option_map, if◌then◌else◌, refl, sym, ap, ap₂, subst, arith}
+use Rattle.std.proofs.Common.{◌≡◌, ◌∙◌, ℕ, ◌≤◌, Bool, true, false, ◌&&◌, List, [], ◌∷◌, Option, Some, None, nat_eq, option_map, if◌then◌else◌, refl, sym, ap, ap₂, subst, arith}
 use Rattle.std.proofs.Common.{inl, inr}
 use Rattle.std.specs.Prelude.{◌⊎◌, ◌≢◌, is_some}
 use Rattle.std.proofs.lemmas.Bool.{cases_eq}
@@ -8,8 +8,7 @@ use Rattle.std.proofs.Math.Nat.{dvd_of_mod-eq-zero, dvd_refl, dvd_trans}
 use Rattle.offset_allocator.specs.View.{View}
 use Rattle.offset_allocator.specs.Ranges.{Range}
 use Rattle.offset_allocator.specs.Ranges as named
-use Rattle.offset_guarded.specs.Guard.{AreAlike, Grants, Guard, HasUnits, IsLive, IsSame, KeepsAlignments, KeepsAll, KeepsDivisors, KeepsLive, KeepsOthers, KeepsSerials, KeepsSizes, Ticket, fits, range_of, serial_of}
-use Rattle.offset_guarded.specs.Step.{IsJoined}
+use Rattle.offset_guarded.specs.Guard.{AreAlike, Grants, Guard, HasUnits, IsSame, KeepsDivisors, KeepsOthers, KeepsSizes, Ticket, range_of, serial_of}
 use Rattle.offset_guarded.specs.Calls.{Call, HasAsked, KeepsAsked, Moves, Takes, TakesAligned, TakesAll, TakesPlain, TakesSecond, TakesUnits}
 use Rattle.offset_guarded.specs.Calls.Call.{Allocate, Allocate_aligned, Allocate_at, Allocate_tight, Allocate_tight_aligned, By_steps, Compact, Compact_within, Copied, Extend, Free, Grow_in_place, Make_room, Make_room_aligned, Raise_step, Raised, Relocate, Relocate_aligned, Reset, Retract, Shrink, Stored}
 use Rattle.offset_guarded.proofs.Offsets.{kept_alignments, offset_in}

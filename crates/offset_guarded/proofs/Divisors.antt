@@ -1,5 +1,5 @@
 -- Greatest common divisors, and least common multiples.
-use Rattle.std.proofs.Common.{◌≡◌, ℕ, zero, ◌+◌, ◌*◌, ◌/◌, ◌%◌, ◌<◌, ◌≤◌, inl, inr, refl, sym, subst, ap, ◌∙◌, arith}
+use Rattle.std.proofs.Common.{◌≡◌, ℕ, ◌+◌, ◌*◌, ◌/◌, ◌%◌, ◌<◌, ◌≤◌, inl, inr, sym, subst, ap, ◌∙◌, arith}
 use Rattle.std.proofs.Math.Nat.{div-add-mod', dvd-add_iff_right, dvd-mul_left_of_dvd, dvd-mul_left, dvd-mul_right, div-mul_cancel, dvd_of_mul-dvd-mul_left, mul_assoc, mul_comm, add-mul, mul-dvd-mul_left}
 use Rattle.std.proofs.Math.Nat.{dvd_of_mod-eq-zero, dvd_antisymm, dvd_refl, dvd-zero, le_of_dvd, pos_of_dvd_of_pos}
 use Rattle.std.proofs.lemmas.Bool.{cases_eq}

@@ -1,7 +1,7 @@
 -- Where live blocks begin, before and after they move by whole steps.
-use Rattle.std.proofs.Common.{◌≡◌, ℕ, zero, suc, ◌+◌, ◌%◌, ◌≤◌, Bool, true, false, ◌&&◌, List, [], ◌∷◌, ◌++◌, Option, Some, None, nat_eq, option_map, option_and_then, if◌then◌else◌}
+use Rattle.std.proofs.Common.{◌≡◌, ℕ, zero, suc, ◌+◌, ◌%◌, ◌≤◌, Bool, true, false, ◌&&◌, List, [], ◌∷◌, ◌++◌, Option, Some, None, nat_eq, option_map, if◌then◌else◌}
 use Rattle.std.proofs.Common.{refl, sym, ap, ap₂, subst, ◌∙◌, arith, inl, inr, append-nil, ne_eqb, eq-eqb}
-use Rattle.std.proofs.Math.Nat.{add-mod, mod-mod, dvd-mod_iff, dvd_trans}
+use Rattle.std.proofs.Math.Nat.{add-mod, mod-mod, dvd-mod_iff}
 use Rattle.std.specs.Int.{◌∣◌}
 use Rattle.offset_allocator.specs.View.{Block, View, Place, IsWellFormed, count_named, free_block, free_part, place_of, units}
 use Rattle.offset_allocator.specs.Ranges.{Range, range_of}

@@ -424,7 +424,8 @@ impl<T: Tables> GuardedOf<T> {
 
     /// Makes room for a request of `size` units, where ranges have to move for it, as `Allocator::make_room`
     /// does. **A moved range keeps no alignment**, whatever was asked for; `make_room` keeps all. Every ticket
-    /// stays live, with its size; `offset_of` returns where its range begins. If `moved` panics, the guarded allocator must not be used any more: drop it.
+    /// stays live, with its size; `offset_of` returns where its range begins. If `moved` panics, the guarded
+    /// allocator must not be used any more: drop it.
     ///
     /// ```
     /// let hole = guarded.allocate(300).unwrap();

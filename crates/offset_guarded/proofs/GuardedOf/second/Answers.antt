@@ -1,4 +1,4 @@
-use Rattle.std.proofs.Common.{◌≡◌, ◌∙◌, ◌%◌, ℕ, None, Some, ap, subst, sym}
+use Rattle.std.proofs.Common.{◌≡◌, ◌%◌, ℕ, None, Some, ap, subst, sym}
 use Rattle.offset_allocator.specs.Ranges.{size_of}
 use Rattle.offset_allocator.specs.Moving.Relocating.{RelocatesAligned}
 use Rattle.offset_guarded.specs.Guard.{Grants, Guard, Ticket, handle_in}

@@ -1,4 +1,4 @@
-use Rattle.std.proofs.Common.{◌*◌, arith}
+use Rattle.std.proofs.Common.{arith}
 use Rattle.std.proofs.lemmas.Nat.Gcd.{IsGcd-from_zero, IsGcd-from_mod}
 use Rattle.offset_guarded.proofs.Divisors.{rest_multiple}
 use Rattle.offset_guarded.proofs.step.common_divisor.Goals as goal
