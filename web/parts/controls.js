@@ -39,7 +39,11 @@ $('mfrom').onchange = $('mto').onchange = showMarks;
 $('link').onclick = link; const help = () => { $('help').showModal(); $('closehelp').focus(); };
 $('keys').onclick = help; $('closehelp').onclick = () => $('help').close();
 $('undo').onclick = () => undo(S.past, S.ahead); $('redo').onclick = () => undo(S.ahead, S.past); $('original').onclick = original;
-const fileName = end => S.title.replace(/\.[a-z]+$/, '').replace(/[^\w.-]+/g, '-') + end;
+const fileName = end => {
+  const { file } = S.run, heap = file && isSeveral(file) ? ` ${nameOfPart(file, S.part)}` : '';
+  return (S.title.replace(/\.[a-z]+$/, '') + heap).replace(/[^\w.-]+/g, '-').replace(/-+$/, '') + end; };
+$('exportall').onclick = () => save(new Blob([S.bytes]), fileNameOfAll());
+const fileNameOfAll = () => S.title.replace(/\.[a-z]+$/, '').replace(/[^\w.-]+/g, '-') + '.script';
 $('export').onclick = async () => {
   const text = await during('Writing', w => writeText(S.run, w));
   if (text !== null) save(new Blob([text]), fileName('.script')); };

@@ -127,7 +127,7 @@ function ticks(run, from, to, w) {
   run.ticks = run.ticks || new Map();
   const key = `${from} ${to} ${w}`;
   if (run.ticks.size > 9) run.ticks.clear();
-  if (!run.ticks.has(key)) run.ticks.set(key, new Set(run.refusals.filter(p => p >= from && p <= to).map(p => Math.round((p - from) / (to - from) * w))));
+  if (!run.ticks.has(key)) run.ticks.set(key, new Set(tickedRows(run).filter(p => p >= from && p <= to).map(p => Math.round((p - from) / (to - from) * w))));
   return run.ticks.get(key);
 }
 // The lives of all ranges, drawn once for each size of the window and scheme of colours, in turns: what is missing comes

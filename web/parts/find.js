@@ -62,7 +62,7 @@ async function look() {
   if (key !== (run.found ? run.found.key : null)) run.found = key === null ? null : await during('Looking', work => sought(run, S.find, work));
   if (S.run !== run) return;
   FIELDS_FOUND.forEach((id, i) => { $(id).value = S.find ? S.find[i] : ''; });
-  $('fnever').checked = Boolean(S.find && S.find[5]); $('byname').value = S.byName ? 1 : 0; $('unit').value = S.unit || '';
+  $('fnever').checked = Boolean(S.find && S.find[5]); $('byname').options[0].disabled = run.file.isDump; $('byname').value = S.byName ? 1 : 0; $('unit').value = S.unit || '';
   const f = run.found;
   $('found').textContent = f ? `${counted(f.count, 'range')} granted, ${units(f.units)}; never freed: ${counted(f.left, 'range')}, ${units(f.leftUnits)}.` : '';
   showLegend();

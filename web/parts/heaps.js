@@ -25,7 +25,7 @@ async function surveyed(file, bytes, work) {
   const m = new Module();
   const all = file.parts.reduce((sum, of) => sum + of.lines.length, 0), last = file.lines + 1;
   for (const of of file.parts) {
-    if (of.before) carryNames(of);
+    if (of.before) { carryNames(of); of.firstStep = of.before.step; }
     const run = of.run(m), curve = new Float32Array(STEPS).fill(-1), step = line => Math.min(STEPS - 1, Math.floor(line / last * STEPS));
     run.start(of.lines.length); run.left = 0;
     let before = 0, to = of.to ?? last;
@@ -43,6 +43,7 @@ async function surveyed(file, bytes, work) {
       of.named = new Map();
       for (let k = 1; k < run.born.length; k++) if (run.died.list[k] === ALIVE && run.nameOf(k)) of.named.set(run.life(run.last.list[k]).o, run.nameOf(k));
     }
+    of.refused = Uint32Array.from(run.refusals); of.step = stepAt(run, run.count);
     const size = run.sizes.reduce((m, s) => Math.max(m, s[1]), 1);
     for (let s = step(of.from), i = 0; s <= step(to) && s < STEPS; s++) {
       let highest = before;
@@ -79,7 +80,7 @@ function showTime() {
 const lineAt = (run, p) => p ? run.lines[Math.min(p, run.lines.length) - 1] || run.part.from : run.part ? run.part.from : 0;
 function showHeaps() {
   const { file } = S.run, isShown = Boolean(file && isSeveral(file));
-  $('heaps').hidden = !isShown;
+  $('heaps').hidden = !isShown; $('exportall').hidden = !isShown;
   if (!isShown) return;
   const { parts, others } = file;
   file.refused ??= others.filter(o => o.kind === OTHER.refused).length; file.left ??= parts.reduce((sum, of) => sum + of.seen.live, 0);
@@ -96,9 +97,9 @@ function showHeaps() {
   if (L.others.of !== file) { L.others.of = file; L.others.set(others.length); }
   $('nogranthead').textContent = `${counted(others.length, 'call')} that changed no heap`;
 }
-function saidOf({ kind, n, a, why }) {
+function saidOf({ kind, n, a, why, isTight }) {
   if (kind === OTHER.gone) return ['a place that is not live', 'gone'];
-  const request = (a > 1 ? `align ${n} ${a}` : `alloc ${n}`) + (S.unit && n ? ` (${inBytes(n)})` : '');
+  const request = said(a > 1 ? (isTight ? OP.tightAligned : 1) : isTight ? OP.tight : 0, n, a) + (S.unit && n ? ` (${inBytes(n)})` : '');
   return kind === OTHER.kept ? [`relocate ${units(n)}${a > 1 ? ` at a multiple of ${whole(a)}` : ''}`, 'no other heap takes it'] : [request, WHY_NOT[why]];
 }
 function drawOther(row, i) {
@@ -106,33 +107,25 @@ function drawOther(row, i) {
   cell(row, whole(other.line), 'n', 'The line of the file'); cell(row, what, 'c'); cell(row, why, other.kind === OTHER.refused ? 'bad' : '', why);
   if (other.name) cell(row, other.name, 'dim', other.name);
 }
-// What the heaps had when a call changed none of them: shown with the call.
+// A call that changed no heap, where it is chosen.
 function showUngranted(i) {
-  const { file } = S.run, other = file.others[i], [what, why] = saidOf(other), there = [];
-  for (const [j, of] of file.parts.entries()) {
-    if (of.from > other.line || (of.to !== null && of.to <= other.line)) continue;
-    const p = rowAtLine(of, other.line), size = of.sizes.findLast(([row]) => row <= p)[1];
-    there.push({ j, free: size - (p ? of.used[p - 1] : 0), largest: p ? of.largest[p - 1] : valueOf(classOf(size)) });
-  }
+  const { file } = S.run, other = file.others[i];
+  if (isUngranted(other)) return toUngranted(i);
   jump(rowAtLine(S.run, other.line));
-  // where units differ, the largest is that in bytes
-  const isMixed = file.units.size > 0, inAll = h => h.largest * (isMixed ? unitOf(file, h.j) || 1 : 1);
-  const best = there.reduce((b, h) => !b || inAll(h) > inAll(b) ? h : b, null), free = addedUp(file, there.map(h => [h.j, h.free]));
-  say(`Line ${whole(other.line)}: ${what}: ${why}. Then there ${there.length === 1 ? 'was' : 'were'} ${counted(there.length, 'heap')}${free ? `, with ${free} free in all` : ''}` +
-    (best ? `; the largest request that one granted was ${units(best.largest, unitOf(file, best.j))}, of ${nameOfPart(file, best.j)}` : '') + '.', false, best ? [['Open it', () => openPart(best.j, other.line)]] : []);
+  return say(`Line ${whole(other.line)}: ${saidOf(other).join(': ')}.`);
 }
 // Opens another part, at the time of the file that is shown, at a line, or at its first refusal.
-async function openPart(i, line = lineAt(S.run, S.p), isAtRefusal = false) {
+async function openPart(i, line = lineAt(S.run, S.p), isAtRefusal = false, row = null, ungranted = null) {
   stop();
-  if (i === S.part) return jump(isAtRefusal && S.run.refusals.length ? S.run.refusals[0] : rowAtLine(S.run, line));
+  if (i === S.part) return jump(isAtRefusal && S.run.refusals.length ? S.run.refusals[0] : row ?? rowAtLine(S.run, line), ungranted);
   const { file } = S.run, of = file.parts[i];
   const run = await during('Playing', work => of.run().survey(work));
   if (!run) return null;
   leave();
   Object.assign(run, { file, part: of });
-  Object.assign(S, { run, base: run, part: i, past: [], ahead: [], grant: 0, free: undefined, zoom: null, life: null, find: null, unit: file.units.size ? unitIn(file, of) : S.unit });
-  dropOther(); showNames(); await look(); go(isAtRefusal ? run.refusals[0] : rowAtLine(run, line)); enter();
-  say(`${nameOfPart(file, i)}, at ${isAtRefusal ? 'its first refusal' : `line ${whole(line)} of the file, the time that was shown${run.refusals.length ? '. The number of its refusals opens it at the first' : ''}`}.`);
+  Object.assign(S, { run, base: run, part: i, past: [], ahead: [], grant: 0, free: undefined, zoom: null, life: null, find: null, ungranted: null, unit: file.units.size ? unitIn(file, of) : S.unit });
+  dropOther(); showNames(); await look(); go(isAtRefusal ? run.refusals[0] : row ?? rowAtLine(run, line), ungranted); enter();
+  say(`${nameOfPart(file, i)}, at ${isAtRefusal ? 'its first refusal' : row !== null ? 'its next refusal in the file' : ungranted !== null ? `line ${whole(line)} of the file` : `line ${whole(line)} of the file, the time that was shown${run.refusals.length ? '. The number of its refusals opens it at the first' : ''}`}.`);
   return null;
 }
 const rowAtLine = (run, line) => firstOf(run.lines.length, i => run.lines[i] > line);

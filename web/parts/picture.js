@@ -25,7 +25,7 @@ async function pictured(run, w, h, work) {
     list.map((v, i) => v === undefined ? '' : `L${left + i} ${fixed(low - v / most * (low - high))}`).join('') + `L${right} ${low}z`;
   const ticks = run.refusals.map(p => `<path stroke='${c.mark}' stroke-width='2' d='M${x(p)} ${top}v10'><title>` +
     safe(`row ${p}: ${said(...run.call(p - 1))}: ${REASONS[run.row(p - 1)[7]] || 'refused'}`) + '</title></path>');
-  const title = `${S.title}: ${counted(run.count, 'call')}, ${counted(run.refusals.length, 'refusal')}`;
+  const heap = run.file && isSeveral(run.file) ? `, ${nameOfPart(run.file, S.part)}` : '', title = `${S.title}${heap}: ${counted(run.count, 'call')}, ${counted(run.refusals.length, 'refusal')}`;
   const words = ['to 10', '30', '100', '300', '1,000', '3,000', '10,000', 'more'], narrow = w < 600, places = [left];
   for (const t of words) places.push(places.at(-1) + (narrow ? 17 : 40) + 5.8 * t.length);
   return `<svg xmlns='http://www.w3.org/2000/svg' width='${w}' height='${h}' viewBox='0 0 ${w} ${h}' ` +

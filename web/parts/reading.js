@@ -9,7 +9,7 @@ const CALLS = [['alloc', 'n'], ['align', 'na'], ['free', 'k'], ['size', 'k'], ['
   ['tight', 'na'], ['room', 'n'], ['room', 'nas'], ['relocate', 'k'], ['relocate', 'ka'], ['retract', 'd'], ['offset', 'k'],
   ['where', 'n'], ['where', 'na'], ['first', ''], ['last', ''], ['before', 'k'], ['after', 'k'], ['cost', 'n'], ['cost', 'nas'],
   ['why alloc', 'n'], ['why align', 'na'], ['why tight', 'n'], ['why tight', 'na'], ['at', 'dn']];
-const NAMES = CALLS.map(c => c[0]), KINDS = CALLS.map(c => c[1]), OP = { free: 2, compact: 10, within: 12, tight: 13, tightAligned: 14, room: 15, relocate: 17, relocateAligned: 18, retract: 19, whyAlloc: 29, whyAlign: 30, at: 33 };
+const NAMES = CALLS.map(c => c[0]), KINDS = CALLS.map(c => c[1]), OP = { free: 2, compact: 10, compactBy: 11, within: 12, tight: 13, tightAligned: 14, room: 15, roomBy: 16, relocate: 17, relocateAligned: 18, retract: 19, whyAlloc: 29, whyAlign: 30, at: 33, size: 3, report: 4, last: 24 };
 const isOnGrant = op => KINDS[op][0] === 'k', isTight = op => op === OP.tight || op === OP.tightAligned;
 const isRelocation = op => NAMES[op] === 'relocate', isSlide = op => ['compact', 'room'].includes(NAMES[op]);
 const said = (op, ...of) => [NAMES[op], ...of.slice(0, KINDS[op].length)].join(' ');
@@ -48,12 +48,12 @@ function inOrder(count, key) {
 // A part is the recording of one space: of one heap of many, or of what takes the place of the one before.
 class Part {
   constructor(heap, head, from, title) {
-    Object.assign(this, { heap, head, from, title, calls: new Growing(Uint32Array, 64 * WIDE), lines: new Growing(Uint32Array, 64), names: new Map(), given: [], drops: [], to: null, end: '', before: null });
+    Object.assign(this, { heap, head, from, title, calls: new Growing(Uint32Array, 8 * WIDE), lines: new Growing(Uint32Array, 8), names: new Map(), given: [], drops: [], to: null, end: '', before: null, refused: new Uint32Array(0) });
   }
-  run(m) { return Object.assign(new Run(this.head, this.calls, this.names, this.lines, m), { given: this.given }); }
+  run(m) { return Object.assign(new Run(this.head, this.calls, this.names, this.lines, m), { given: this.given, firstStep: this.firstStep || 1 }); }
 }
 async function readText(bytes, work) {
-  const m = new Module(), decoder = new TextDecoder(), one = new Map(), file = { parts: [], marks: [], others: [], isMany: false, lines: 0, unit: 0, units: new Map() }, open = new Map();
+  const m = new Module(), decoder = new TextDecoder(), one = new Map(), file = { parts: [], marks: [], others: [], isMany: false, isDump: false, lines: 0, unit: 0, units: new Map() }, open = new Map();
   const bad = line => new Fault(`line ${line}: bad command`, line, ...spanOf(bytes, line));
   let at = 0, part = 0;
   do {
@@ -101,13 +101,14 @@ async function readText(bytes, work) {
         // without a heap it is of all
         if (of) file.units.set(Number(of), unit); else { file.unit = unit; file.units.clear(); }
       }
+      else if (kind === OTHER.mark && word === 'dump') file.isDump = true;
       else if (kind === OTHER.mark && /^(heap \d{1,10} )?name \d{1,10} ./.test(word)) {
         // the name of a grant, after it; of many heaps it says of which
         const [, heap, k, name] = /^(?:heap (\d+) )?name (\d+) +(.*)$/s.exec(word), of = file.isMany === (heap !== undefined) ? open.get(Number(heap || 0)) : null;
         if (!one.has(name)) one.set(name, name);
         if (of) of.given.push([Number(k), one.get(name), of.lines.length]);
       } else if (kind === OTHER.mark) file.marks.push(marked(file.marks.at(-1), line, word));
-      else { file.isMany = true; file.others.push({ line, kind, n: rows[i + 1], a: rows[i + 2], why: rows[i + 3], name: word }); }
+      else { file.isMany = true; file.others.push({ line, kind, n: rows[i + 1], a: rows[i + 2], why: rows[i + 3], isTight: rows[i + 4] === 1, name: word }); }
     }
     at = end; part = 1;
     await work.turn(at, bytes.length);
@@ -155,7 +156,7 @@ const unitIn = (file, { heap }) => file.units.get(heap) ?? file.unit;
 // The text of calls: what reads as them again.
 async function writeText(run, work) {
   const unit = run.file ? unitIn(run.file, run.part) : 0, flags = flagsOf(run);
-  const parts = [`space ${run.head[0]} nodes ${run.head[1]} index ${run.head[2]}\n${unit ? `#! unit ${unit}\n` : ''}`];
+  const parts = [`space ${run.head[0]} nodes ${run.head[1]} index ${run.head[2]}\n${unit ? `#! unit ${unit}\n` : ''}${run.file?.isDump ? '#! dump\n' : ''}`];
   for (let i = 0, mark = 0; i <= run.count; i++) {
     for (; mark < flags.length && flags[mark] <= i; mark++) if (run.file.marks[mark].line > run.part.from) parts.push(`#! ${run.file.marks[mark].text}\n`);
     if (i === run.count) break;
