@@ -161,7 +161,7 @@ def keys_work_everywhere(b):
     b.keys("Escape")
     reached = set()
     b.run("document.activeElement.blur(); scrollTo(0, 0)")
-    for _ in range(130):
+    for _ in range(170):
         b.keys("Tab")
         reached.add(b.run("return document.activeElement.id"))
     missing = b.run("return [...document.querySelectorAll('button, select, input, textarea')].filter(e => e.id && !e.disabled && e.getClientRects().length)"

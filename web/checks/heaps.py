@@ -395,7 +395,7 @@ def each_heap_has_its_unit(b):
     same([b.run(shown), b.run(cells)], [[32, "32", "6,000 units (188 KiB)", "2 ranges, 1.03 MiB."], ours], "each heap is shown in its own unit, and the sum in bytes")
     b.run("return openPart(1)")
     same([b.run(shown), b.run(cells)], [[65536, "65536", "512 units (32.0 MiB)", "2 ranges, 1.03 MiB."], ours], "also where the other is open")
-    b.run("return writeText(S.run, new Work('Writing')).then(text => window.written = text)")
+    b.run("return writeText(S.run, new Work('Writing')).then(made => made.text()).then(text => window.written = text)")
     same(b.run("return written.split('\\n').slice(0, 2)"), ["space 512 nodes 16 index 32", "#! unit 65536"], "what is saved of it has its unit")
     b.run("showUngranted(0)")
     same(b.run("return $('told').textContent.split('Then ')[1]"), "there were 2 heaps, with 31.2 MiB free in all; the largest request that one granted was 480 units (30.0 MiB), of heap 1 “textures”.",

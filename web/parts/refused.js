@@ -131,7 +131,7 @@ async function explainUngranted(file, i, turns) {
   for (const kind of ['compact', 'move', 'relocate', 'release', 'extend', 'tight', 'smaller']) {
     const list = kind === 'relocate' ? await relocations(found, runs, turns) : found.filter(help => help.kind === kind);
     const help = list.reduce((b, x) => !b || (x.cost ?? 0) < (b.cost ?? 0) ? x : b, null);
-    if (help) out.helps.push({ text: `in ${heap(help.h.j)}: ${help.text}`, calls: help.calls, part: help.h.j, line, outline: help.h.j === S.part ? help.outline : undefined });
+    if (help) out.helps.push({ text: `in ${heap(help.h.j)}: ${help.h.j === S.part ? help.text : help.text.replace(/ \((dashed|outlined)\)/, '')}`, calls: help.calls, part: help.h.j, line, outline: help.h.j === S.part ? help.outline : undefined });
   }
   return out;
 }

@@ -98,7 +98,7 @@ function picked(source, old, others) {
 // `scale`: how many units of the run beside it one of its units is.
 class Run {
   constructor(head, calls, names, lines, m = new Module()) {
-    Object.assign(this, { head, names, lines, count: 0, at: 0, held: null, m, marks: [], kept: 0, edits: [], named: Infinity, given: [], scale: 1, firstStep: 1 });
+    Object.assign(this, { head, names, lines, count: 0, at: 0, held: null, m, marks: [], kept: 0, edits: [], named: Infinity, given: [], scale: 1, firstStep: 1, pictures: {}, spaces: {} });
     this.calls = new Growing(Uint32Array, 0);
     this.calls.list = calls; this.calls.length = calls.length;
     this.rows = new Growing(Uint32Array, 8 * this.all + 8);
@@ -114,6 +114,8 @@ class Run {
     this.isPlain = head[0] > 0;
   }
   get all() { return this.calls.length / WIDE; }
+  // The lives as they are drawn large.
+  get picture() { return this.pictures.life; }
   // Plays all calls from the start.
   async survey(work) {
     this.start(this.all);

@@ -20,10 +20,12 @@ function draw() {
   }
   showSpace();
   drawLives('life', run, () => S.run === run ? S.p : null);
+  drawAxis(run);
   drawCurves(run, p);
+  drawMaps(run, p, isQuick);
   drawMarks(run);
   showMarks();
-  if (!isQuick) showHeaps();
+  if (!isQuick) { showHeaps(); drawHeapsNow(); }
   const free = size - run.usedAt(p), share = (100 * run.usedAt(p) / Math.max(1, size)).toFixed(1);
   let reports = `${units(size)}: ${sized(run.usedAt(p))} used (${share}%), ${sized(free)} free. ` +
     (r && !run.file?.isDump ? `Largest request that is granted: ${sized(r[5])}. ` : '');
@@ -41,7 +43,8 @@ function draw() {
   $('lives').textContent = `Up to ${sized(run.top)}, the highest end of a range, of ${units(run.sizes.at(-1)[1])}. ` +
     `The line is the position; ticks are refusals${flagsOf(run).length ? ', those at the lower edge marks' : ''}. ` + (run.file?.isDump ? 'Below: the units in use (lighter), and the largest request that offset_allocator would grant in these blocks (darker): the allocator of the dump may grant others.' :
     'Below: the units in use (lighter), and the largest request that is granted (darker).');
-  $('lzall').disabled = !S.life;
+  for (const id of ['lzall', 'lleft', 'lright', 'lup', 'ldown']) $(id).disabled = !S.life;
+  $('zleft').disabled = $('zright').disabled = !S.zoom;
   tellUnder();
   $('at').value = p; $('row').value = p; $('now').ariaLive = playing ? 'off' : 'polite';
   $('at').setAttribute('aria-valuetext', p ? `row ${p}: ${said(...op)}, ${answered(run, p - 1)}` : 'before the first row');

@@ -86,7 +86,7 @@ async function showText() {
   const run = S.run;
   if (run.count > MOST_SHOWN) { say(`The text is too long to be shown: ${counted(run.count, 'call')}. It can be saved.`); return; }
   let text = run === S.base && S.bytes.length < 1 << 22 ? new TextDecoder().decode(S.bytes) : null;
-  if (text === null) text = await during('Writing', work => writeText(run, work));
+  if (text === null) text = await during('Writing', async work => (await writeText(run, work)).text());
   if (text === null) return;
   $('text').value = text; S.shown = true;
   $('textname').textContent = S.run === S.base ? S.title : `${S.title}, yours from row ${whole(S.run.kept)}`;
