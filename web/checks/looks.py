@@ -54,8 +54,8 @@ def lives_after_the_position_are_seen(b):
         bg = "#ffffff" if scheme == "light" else "#16181b"
         weak = {c: round(contrast(c, bg), 2) for c in found if contrast(c, bg) < 3}
         holds(len(found) >= 3 and not weak, f"{scheme}: lives after the position have 3:1 to the background", (found, weak))
-        before = b.run("go(S.run.count - 10); const c = $('life'); return [...c.getContext('2d').getImageData(Math.round(c.width * 0.6), c.height - 100, 1, 1).data]")
-        after = b.run("go(1); const c = $('life'); return [...c.getContext('2d').getImageData(Math.round(c.width * 0.6), c.height - 100, 1, 1).data]")
+        before = b.run("go(S.run.count - 10); const c = $('life'); return [...c.getContext('2d').getImageData(Math.round(c.width * 0.6), 20, 1, 1).data]")
+        after = b.run("go(1); const c = $('life'); return [...c.getContext('2d').getImageData(Math.round(c.width * 0.6), 20, 1, 1).data]")
         holds(before != after, "and are not those before it", (before, after))
 
 

@@ -5,7 +5,7 @@ import re
 
 from .base import give, holds, play, recorded, same, to, until
 from .heaps import VMA
-from .refusals import ranges_after
+from .refusals import alignments_of, ranges_after
 
 HEAPS = """# meshes
 heap 0 space 1000 nodes 64 index 32
@@ -159,11 +159,6 @@ def heaps_are_asked(b):
     same(b.run("return [0, 1].map(i => saidOf(S.run.file.others[i])[0])"), ["tight 90", "tight 80 16"], "a tight request is said as such")
 
 
-def lcm(*numbers):
-    from math import lcm as least
-    return least(*numbers)
-
-
 def random_aligned(seed):
     r = random.Random(seed)
     size, lines, grants = r.choice((1000, 4000)), [], 0
@@ -183,20 +178,6 @@ def random_aligned(seed):
         else:
             lines.append("reset")
     return lines
-
-
-def alignments_of(lines):
-    """The alignment of each grant by the program's answers, and the step since the last reset."""
-    answers, of, step = recorded("\n".join(lines) + "\n")[0].splitlines(), {}, 1
-    for line, answer in zip(lines[1:], answers):
-        words = line.split()
-        if answer == "reset":
-            step = 1
-        if answer.startswith("grant "):
-            a = int(words[2]) if words[0] in ("align", "tight") and len(words) > 2 else 1
-            of[int(answer.split()[1])] = a
-            step = lcm(step, a)
-    return of, step
 
 
 def advice_keeps_alignments(b):

@@ -127,7 +127,7 @@ function showHeaps() {
   $('heaps').hidden = !isShown; $('exportall').hidden = !isShown;
   if (!isShown) return;
   const { parts, others } = file;
-  file.refused ??= others.filter(o => o.kind === OTHER.refused).length; file.left ??= parts.reduce((sum, of) => sum + of.seen.live, 0);
+  file.refused ??= others.filter(isUngranted).length; file.left ??= parts.reduce((sum, of) => sum + of.seen.live, 0);
   const keyOfSum = [S.part, S.unit].join();
   if (file.sum?.key !== keyOfSum) file.sum = { key: keyOfSum, text: addedUp(file, parts.map((of, i) => [i, of.seen.units]).filter(([, n]) => n)) || 'of units that differ, and are not added up' };
   const left = file.sum.text;
