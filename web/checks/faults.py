@@ -1,5 +1,6 @@
 """Faults that the page once had: each of these checks failed before it was mended. They use the page as its user does."""
 
+import re
 import subprocess
 import sys
 import time
@@ -10,6 +11,26 @@ import page
 
 def made_of_sources(b):
     same(page.sum_within((WEB / "page.html").read_text(encoding="utf-8")), page.sum_of_sources(), "the page is made of its sources")
+
+
+def words_in_comments_ask_for_no_page(b):
+    """The page is made of sources without comments: each keeps its other words, and a word of these asks for another page."""
+    word = re.compile(r"""//[^\n]*|b?"(?:\\.|[^"\\])*"|'(?:\\.|[^\\'\n])'|\w+|\S""", re.S)
+    words = lambda text: [w for w in word.findall(text) if not w.startswith("//")]
+    made = (WEB / "page.html").read_text(encoding="utf-8")
+    for path in page.sources():
+        text = path.read_text(encoding="utf-8")
+        bare = page.bare(path.name, text)
+        assert page.bare(path.name, bare) == bare, path
+        if path.suffix == ".rs":
+            assert words(bare) == words(text), path
+            line = next(line for line in text.splitlines() if line.startswith("pub ") or line.startswith("use "))
+            assert page.bare(path.name, text.replace(line, "/// A word.\n// Another.\n" + line)) == bare, path
+            assert page.bare(path.name, text.replace(line, line + " fn another() {}")) != bare, path
+        if path.suffix == ".js":
+            assert page.bare(path.name, "// A word.\n" + text) == bare and (path.stem == "module" or bare.strip() in made), path
+            assert page.bare(path.name, text + "another();\n") != bare, path
+    same([line for line in made.splitlines() if line.lstrip().startswith("//")], [], "a word in a comment asks for no other page, each other word does")
 
 
 def text_is_fast(b):
@@ -235,5 +256,5 @@ def work_is_in_slices(b):
     same(b.run("return [$('at').max, $('told').textContent.endsWith('stopped. Nothing has changed.')]"), ["14773", True], "work can be stopped, and changes nothing")
 
 
-ALL = [made_of_sources, text_is_fast, space_is_whole, edits_can_be_undone, faults_are_seen, keys_work_everywhere, ages_differ,
+ALL = [made_of_sources, words_in_comments_ask_for_no_page, text_is_fast, space_is_whole, edits_can_be_undone, faults_are_seen, keys_work_everywhere, ages_differ,
        link_is_tested, link_speaks, pointer_is_fresh, lives_are_sharp, narrow_fits, work_is_in_slices]

@@ -84,9 +84,9 @@ def ages_are_of_the_length(b):
     long = """const c = $(arguments[0]), g = c.getContext('2d'), mark = rgb(colors().mark), at = (x, y) => mark.every((v, i) => Math.abs(g.getImageData(Math.round(x * c.width), y, 1, 1).data[i] - v) < 40);
       return [0.3, 0.8].map(x => [...Array(12).keys()].filter(y => at(x, y)).length)"""
     found = b.run(long, "life")
-    holds(found[0] <= 3 < 8 <= found[1], "refusals in the lives are as long as they are many", found)
+    holds(found[0] <= 5 < 8 <= found[1], "refusals in the lives are as long as they are many", found)
     found = b.run(long, "marks")
-    holds(found[0] <= 2 < 5 <= found[1], "above the slider too", found)
+    holds(found[0] <= 3 < 5 <= found[1], "above the slider too", found)
     b.open("#t=voxel-game")
     same(b.run("return agesOf(S.run)"), [10, 30, 100, 300, 1000, 3000, 10000], "of a shorter run they are as before")
 

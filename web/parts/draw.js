@@ -11,7 +11,7 @@ function agesOf(run) {
 }
 const ageOf = (calls, ages) => { let a = 7; while (a && calls <= ages[a - 1]) a--; return a; };
 // How long the tick of so many refusals is, where the most of a point are `most`.
-const TICK = 10, tickOf = (count, most, length = TICK) => Math.max(length / 5, length * count / most);
+const TICK = 10, tickOf = (count, most, length = TICK) => length * Math.max(0.4, count / most);
 const ROWS = 6, GUTTER = 54;
 const color = name => getComputedStyle(document.documentElement).getPropertyValue(name).trim();
 let C = null;
