@@ -24,9 +24,9 @@ def words_in_comments_ask_for_no_page(b):
         assert page.bare(path.name, bare) == bare, path
         if path.suffix == ".rs":
             assert words(bare) == words(text), path
-            line = next(line for line in text.splitlines() if line.startswith("pub ") or line.startswith("use "))
-            assert page.bare(path.name, text.replace(line, "/// A word.\n// Another.\n" + line)) == bare, path
-            assert page.bare(path.name, text.replace(line, line + " fn another() {}")) != bare, path
+            line = next(line for line in text.splitlines() if line and not line.startswith("//"))
+            assert page.bare(path.name, text.replace(line, "/// A word.\n// Another.\n" + line, 1)) == bare, path
+            assert page.bare(path.name, text.replace(line, line + " fn another() {}", 1)) != bare, path
         if path.suffix == ".js":
             assert page.bare(path.name, "// A word.\n" + text) == bare and (path.stem == "module" or bare.strip() in made), path
             assert page.bare(path.name, text + "another();\n") != bare, path
