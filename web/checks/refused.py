@@ -124,7 +124,7 @@ def heaps_are_asked(b):
                 holds(granted_there(HEAPS, part, line, calls).startswith("grant "), f"{helps[j]}: is so in that heap", calls)
     b.run("return toUngranted(0)")
     tried(b)
-    same(b.run(STATE)[3:5], ["Line 16: alloc 700 is refused by all heaps", ["no heap has room, and no other may be made",
+    same(b.run(STATE)[3:5], ["Line 16: alloc 700 is refused by all heaps", ["no heap has room, and no other may be made", "asked: 700 units, rounded up to 704",
          "there were 2 heaps, with 850 units free in all; the largest request that one granted was 384 units, of heap 0 “meshes”"]], "why")
     # heap 0 has 300 units at 0, 100 at 512; the step is 256. Heap 1 has 200 units free at 0, 100 at 200, 250 at 300, and 50 free
     same(said[0], ["one more heap, of at least 700 units",
@@ -145,6 +145,15 @@ def heaps_are_asked(b):
     tried(b)
     helps = b.run(STATE)[5]
     holds(any(help.startswith("in heap 0: move grant 2 of 104 units to heap 1, which has room for it (relocate, then free)") for help in helps), "a range that another heap takes", helps)
+    # of two heaps the one that keeps alignments is named, though to move costs more there
+    text = "heap 0 space 512 nodes 32 index 32\nheap 1 space 608 nodes 32 index 32\nheap 0 at 0 24\nheap 0 align 20 64\nheap 0 at 130 382\n" \
+        + "".join(f"heap 1 alloc {n}\n" for n in (104, 64, 208, 40, 192)) + "heap 1 free 2\nheap 1 free 4\nnone alloc 80 full\n"
+    give(b, text, "kept.script")
+    b.run("return toUngranted(0)")
+    tried(b)
+    helps = b.run(STATE)[5]
+    same([help for help in helps if ": compact" in help or ": move " in help],
+         ["in heap 1: compact: after it the request is granted", "in heap 1: move 1 range of 208 units, from 168 to 376: grant 3 of 208 units; then it is granted"], "what keeps alignments comes first")
     # heaps that have ended are not asked: dropped, given up, and in place of which another began
     for end in ("heap 1 drop", "heap 1 give up", "heap 1 space 50 nodes 9 index 32"):
         text = f"heap 0 space 100 nodes 9 index 32\nheap 1 space 900 nodes 9 index 32\n{end}\nnone alloc 800 full\n"
@@ -152,7 +161,7 @@ def heaps_are_asked(b):
         b.run("return toUngranted(0)")
         tried(b)
         count = 2 if "space" in end else 1
-        fact = b.run(STATE)[4][1]
+        fact = b.run(STATE)[4][2]
         holds(fact.startswith(f"there {'were 2 heaps' if count == 2 else 'was 1 heap'}, with {150 if count == 2 else 100} units free") and "96 units" in fact, f"{end}: it is asked no more", fact)
     b.open()
     give(b, "heap 0 space 100 nodes 9 index 32\nheap 0 alloc 10\nheap 0 align 10 4\nnone tight 90 full\nnone tight 80 16 full\n", "tight.script")

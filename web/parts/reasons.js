@@ -54,7 +54,7 @@ function brokenBy(run, moved) {
     if (row > begun && run.call(row - 1)[0] === OP.at) placed.push(k);
   }
   const few = (list, said) => list.slice(0, MOST_NAMED).map(said).join(', ') + (list.length > MOST_NAMED ? `, and ${whole(list.length - MOST_NAMED)} more` : '');
-  return [off.length ? `breaks the alignment of ${few(off, ([k, a]) => `${named(run, k)} (${amount(a)})`)}` : '',
+  return [off.length ? `breaks the alignment of ${few(off, ([k, a]) => `${named(run, k)} (${whole(a)})`)}` : '',
     placed.length ? `moves ${few(placed, k => named(run, k))}, requested at a place` : ''].filter(text => text).join(', and ');
 }
 // A compaction after which calls succeed: by the step, which keeps the alignments; or, where that is not enough, a plain one, with
@@ -64,7 +64,7 @@ function* compacted(out, run, p, then, calls = [out.call]) {
   if (step > 1 && (yield* granted(run, p, [[OP.compactBy, step], ...calls])))
     return out.help(`compact ${step}: after it ${then}; ranges slide by multiples of ${amount(step)}, so each keeps its alignment`, [[OP.compactBy, step], ...calls], { kind: 'compact' });
   const moved = yield* granted(run, p, [[OP.compact], ...calls]), broken = moved && brokenBy(run, moved);
-  if (moved) out.help(`compact: after it ${then}${broken ? `; but it ${broken}` : step === 1 ? '' : '; here each range keeps its alignment'}`, [[OP.compact], ...calls], { kind: 'compact' });
+  if (moved) out.help(`compact: after it ${then}${broken ? `; but it ${broken}` : step === 1 ? '' : '; here each range keeps its alignment'}`, [[OP.compact], ...calls], { kind: 'compact', breaks: Boolean(broken) });
 }
 // How a space is compacted: by its step, where it has one.
 const slideOf = step => step > 1 ? [OP.compactBy, step] : [OP.compact];
@@ -139,17 +139,17 @@ function cheapest(view, fits) {
 function* evicted(out, run, p, before, need, fits, request, isOut = run.row(p - 1)[7] === 1, kept = 0) {
   const list = ranges => ranges.slice(0, MOST_NAMED).map(b => `${named(run, b.k)} of ${units(b.n)}`).join(', ') +
     (ranges.length > MOST_NAMED ? `, and ${whole(ranges.length - MOST_NAMED)} more` : '');
-  const one = (what, ranges, calls, style, more, kind) => {
+  const one = (what, ranges, calls, style, more, kind, broken = '') => {
     const first = ranges[0], last = ranges.at(-1), end = last.o + last.n;
     out.help(`${what} ${counted(ranges.length, 'range')} of ${units(ranges.reduce((s, b) => s + b.n, 0))}, from ${place(first.o)} to ${place(end)} (${style}): ` +
-      `${list(ranges)}; then it is granted${more}`, calls, { kind, cost: ranges.reduce((s, b) => s + b.n, 0), ranges, outline: [first.o, end - first.o, style === 'dashed'] });
+      `${list(ranges)}; then it is granted${more}`, calls, { kind, breaks: Boolean(broken), cost: ranges.reduce((s, b) => s + b.n, 0), ranges, outline: [first.o, end - first.o, style === 'dashed'] });
   };
   const step = stepAt(run, p - 1), [n, align] = request, byStep = step && (step > 1 || align > 1) ? [OP.roomBy, n, align, step] : null;
   for (const room of byStep ? [byStep, [OP.room, need]] : [[OP.room, need]]) {
     const moved = need <= LARGEST && !kept ? yield* granted(run, p, [room, out.call]) : null;
     if (!moved) continue;
     const broken = room === byStep ? '' : brokenBy(run, moved), said = room !== byStep ? (broken ? `; but it ${broken}` : '') : step > 1 ? `; by multiples of ${amount(step)}, so each keeps its alignment` : '';
-    if (moved.length) one('move', [...moved].filter((_, i) => i % 2 === 0).map(k => run.rangeOf(k, p - 1)), [room, out.call], 'outlined', said, 'move');
+    if (moved.length) one('move', [...moved].filter((_, i) => i % 2 === 0).map(k => run.rangeOf(k, p - 1)), [room, out.call], 'outlined', said, 'move', broken);
     break;
   }
   // at the node limit a release between free blocks gives up nodes

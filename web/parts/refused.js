@@ -106,14 +106,15 @@ const atMultiple = a => a > 1 ? ` at a multiple of ${amount(a)}` : '';
 const NO_HEAP = [
   () => ['a request for at least 1 unit'],
   ({ n, a }) => [`usual heaps of at least ${units(n + a - 1)}, or one more of the larger heaps`],
-  ({ n, a }) => [`one more heap, of at least ${units(n)}${a > 1 ? ` (a fresh one begins at 0, a multiple of ${whole(a)})` : ''}`],
+  ({ n, a }) => [`one more heap, of at least ${units(n)}${a > 1 ? `: a fresh one begins at 0, a multiple of ${whole(a)}` : ''}`],
   () => ['memory for another heap, or for more nodes: it was refused to the program']];
 // Why no heap granted a request, and what would have helped, and in which heap.
 async function explainUngranted(file, i, turns) {
   const other = file.others[i], { line, n, a, why, isTight: tight } = other, isKept = other.kind === OTHER.kept;
   const [what, reason] = saidOf(other), there = heapsAt(file, line), free = addedUp(file, there.map(h => [h.j, h.free]));
   const out = { title: `Line ${whole(line)}: ${what} is refused${isKept ? '' : ' by all heaps'}`, facts: [reason], helps: [] };
-  const best = largestOf(file, there), heap = j => nameOfPart(file, j);
+  const best = largestOf(file, there), heap = j => nameOfPart(file, j), need = n + a - 1, value = valueOf(roundedUp(Math.min(LARGEST, need)));
+  if (n && !tight) out.facts.push(`asked: ${units(n)}${atMultiple(a)}${a > 1 ? `, so a block for ${amount(need)}` : ''}${value > need ? `, rounded up to ${amount(value)}` : ''}`);
   out.facts.push(`there ${there.length === 1 ? 'was' : 'were'} ${counted(there.length, 'heap')}${free ? `, with ${free} free in all` : ''}` +
     (best ? `; the largest request that one granted was ${units(best.largest, unitOf(file, best.j))}, of ${heap(best.j)}` : ''));
   if (!isKept) out.helps.push(...NO_HEAP[why](other).map(text => ({ text })));
@@ -127,10 +128,11 @@ async function explainUngranted(file, i, turns) {
     for (const help of (await explainedBy(run, turns)).helps) if (help.kind) found.push({ ...help, h });
   }
   if (asked.length < there.length) out.facts.push(`asked were the ${asked.length} heaps with the most free units`);
-  // of each kind the one that costs least
+  // of each kind the one that costs least, of those that keep all alignments where there is one
   for (const kind of ['compact', 'move', 'relocate', 'release', 'extend', 'tight', 'smaller']) {
     const list = kind === 'relocate' ? await relocations(found, runs, turns) : found.filter(help => help.kind === kind);
-    const help = list.reduce((b, x) => !b || (x.cost ?? 0) < (b.cost ?? 0) ? x : b, null);
+    const isLess = (x, y) => x.breaks === y.breaks ? (x.cost ?? 0) < (y.cost ?? 0) : !x.breaks;
+    const help = list.reduce((b, x) => !b || isLess({ breaks: false, ...x }, { breaks: false, ...b }) ? x : b, null);
     if (help) out.helps.push({ text: `in ${heap(help.h.j)}: ${help.h.j === S.part ? help.text : help.text.replace(/ \((dashed|outlined)\)/, '')}`, calls: help.calls, part: help.h.j, line, outline: help.h.j === S.part ? help.outline : undefined });
   }
   return out;

@@ -62,7 +62,7 @@ const shownUnits = () => S.zoom || [0, Math.max(1, S.run.sizeAt(S.p))];
 // The space, with what is marked in it, and the chosen block in words: all that the pointer changes.
 function showSpace() {
   const { run, p } = S, r = p ? run.row(p - 1) : null, chosen = chosenBlock(), marked = [];
-  if (r && (r[0] === ANSWER.grant || r[0] === ANSWER.resized)) marked.push([r[2], r[3], [], colors().mark]);
+  if (r && S.ungranted === null && (r[0] === ANSWER.grant || r[0] === ANSWER.resized)) marked.push([r[2], r[3], [], colors().mark]);
   if ((isRefusal(run, p) || S.ungranted !== null) && whyOf[0] === run && whyOf[1] === p)
     for (const { outline: [o, n, isDashed] } of helps.filter(h => h.outline)) marked.push([o, n, isDashed ? [6, 4] : [], colors().mark]);
   if (chosen) marked.push([chosen.o, chosen.n, [4, 3], colors().fg]);
