@@ -132,9 +132,11 @@ def the_zoom_can_be_moved(b):
     same(b.run("return [$('lifemap').hidden, $('lifemap').clientHeight > 20]"), [False, True], "a small map shows the whole run")
     until(b, "S.run.pictures.lifemap?.isDone", "the map")
     b.run("draw()")
-    dark = b.run("const c = $('lifemap'), g = c.getContext('2d'), fg = rgb(getComputedStyle(document.body).color === 'rgb(28, 28, 28)' ? '#1c1c1c' : '#e6e6e6'), x = Math.round(GUTTER + 4000 / (S.run.count + 1) * (c.width - GUTTER)), a = g.getImageData(x - 2, 0, 5, c.height).data; "
-                 "let n = 0; for (let i = 0; i < a.length; i += 4) if (fg.every((v, k) => Math.abs(a[i + k] - v) < 12)) n++; return n")
-    holds(dark > 3, "with the part that is shown", dark)
+    # the frame is at rows 4,000 to 6,000, at the lower edge, as the offsets are few
+    frame = b.run("const c = $('lifemap'), g = c.getContext('2d'), fg = rgb(colors().fg === '#1c1c1c' ? '#1c1c1c' : '#e6e6e6'), found = []; for (let y = 0; y < c.height; y++) { const a = g.getImageData(0, y, c.width, 1).data; "
+                  "const xs = []; for (let x = 0; x < c.width; x++) if (fg.every((v, k) => Math.abs(a[4 * x + k] - v) < 6) && a[4 * x + 3] > 250) xs.push(x); if (xs.length > 60) found.push([y, xs[0], xs.at(-1)]); } "
+                  "return found.map(([y, x, z]) => [y, ...[x, z].map(v => (v - GUTTER) / (c.width - GUTTER) * (S.run.count + 1))])")
+    holds(len(frame) >= 4 and frame[-1][0] <= 39 and all(abs(x - 4000) < 60 and abs(z - 6000) < 60 for _, x, z in frame), "with a frame about the part that is shown", frame)
     b.run("const r = $('lifemap').getBoundingClientRect(); $('lifemap').dispatchEvent(new PointerEvent('pointerdown', { buttons: 1, clientX: r.left + GUTTER + 0.5 * (r.width - GUTTER), clientY: r.top + 20 }))")
     life = b.run("return S.life")
     holds(abs((life[0] + life[1]) / 2 - 7387) < 60 and life[1] - life[0] == 2000, "a press on it moves there", life)

@@ -207,7 +207,9 @@ function paled(sheet) {
 // On the small map of all lives: the part that is shown large.
 function frameOnMap(g, w, h, run) {
   const [p0, p1, o0, o1] = shownLives('life', run), [all, top] = [run.count + 1, run.top];
-  const x = p0 / all * w, y = (1 - o1 / top) * h, box = [GUTTER + x, y, Math.max(4, (p1 - p0) / all * w), Math.max(4, (o1 - o0) / top * h)];
+  // within the map, and large enough to be seen
+  const wide = Math.max(6, (p1 - p0) / all * w), high = Math.max(6, (o1 - o0) / top * (h - 2));
+  const box = [GUTTER + Math.min(p0 / all * w, w - wide - 1), Math.max(1, Math.min((1 - o1 / top) * h, h - high - 1)), wide, high];
   for (const [wide, style] of [[4, colors().bg], [2, colors().fg]]) { g.strokeStyle = style; g.lineWidth = wide; g.strokeRect(...box); }
 }
 // The rows and offsets that are shown of the lives.

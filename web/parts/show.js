@@ -87,6 +87,8 @@ function showRefusals() {
   $('onlyhere').parentElement.hidden = !isMany;
   tell('refusals', !all ? 'no refusals' : !isMany ? counted(own, 'refusal') : `${counted(all, 'refusal')}: ${whole(own)} in this heap` +
     (others ? `, ${whole(others)} in others` : '') + (none ? `, ${whole(none)} that no heap granted` : ''));
+  // while the position moves on, no other heap is asked
+  if (isMany && (isMoving || playing)) return;
   $('rback').disabled = isMany ? !refusalBeside(lineNow(), -1) : !(run.refusals[0] < p);
   $('rnext').disabled = isMany ? !refusalBeside(lineNow(), 1) : !(run.refusals.at(-1) > p);
 }
