@@ -151,6 +151,11 @@ def what_is_saved_comes_in_turns(b):
     for button, what in (("export", "the text"), ("answers", "the answers"), ("picture", "the picture")):
         no_long_task(b, f"no task of saving {what} is long", 100, "S.saved = null; return $(arguments[0]).onclick()", button)
         holds(b.run("return S.saved.size") > 1000, f"{what} of a million calls")
+    # each of 400,000 calls is refused
+    opened(b, ("space 1000 nodes 16 index 32\nalloc 500\n" + "# texture: a name\nalloc 600\n" * 400000).encode())
+    b.run("return $('file').onchange()")
+    no_long_task(b, "nor of a picture of 400,000 refusals", 100, "S.saved = null; return $('picture').onclick()")
+    holds(b.run("return S.saved.size") < 1 << 20, "which is of a size that can be shown")
 
 
 def a_large_one_is_explained(b):
