@@ -3,10 +3,10 @@
 import re
 import subprocess
 import sys
-import time
 
 from .base import WEB, TRACES, give, holds, play, program, row, same, to, until
 import page
+from .speed import LOOP, no_long_task, within
 
 
 def made_of_sources(b):
@@ -39,16 +39,12 @@ def text_is_fast(b):
     text = TRACES["voxel-game"].read_text()
     same(b.run("return $('text').value"), text, "the text of the run")
     b.focus("#text")
-    begun = time.monotonic()
-    b.keys("Control+a")
-    same(b.run("const t = $('text'); return t.selectionEnd - t.selectionStart"), len(text), "Control-A takes all of the text")
-    begun, took = time.monotonic(), time.monotonic() - begun
-    holds(took < 3, "Control-A takes less than 3 s", took)
+    b.run(LOOP)
+    within(b, "Control-A in a long text", 1000, lambda: b.keys("Control+a"))
+    same(b.run("const t = $('text'); return t.selectionEnd - t.selectionStart"), len(text), "takes all of the text")
     other = "# other\n" + text
-    b.paste(other)
-    same(b.run("return $('text').value"), other, "a paste keeps the text")
-    took = time.monotonic() - begun
-    holds(took < 5, "a paste takes less than 5 s", took)
+    within(b, "a paste of it", 3000, lambda: (b.keys("Control+a"), b.paste(other)))
+    same(b.run("return $('text').value"), other, "keeps the text")
 
 
 # the part of the space's canvas that is not of the colour of free units: each pixel by how much of it is the other colour
@@ -242,13 +238,9 @@ def narrow_fits(b):
 def work_is_in_slices(b):
     b.open()
     text = "space 1000000 nodes 4096 index 32\n" + "full\n" * 190000
-    watched = """let last = performance.now(); window.most = 0;
-      window.watch = setInterval(() => { const t = performance.now(); window.most = Math.max(window.most, t - last); last = t; }, 5)"""
-    give(b, text, waits=False, before=watched)
-    until(b, "$('at').max === '190000'", "all is played", 60)
-    most = b.run("clearInterval(watch); return window.most")
-    print(f"190,000 full reports: the page is blocked for {most:.0f} ms at most")
-    holds(most < 500, "190,000 full reports never block the page for half a second", most)
+    b.run(LOOP)
+    no_long_task(b, "no task of 190,000 full reports is long", 100, lambda: give(b, text))
+    same(b.run("return $('at').max"), "190000", "all is played")
     b.open()
     give(b, text, waits=False)
     until(b, "!$('work').hidden && /^(Reading|Playing): [0-9]+%$/.test($('doing').textContent) && ($('stop').click(), true)", "progress is shown")

@@ -62,9 +62,9 @@ def clock(b):
 
 
 def spent(b, script, *args):
-    """The processor time of a script and of what it waits for, and how much of the time it had a processor."""
+    """The processor time of a script, or of what a function has the page do, and how much of the time it had a processor."""
     run, waited = clock(b)
-    b.run(script, *args)
+    script(*args) if callable(script) else b.run(script, *args)
     more, later = clock(b)
     return more - run, (more - run) / max(1e-6, more - run + later - waited)
 
