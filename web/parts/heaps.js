@@ -143,7 +143,8 @@ function showHeaps() {
   if (L.others.of !== file) { L.others.of = file; L.others.set(others.length); }
   $('nogranthead').textContent = `${counted(others.length, 'call')} that changed no heap`;
 }
-function saidOf({ kind, n, a, why, isTight }) {
+const saidOf = other => inUnitOf(unitOfRequest(S.run.file), () => requestInWords(other));
+function requestInWords({ kind, n, a, why, isTight }) {
   if (kind === OTHER.gone) return ['a place that is not live', 'gone'];
   const request = said(a > 1 ? (isTight ? OP.tightAligned : 1) : isTight ? OP.tight : 0, n, a) + (S.unit && n ? ` (${inBytes(n)})` : '');
   return kind === OTHER.kept ? [`relocate ${units(n)}${a > 1 ? ` at a multiple of ${whole(a)}` : ''}`, 'no other heap takes it'] : [request, WHY_NOT[why]];

@@ -95,12 +95,15 @@ async function askedOf(file, { j, p }, request, turns) {
   await run.survey(turns);
   return run;
 }
-async function explainedBy(run, turns) {
+async function explainedBy(run, turns, unit) {
   const steps = explain(run, run.count);
   let found;
-  do { await turns.turn(); found = steps.next(); } while (!found.done);
+  do { await turns.turn(); found = inUnitOf(unit, () => steps.next()); } while (!found.done);
   return found.value;
 }
+// Does it as if a unit had so many bytes. Where units of heaps differ, a request that none granted has no bytes.
+function inUnitOf(unit, f) { const kept = S.unit; S.unit = unit; try { return f(); } finally { S.unit = kept; } }
+const unitOfRequest = file => file.units.size ? 0 : S.unit;
 // What an alignment adds to a request in words.
 const atMultiple = a => a > 1 ? ` at a multiple of ${amount(a)}` : '';
 const NO_HEAP = [
@@ -114,10 +117,10 @@ async function explainUngranted(file, i, turns) {
   const [what, reason] = saidOf(other), there = heapsAt(file, line), free = addedUp(file, there.map(h => [h.j, h.free]));
   const out = { title: `Line ${whole(line)}: ${what} is refused${isKept ? '' : ' by all heaps'}`, facts: [reason], helps: [] };
   const best = largestOf(file, there), heap = j => nameOfPart(file, j), need = n + a - 1, value = valueOf(roundedUp(Math.min(LARGEST, need)));
-  if (n && !tight) out.facts.push(`asked: ${units(n)}${atMultiple(a)}${a > 1 ? `, so a block for ${amount(need)}` : ''}${value > need ? `, rounded up to ${amount(value)}` : ''}`);
+  if (n && !tight) inUnitOf(unitOfRequest(file), () => out.facts.push(`asked: ${units(n)}${atMultiple(a)}${a > 1 ? `, so a block for ${amount(need)}` : ''}${value > need ? `, rounded up to ${amount(value)}` : ''}`));
   out.facts.push(`there ${there.length === 1 ? 'was' : 'were'} ${counted(there.length, 'heap')}${free ? `, with ${free} free in all` : ''}` +
     (best ? `; the largest request that one granted was ${units(best.largest, unitOf(file, best.j))}, of ${heap(best.j)}` : ''));
-  if (!isKept) out.helps.push(...NO_HEAP[why](other).map(text => ({ text })));
+  if (!isKept) out.helps.push(...inUnitOf(unitOfRequest(file), () => NO_HEAP[why](other)).map(text => ({ text })));
   if (n === 0 || (why === 0 && !isKept)) return out;
   const request = a > 1 ? [tight ? OP.tightAligned : 1, n, a] : [tight ? OP.tight : 0, n], found = [], runs = [];
   const asked = [...there].sort((x, y) => y.free - x.free).slice(0, MOST_ASKED);
@@ -125,7 +128,7 @@ async function explainUngranted(file, i, turns) {
     const run = await askedOf(file, h, request, turns);
     runs.push([h, run]);
     if (run.row(run.count - 1)[0] === ANSWER.grant) { out.facts.push(`${heap(h.j)} would have granted it, though the file says that none did`); continue; }
-    for (const help of (await explainedBy(run, turns)).helps) if (help.kind) found.push({ ...help, h });
+    for (const help of (await explainedBy(run, turns, unitOf(file, h.j))).helps) if (help.kind) found.push({ ...help, h });
   }
   if (asked.length < there.length) out.facts.push(`asked were the ${asked.length} heaps with the most free units`);
   // of each kind the one that costs least, of those that keep all alignments where there is one
@@ -148,7 +151,7 @@ async function relocations(found, runs, turns) {
       let step;
       do { await turns.turn(); step = steps.next(); } while (!step.done);
       if (!step.value) continue;
-      all.push({ kind: 'relocate', h, cost, calls, text: `move ${named(home, b.k)} of ${units(b.n)} to ${nameOfPart(run.file, to.j)}, which has room for it (relocate, then free); then it is granted` });
+      all.push({ kind: 'relocate', h, cost, calls, text: `move ${named(home, b.k)} of ${units(b.n, unitOf(run.file, h.j))} to ${nameOfPart(run.file, to.j)}, which has room for it (relocate, then free); then it is granted` });
       break;
     }
   }
