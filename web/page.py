@@ -1,5 +1,7 @@
 """Puts the parts, the module and the traces into the page: page.py MODULE PAGE. Traces are deflated. The page ends with the
-sum of the sources that it is made of."""
+sum of the sources that it is made of, without their comments: a word in one asks for no other page.
+
+    page.py --bare FOLDER    takes the comments out of the sources in a folder, from which the module is built"""
 
 import base64
 import hashlib
@@ -11,7 +13,20 @@ import zlib
 here = pathlib.Path(__file__).resolve().parent
 # in the order in which they come in the page
 PARTS = [here / "parts" / f"{name}.js" for name in
-         ("module", "work", "reading", "dumps", "run", "reasons", "draw", "lists", "find", "marks", "heaps", "state", "compare", "show", "picture", "controls")]
+         ("module", "work", "reading", "dumps", "run", "reasons", "refused", "draw", "lists", "find", "marks", "heaps", "state", "compare", "show", "picture", "controls")]
+# what is no comment, though it may have the signs of one: texts, and characters
+RUST = re.compile(r"""(b?r(#*)"(?:.*?)"\2|b?"(?:\\.|[^"\\])*"|b?'(?:\\[^\n]|[^\\'\n])')|//[^\n]*|/\*(?:(?!\*/).)*\*/""", re.S)
+
+
+def bare(name, text):
+    """A source without comments and empty lines: those of Rust wherever they are, of others where a line has nothing else."""
+    if name.endswith(".rs"):
+        text = RUST.sub(lambda found: found[1] or " ", text)
+    sign = {"js": "//", "html": "//", "toml": "#", "py": "#"}.get(name.rpartition(".")[2])
+    kept = (line.rstrip() for line in text.split("\n"))
+    if name.endswith(".html"):
+        kept = (line for line in kept if not re.fullmatch(r"\s*/\*.*\*/", line))
+    return "\n".join(line for line in kept if line and not (sign and line.lstrip().startswith(sign))) + "\n"
 
 
 def base(data):
@@ -27,18 +42,23 @@ def traces():
     return [here / "levels.script", *sorted((here / "../bench/traces").glob("*.script")), here / "every.script"]
 
 
-def sum_of_sources():
-    """The sum of all that the page is made of, except the compiler and std."""
+def sources():
+    """All that the page is made of, except the compiler and std."""
     crates = [here / "../rust" / name for name in
               ("offset-allocator-memory", "offset-allocator-proved", "offset-allocator-guarded", "offset-allocator-heaps",
                "offset-script", "offset-calls", "offset-pictures", "offset-allocator-recorded")]
-    files = [here / "source.html", here / "page.py", *PARTS, *sorted((here / "module").glob("*.*")), *traces()]
+    files = [here / "source.html", here / "page.py", *PARTS, *sorted((here / "module").glob("*.*"))]
     for crate in crates:
         files += [crate / "Cargo.toml", *sorted(crate.glob("src/**/*.rs"))]
+    return files
+
+
+def sum_of_sources():
     found = hashlib.sha256()
-    for path in files:
-        found.update(f"{path.name} {path.stat().st_size}\n".encode())
-        found.update(path.read_bytes())
+    for path in [*sources(), *traces()]:
+        data = path.read_bytes() if path.suffix == ".script" else bare(path.name, path.read_text(encoding="utf-8")).encode()
+        found.update(f"{path.name} {len(data)}\n".encode())
+        found.update(data)
     return found.hexdigest()
 
 
@@ -48,15 +68,28 @@ def sum_within(page):
     return found and found[1]
 
 
+def strip(folder):
+    """Takes the comments out of the sources of a folder."""
+    for path in sorted(pathlib.Path(folder).rglob("*")):
+        if path.suffix in (".rs", ".toml") and path.is_file():
+            text = bare(path.name, path.read_text(encoding="utf-8"))
+            # nor is it said that documentation is missing
+            path.write_text(text.replace("#![warn(missing_docs)]\n", ""), encoding="utf-8")
+
+
 def main(module, to):
     named = ",\n".join(f"  '{path.stem}': '{deflated(path)}'" for path in traces())
-    page = (here / "source.html").read_text().replace("@SCRIPT@", "".join(path.read_text() for path in PARTS).rstrip("\n"))
+    without = lambda path: bare(path.name, path.read_text(encoding="utf-8"))
+    page = without(here / "source.html").replace("@SCRIPT@", "".join(without(path) for path in PARTS).rstrip("\n"))
     page = page.replace("@TRACES@", named)
     page = page.replace("@MODULE@", base(pathlib.Path(module).read_bytes()))
     script = page[page.index("<script>") + len("<script>"):page.index("</script>")]
     page = page.replace("@HASH@", "sha256-" + base(hashlib.sha256(script.encode()).digest()))
-    pathlib.Path(to).write_text(f"{page}<!-- made of {sum_of_sources()} -->\n")
+    pathlib.Path(to).write_text(f"{page}<!-- made of {sum_of_sources()} -->\n", encoding="utf-8")
 
 
 if __name__ == "__main__":
-    main(*sys.argv[1:])
+    if sys.argv[1] == "--bare":
+        strip(sys.argv[2])
+    else:
+        main(*sys.argv[1:])

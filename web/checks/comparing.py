@@ -162,7 +162,7 @@ def the_other_is_in_units_of_this_one(b):
       const note = of => function (text, ...at) { said.get('all').push(text); return of.call(this, text, ...at); };
       said.set('all', []); CanvasRenderingContext2D.prototype.fillText = note(draw); OffscreenCanvasRenderingContext2D.prototype.fillText = note(off);
       const of = f => { said.set('all', []); f(); return said.get('all').filter(t => !/^row|^[0-9]$/.test(t)); }, at = () => S.other.at[S.p];
-      S.other.run.space = S.run.space = null;
+      S.other.run.spaces = {}; S.run.spaces = {};
       try { return [of(() => drawSpace('spaceA', S.run, S.p, 0, 6000, [])), of(() => drawSpace('spaceB', S.other.run, at(), 0, 6000 / S.other.unit, [])), of(() => drawLives('lifeA', S.run, () => S.p)), of(() => drawLives('lifeB', S.other.run, at))]; }
       finally { CanvasRenderingContext2D.prototype.fillText = draw; OffscreenCanvasRenderingContext2D.prototype.fillText = off; }"""
     for bytes_, lines, top in (("", ["1000", "2000", "3000", "4000", "5000"], ["1800", "900"]), ("1024", ["1,000 KiB", "1.95 MiB", "2.93 MiB", "3.91 MiB", "4.88 MiB"], ["1.76 MiB", "900 KiB"])):

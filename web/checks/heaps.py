@@ -121,11 +121,17 @@ def heaps_are_rows(b):
     small = "heap 0 space 1000 nodes 40 index 32\nheap 1 space 1000 nodes 40 index 32\nheap 0 alloc 300\nheap 1 tight 900\nnone alloc 800 full\nheap 0 free 1\nnone free\nheap 1 give up\nnone relocate 7 4\n"
     give(b, small, "small.script")
     b.run("$('nogrant').open = true; showUngranted(0)")
-    same(b.run("return $('told').textContent"), "Line 5: alloc 800: no heap has room, and no other may be made. Then there were 2 heaps, with 800 units free in all; "
-         "the largest request that one granted was 640 units, of heap 0.", "what the heaps had when a request was refused")
+    facts = "return [$('whytitle').textContent, ...[...$('facts').children].map(e => e.textContent)]"
+    tried = lambda: until(b, "!Work.now && !/being tried/.test($('helps').textContent)", "what would have helped")
+    tried()
+    same(b.run(facts), ["Line 5: alloc 800 is refused by all heaps", "no heap has room, and no other may be made", "asked: 800 units, rounded up to 832",
+         "there were 2 heaps, with 800 units free in all; the largest request that one granted was 640 units, of heap 0"], "what the heaps had when a request was refused")
+    b.run("showUngranted(1)")
+    same(b.run("return $('told').textContent"), "Line 7: a place that is not live: gone.", "a place that is not live")
     b.run("showUngranted(2)")
-    same(b.run("return $('told').textContent"), "Line 9: relocate 7 units at a multiple of 4: no other heap takes it. Then there was 1 heap, with 1,000 units free in all; "
-         "the largest request that one granted was 960 units, of heap 0.", "and when a range stayed")
+    tried()
+    same(b.run(facts)[:4], ["Line 9: relocate 7 units at a multiple of 4 is refused", "no other heap takes it", "asked: 7 units at a multiple of 4, so a block for 10",
+         "there was 1 heap, with 1,000 units free in all; the largest request that one granted was 960 units, of heap 0"], "and when a range stayed")
     give(b, text, "many.script")
     b.run("return openPart(2)")
     b.run("go(2)")
@@ -395,10 +401,14 @@ def each_heap_has_its_unit(b):
     same([b.run(shown), b.run(cells)], [[32, "32", "6,000 units (188 KiB)", "2 ranges, 1.03 MiB."], ours], "each heap is shown in its own unit, and the sum in bytes")
     b.run("return openPart(1)")
     same([b.run(shown), b.run(cells)], [[65536, "65536", "512 units (32.0 MiB)", "2 ranges, 1.03 MiB."], ours], "also where the other is open")
-    b.run("return writeText(S.run, new Work('Writing')).then(text => window.written = text)")
+    b.run("return writeText(S.run, new Work('Writing')).then(made => made.text()).then(text => window.written = text)")
     same(b.run("return written.split('\\n').slice(0, 2)"), ["space 512 nodes 16 index 32", "#! unit 65536"], "what is saved of it has its unit")
     b.run("showUngranted(0)")
-    same(b.run("return $('told').textContent.split('Then ')[1]"), "there were 2 heaps, with 31.2 MiB free in all; the largest request that one granted was 480 units (30.0 MiB), of heap 1 “textures”.",
+    until(b, "$('why').textContent.includes('one more heap')", "what would have helped")
+    # 9,000 units are of no heap: 4,240 more of 32 bytes would do in the first, and it granted 4,608
+    same(b.run("return [$('whytitle').textContent, ...[...$('helps').children].map(e => e.textContent)]"), ["Line 9: alloc 9000 is refused by all heaps", "one more heap, of at least 9,000 units",
+         "in heap 0 “meshes”: 4,240 units (133 KiB) more space (extend 4240): then it is granted", "in heap 0 “meshes”: a smaller request: at most 4,608 units (144 KiB)"], "each heap's units are its own in bytes")
+    same(b.run("return [...$('facts').children].map(e => e.textContent).find(text => text.startsWith('there'))"), "there were 2 heaps, with 31.2 MiB free in all; the largest request that one granted was 480 units (30.0 MiB), of heap 1 “textures”",
          "of a request that no heap granted the largest is that in bytes")
     # without the unit of the first, and with one of all
     give(b, UNITS.replace("#! unit 32 heap 0\n", ""), "one.script")

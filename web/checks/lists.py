@@ -4,6 +4,7 @@ program, and with a plain list of live ranges that is made of them here."""
 import re
 
 from .base import TRACES, give, holds, play, program, recorded, row, same, to, until
+from .speed import LOOP, within
 
 
 def live_at(text, p):
@@ -26,17 +27,13 @@ def live_at(text, p):
 
 def answers_are_the_program_s(b):
     b.open()
+    b.run(LOOP)
     same(b.run("return [...$('trace').options].map(o => o.value)"), [*TRACES, "own"], "the choice of runs")
     for name, path in TRACES.items():
         b.run("$('trace').value = arguments[0]; return $('trace').onchange()", name)
         found = b.run("S.saved = null; return $('answers').onclick().then(() => S.saved.text())")
         same(found, recorded(path.read_text())[0], f"answers of {name}")
-        for _ in range(3):
-            times = b.run("const t = []; for (let i = 0; i <= 100; i++) { go(Math.floor(S.run.count * i / 100)); t.push(frameTime); } return t.sort((a, b) => a - b)")
-            print(f"frames of {name}: median {times[50]:.1f} ms, largest {times[-1]:.1f} ms")
-            if times[50] < 60:
-                break
-        holds(times[50] < 60, "half the frames take less than 60 ms", times)
+        within(b, f"a frame of {name}", 60, "for (let i = 0; i <= 100; i++) go(Math.floor(S.run.count * i / 100))", count=101)
 
 
 ROWS = "return [...document.querySelectorAll(arguments[0] + ' .row')].map(r => [...r.children].map(c => c.textContent))"

@@ -1,6 +1,7 @@
 """Refusals: that all are found, and that what would have helped does help. Each help is played by the program for
 recordings, with the call before the refused one or another header, and one less of it must not do."""
 
+import math
 import random
 import re
 import subprocess
@@ -13,6 +14,20 @@ FRAGMENTED = "space 1000 nodes 32 index 32\n" + "alloc 100\n" * 9 + "free 1\nfre
 MOVED = "move 3 ranges of 300 units, from 100 to 600 (outlined): grant 2 of 100 units, grant 4 of 100 units, grant 6 of 100 units; then it is granted"
 RELEASED = "release 2 ranges of 200 units, from 100 to 400 (dashed): grant 2 of 100 units, grant 4 of 100 units; then it is granted"
 MANY = "space 4000000 nodes 100 index 32\n" + "alloc 10\n" * 98 + "alloc 11\n" + "report\n" * 500 + "alloc 12\n"
+
+
+def alignments_of(lines):
+    """The alignment of each grant by the program's answers, and the least common multiple of those granted since the last reset."""
+    answers, of, step = recorded("\n".join(lines) + "\n")[0].splitlines(), {}, 1
+    for line, answer in zip(lines[1:], answers):
+        words = line.split()
+        if answer == "reset":
+            step = 1
+        if answer.startswith("grant "):
+            a = int(words[2]) if words[0] in ("align", "tight", "relocate") and len(words) > 2 else 1
+            of[int(answer.split()[1])] = a
+            step = math.lcm(step, a)
+    return of, step
 
 
 def outcome(head, lines):
@@ -34,23 +49,29 @@ def tried(head, before, call, helps, what):
         n = int("".join(n).replace(",", ""))
         assert is_done(head, [*before, f"extend {n}", call]), (what, n)
         assert n == 1 or not is_done(head, [*before, f"extend {n - 1}", call]), (what, n - 1)
-    for n in re.findall(r"compact, and ([\d,]+) units?", said):
+    step = alignments_of([head, *before])[1]
+    for slide, n in re.findall(r"(compact(?: \d+)?), and ([\d,]+) units?", said):
         n = int(n.replace(",", ""))
-        assert is_done(head, [*before, "compact", f"extend {n}", call]), (what, n)
-        assert n == 1 or not is_done(head, [*before, "compact", f"extend {n - 1}", call]), (what, n - 1)
-    assert ("compact: after it" in said) == is_done(head, [*before, "compact", call]), (what, "compact")
+        assert slide == (f"compact {step}" if step > 1 else "compact"), (what, slide, step)
+        assert is_done(head, [*before, slide, f"extend {n}", call]), (what, n)
+        assert n == 1 or not is_done(head, [*before, slide, f"extend {n - 1}", call]), (what, n - 1)
+    # by the step where that does, else plainly
+    by_step = step > 1 and name != "compact" and is_done(head, [*before, f"compact {step}", call])
+    assert (f"compact {step}: after it" in said) == by_step, (what, "compact by the step", step)
+    assert ("compact: after it" in said) == (not by_step and is_done(head, [*before, "compact", call])), (what, "compact")
     for n in re.findall(r"more nodes: a limit of ([\d,]+)", said):
         n = int(n.replace(",", ""))
         more = head.replace(f"nodes {nodes} ", f"nodes {n} ")
         if outcome(more, [*before, call])[1] == outcome(head, [*before, call])[1]:
             assert is_done(more, [*before, call]), (what, n)
             assert not is_done(head.replace(f"nodes {nodes} ", f"nodes {n - 1} "), [*before, call]), (what, n - 1)
-    for n in re.findall(r"a smaller request: at most ([\d,]+)", said):
-        n = int(n.replace(",", ""))
-        assert n < int(numbers[0]), (what, n)
-        assert is_done(head, [*before, f"alloc {n}"]) and not is_done(head, [*before, f"alloc {n + 1}"]), (what, n)
-    for n in re.findall(r"another range: alloc (\d+) is granted", said):
-        assert is_done(head, [*before, f"alloc {n}"]), (what, n)
+    for n, a in re.findall(r"a smaller request: at most ([\d,]+) units?(?: at a multiple of ([\d,]+))?", said):
+        n, ask = int(n.replace(",", "")), (lambda n: f"align {n} {a}" if a else f"alloc {n}")
+        assert n < int(numbers[0]) and a == (numbers[1] if name == "align" and numbers[1] != "1" else ""), (what, n, a)
+        assert is_done(head, [*before, ask(n)]) and not is_done(head, [*before, ask(n + 1)]), (what, n)
+    for other in re.findall(r"another range: ((?:alloc|align)[ \d]+) is granted", said):
+        assert is_done(head, [*before, other]), (what, other)
+        assert other.startswith("align ") == (alignments_of([head, *before])[0][int(numbers[0])] > 1 or name == "relocate" and numbers[1:] not in ([], ["1"])), (what, other)
     for other in re.findall(r"((?:grow|shrink|tight)(?: \d+)+) in its place", said):
         assert is_done(head, [*before, other]), (what, other)
     for kind in ("grow", "shrink"):
@@ -87,13 +108,15 @@ def gone(head, before, call, helps, what):
     said = {text.split()[0]: text for text in helps if text.startswith(("move", "release"))}
     name, *numbers = call.split()
     need = int(numbers[0]) + (int(numbers[1]) - 1 if len(numbers) > 1 else 0)
+    align, step = int(numbers[1]) if len(numbers) > 1 else 1, alignments_of([head, *before])[1]
+    rooms = ([f"{numbers[0]} {align} {step}"] if step > 1 or align > 1 else []) + [str(need)]
+    room = next((room for room in rooms if is_done(head, [*before, f"room {room}", call])), None)
+    cost = recorded("\n".join([head, *before, f"cost {room}"]) + "\n")[0].splitlines()[-1] if room else ""
     if "move" in said:
-        cost = recorded("\n".join([head, *before, f"cost {need}"]) + "\n")[0].splitlines()[-1]
         count, least = re.findall(r"^move ([\d,]+) ranges? of ([\d,]+) units", said["move"])[0]
         assert cost == f"ranges {count} units {least}".replace(",", ""), (what, cost, said)
-        assert is_done(head, [*before, f"room {need}", call]), (what, said)
     else:
-        assert not is_done(head, [*before, f"room {need}", call]) or recorded("\n".join([head, *before, f"cost {need}"]) + "\n")[0].splitlines()[-1] == "ranges 0 units 0", (what, helps)
+        assert room is None or cost == "ranges 0 units 0", (what, helps)
     live = ranges_after(head, before)
     runs = [live[i:j] for i in range(len(live)) for j in range(i + 1, len(live) + 1)]
     runs = sorted((sum(n for _, n, _ in run), len(run), [k for _, _, k in run]) for run in runs)

@@ -224,7 +224,7 @@ pub extern "C" fn read(part: u32, last: u32) -> u32 {
                 Ok(Line::Heap(heap, HeapLine::Call(call))) => (numbers(call), heap),
                 Ok(Line::Heap(heap, HeapLine::Drop)) => ([DROP, 0, 0, 0, 0], heap),
                 Ok(Line::Heap(heap, HeapLine::GiveUp)) => ([GIVE_UP, 0, 0, 0, 0], heap),
-                Ok(Line::NoHeap(NoHeap::Refused(n, a, why))) => ([REFUSED, n, a, why as u32, 0], 0),
+                Ok(Line::NoHeap(NoHeap::Refused(n, a, why))) => ([REFUSED, n, a, why as u32, u32::from(is_tight(line))], 0),
                 Ok(Line::NoHeap(NoHeap::Kept(n, a))) => ([KEPT, n, a, 0, 0], 0),
                 Ok(Line::NoHeap(NoHeap::Gone)) => ([GONE, 0, 0, 0, 0], 0),
             };
@@ -239,6 +239,11 @@ pub extern "C" fn read(part: u32, last: u32) -> u32 {
             _ => 0,
         }
     })
+}
+
+// Whether a request that no heap granted was for any block that holds it.
+fn is_tight(line: &[u8]) -> bool {
+    line.split(|b| *b == b' ').nth(1) == Some(b"tight")
 }
 
 fn header_of(kind: u32, header: Header) -> [u32; WIDE] {

@@ -7,8 +7,9 @@ async function another(run, [size, nodes, unit, compact], work) {
   const b = new Run([Math.floor(size / unit), nodes, nodes > 65533 ? 32 : run.head[2]], new Uint32Array(0), new Map(), run.lines);
   b.start(run.count); b.scale = unit;
   const at = new Uint32Array(run.count + 1), of = new Map();
+  // sizes are rounded up; what is at a multiple of the unit is at one of an alignment that divides it
   const scaled = { n: v => Math.ceil(v / unit), a: v => Math.max(1, v / unit), k: v => of.get(v) || 0, d: v => Math.floor(v / unit), c: v => v };
-  scaled.s = scaled.n;
+  scaled.s = scaled.a;
   const one = (...call) => { b.calls.append(filled(call)); b.step(1); return b.row(b.count - 1); };
   let extra = 0;
   for (let i = 0; i < run.count; i++) {
@@ -27,6 +28,16 @@ async function another(run, [size, nodes, unit, compact], work) {
     if (i % 64 === 0) await work.turn(i, run.count);
   }
   return { run: await b.remember(work), at, unit, extra };
+}
+// The first call with an alignment or a step that neither is a multiple of a unit nor divides it, in words; or ''. In such units
+// the call could not be made.
+function unlikeUnit(run, unit) {
+  for (let i = 0; unit > 1 && i < run.count; i++) {
+    const [op, ...numbers] = run.call(i), kinds = KINDS[op];
+    for (let j = 0; j < kinds.length; j++) if ((kinds[j] === 'a' || kinds[j] === 's') && numbers[j] % unit && unit % numbers[j])
+      return `${kinds[j] === 'a' ? 'alignment' : 'step'} of ${said(op, ...numbers)} (row ${whole(i + 1)})`;
+  }
+  return '';
 }
 // The recording of another file, beside this run. Where both have frames, their frames are side by side, else their rows.
 async function besideFile(bytes, name) {
@@ -81,6 +92,8 @@ async function compare(as) {
     say(`Compare: the node limit is 2 to ${whole(LARGEST - 2)}, the unit at least 1, the space a number`, true);
     return;
   }
+  const unlike = unlikeUnit(S.run, unit);
+  if (unlike) return say(`Compare: a unit of ${whole(unit)} and the ${unlike} do not divide each other: choose a unit that does`, true);
   const found = await during('Comparing', work => another(S.run, as, work));
   if (!found) return;
   for (const [i, id] of ['xsize', 'xnodes', 'xunit', 'xcompact'].entries()) $(id).value = as[i];

@@ -39,10 +39,14 @@ $('mfrom').onchange = $('mto').onchange = showMarks;
 $('link').onclick = link; const help = () => { $('help').showModal(); $('closehelp').focus(); };
 $('keys').onclick = help; $('closehelp').onclick = () => $('help').close();
 $('undo').onclick = () => undo(S.past, S.ahead); $('redo').onclick = () => undo(S.ahead, S.past); $('original').onclick = original;
-const fileName = end => S.title.replace(/\.[a-z]+$/, '').replace(/[^\w.-]+/g, '-') + end;
+const fileName = end => {
+  const { file } = S.run, heap = file && isSeveral(file) ? ` ${nameOfPart(file, S.part)}` : '';
+  return (S.title.replace(/\.[a-z]+$/, '') + heap).replace(/[^\w.-]+/g, '-').replace(/-+$/, '') + end; };
+$('exportall').onclick = () => save(new Blob([S.bytes]), fileNameOfAll());
+const fileNameOfAll = () => S.title.replace(/\.[a-z]+$/, '').replace(/[^\w.-]+/g, '-') + '.script';
 $('export').onclick = async () => {
   const text = await during('Writing', w => writeText(S.run, w));
-  if (text !== null) save(new Blob([text]), fileName('.script')); };
+  if (text !== null) save(text, fileName('.script')); };
 $('answers').onclick = async () => { const b = await during('Writing', w => S.run.answers(w)); if (b) save(b, fileName('.answers')); };
 $('picture').onclick = async () => {
   const drawn = await during('Drawing', w => pictured(S.run, 1000, 560, w));
@@ -86,6 +90,21 @@ $('fclear').onclick = () => lookFor({ find: null });
 $('byname').onchange = () => lookFor({ byName: $('byname').value === '1' });
 $('unit').onchange = () => isCount($('unit').value) ? lookFor({ unit: Number($('unit').value) }) : say('A unit: a number of bytes', true);
 $('zin').onclick = () => zoom(1 / 4); $('zout').onclick = () => zoom(4); $('zall').onclick = () => { S.zoom = null; draw(); };
+$('lleft').onclick = () => panLives(-0.5, 0); $('lright').onclick = () => panLives(0.5, 0); $('lup').onclick = () => panLives(0, 0.5); $('ldown').onclick = () => panLives(0, -0.5);
+$('onlyhere').onchange = draw; $('allnow').ontoggle = drawHeapsNow;
+$('heapsnow').onclick = event => { const j = S.run.file.now?.[Math.floor((event.clientY - $('heapsnow').getBoundingClientRect().top) / BAR)]; if (j !== undefined) openPart(j, lineNow()); };
+// The small maps: a press or a drag shows the part about it.
+$('lifemap').onpointerdown = $('lifemap').onpointermove = event => {
+  if (!event.buttons || !S.life) return;
+  const b = $('lifemap').getBoundingClientRect(), { run } = S, [p0, p1, o0, o1] = S.life, p = (event.clientX - b.left - GUTTER) / (b.width - GUTTER) * (run.count + 1), o = (1 - (event.clientY - b.top) / b.height) * run.top;
+  zoomLives(p - (p1 - p0) / 2, p + (p1 - p0) / 2, o - (o1 - o0) / 2, o + (o1 - o0) / 2); };
+$('spacemap').onpointerdown = $('spacemap').onpointermove = event => {
+  if (!event.buttons || !S.zoom) return;
+  const b = $('spacemap').getBoundingClientRect(), size = S.run.sizeAt(S.p);
+  zoomAt(Math.max(0, (event.clientX - b.left - GUTTER) / (b.width - GUTTER)) * size, S.zoom[1] - S.zoom[0]); draw(); };
+// who asks for less motion gets a slow pace to begin with
+const isCalm = matchMedia('(prefers-reduced-motion: reduce)'), calm = () => { if (isCalm.matches) $('speed').value = '2'; };
+isCalm.addEventListener('change', calm); calm();
 $('zused').onclick = usedPart; $('zleft').onclick = () => pan(-0.5); $('zright').onclick = () => pan(0.5);
 $('compare').onclick = () => compare(['xsize', 'xnodes', 'xunit', 'xcompact'].map(id => {
   const v = $(id).value.trim(); return /^\d{1,10}$/.test(v) && v <= LARGEST ? Number(v) : -1; }));
@@ -149,24 +168,26 @@ const KEYS = new Map([
   ['PageUp', '100 rows back', () => to(S.p - 100)], ['PageDown', '100 rows on', () => to(S.p + 100)],
   ['Home', 'before the first row', () => jump(0)], ['End', 'after the last row', () => jump(S.run.count)],
   [' ', 'play or pause, where no button has the focus', toggle], ['p', 'play or pause', toggle],
-  ['r', 'next refusal', () => refusal(1)], ['R', 'refusal before', () => refusal(-1)],
+  ['r', 'next refusal, in all heaps of the file', () => refusal(1)], ['R', 'refusal before', () => refusal(-1)],
   ['m', 'next mark', () => toMark(1)], ['M', 'mark before', () => toMark(-1)],
   ['b', 'next block', () => chooseBlock(1)], ['B', 'block before', () => chooseBlock(-1)],
   ['Enter', 'the row of the chosen block', () => { if (!$('goto').hidden) $('goto').click(); }],
   ['+', 'zoom in', () => zoom(1 / 4)], ['-', 'zoom out', () => zoom(4)], ['0', 'the whole space', () => $('zall').click()],
   [',', 'left, in the zoom', () => pan(-0.5)], ['.', 'right, in the zoom', () => pan(0.5)],
+  ['Shift+ArrowLeft', 'lives: earlier, in the zoom', () => panLives(-0.5, 0)], ['Shift+ArrowRight', 'lives: later, in the zoom', () => panLives(0.5, 0)],
+  ['Shift+ArrowUp', 'lives: up, in the zoom', () => panLives(0, 0.5)], ['Shift+ArrowDown', 'lives: down, in the zoom', () => panLives(0, -0.5)],
   ['g', 'to the number of a row', () => { $('row').focus(); $('row').select(); }],
   ['u', 'undo', () => $('undo').click()], ['U', 'redo', () => $('redo').click()], ['o', 'back to the original', original],
   ['l', 'link to this state', link], ['Escape', 'stop work, close a message', () => { stopWork(); say(''); }],
   ['?', 'this list', help],
 ].map(([key, what, f]) => [key, { what, f }]));
-const KEY_NAMES = { ' ': 'Space', ArrowLeft: '←', ArrowRight: '→', PageUp: 'Page Up', PageDown: 'Page Down' };
+const KEY_NAMES = { ' ': 'Space', ArrowLeft: '←', ArrowRight: '→', PageUp: 'Page Up', PageDown: 'Page Down', 'Shift+ArrowLeft': 'Shift ←', 'Shift+ArrowRight': 'Shift →', 'Shift+ArrowUp': 'Shift ↑', 'Shift+ArrowDown': 'Shift ↓' };
 for (const [key, { what }] of KEYS) {
   const dt = document.createElement('dt'), dd = document.createElement('dd');
   dt.textContent = KEY_NAMES[key] || key; dd.textContent = what; $('keylist').append(dt, dd); }
 const isField = at => at.tagName === 'TEXTAREA' || (at.tagName === 'INPUT' && !['range', 'checkbox', 'file'].includes(at.type));
 addEventListener('keydown', event => {
-  const at = event.target, key = event.key;
+  const at = event.target, key = event.shiftKey && event.key.startsWith('Arrow') ? `Shift+${event.key}` : event.key;
   if (event.ctrlKey || event.metaKey || event.altKey || !S.run || !KEYS.has(key) || $('help').open) return;
   if (isField(at) && key !== 'Escape') return;
   if ([' ', 'Enter'].includes(key) && (/BUTTON|SELECT|SUMMARY|INPUT/.test(at.tagName) || at.getAttribute('role') === 'listbox')) return;

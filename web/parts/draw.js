@@ -1,11 +1,22 @@
 // The canvases: the space, the lives, the size classes, and the marks above the slider.
+// The seven bounds of the ages of a run: 10 to 10,000 calls, and in a longer run larger ones, the last at most half of its calls.
 const AGES = [10, 30, 100, 300, 1000, 3000, 10000];
-const ageOf = calls => { let a = 7; while (a && calls <= AGES[a - 1]) a--; return a; };
+function agesOf(run) {
+  if (run.ages?.count === run.count) return run.ages.list;
+  let list = AGES;
+  // 1, 3, 10, 30 and so on
+  for (let next; (next = list[6] % 3 ? 3 * list[6] : list[6] / 3 * 10) <= run.count / 2;) list = [...list.slice(1), next];
+  run.ages = { count: run.count, list };
+  return list;
+}
+const ageOf = (calls, ages) => { let a = 7; while (a && calls <= ages[a - 1]) a--; return a; };
+// How long the tick of so many refusals is, where the most of a point are `most`.
+const TICK = 10, tickOf = (count, most, length = TICK) => length * Math.max(0.4, count / most);
 const ROWS = 6, GUTTER = 54;
 const color = name => getComputedStyle(document.documentElement).getPropertyValue(name).trim();
 let C = null;
 const colors = () => C || (C = { ages: [1, 2, 3, 4, 5, 6, 7, 8].map(i => color('--age' + i)), get inks() { return [...this.ages, this.line]; },
-  ...Object.fromEntries(['free', 'mark', 'fg', 'dim', 'line', 'bg'].map(n => [n, color('--' + n)])) });
+  ...Object.fromEntries(['free', 'mark', 'fg', 'dim', 'line', 'bg', 'later'].map(n => [n, color('--' + n)])) });
 const rgb = hex => [1, 3, 5].map(i => parseInt(hex.slice(i, i + 2), 16));
 const short = n => S.unit ? inBytes(n) : n < 1e4 ? String(n) : n < 1e6 ? (n / 1e3).toFixed(n < 1e5 ? 1 : 0) + ' k' :
   n < 1e9 ? (n / 1e6).toFixed(n < 1e8 ? 1 : 0) + ' M' : (n / 1e9).toFixed(2) + ' G';
@@ -66,53 +77,54 @@ class Coverage {
 }
 // The blocks of a space, as lines of one text: `from` to `to` are the units that are shown. The picture is kept, as what is
 // marked changes more often.
-function drawSpace(id, run, p, from, to, marked) {
-  const [g, w0, h, d] = canvas($(id)), w = w0 - GUTTER, rh = h / ROWS, span = (to - from) / ROWS, c = colors();
+function drawSpace(id, run, p, from, to, marked, lines = ROWS) {
+  const [g, w0, h, d] = canvas($(id)), w = w0 - GUTTER, rh = h / lines, span = (to - from) / lines, c = colors();
   const strip = (o, n, f) => {
     const end = Math.min(to, o + n), begin = Math.max(from, o);
-    for (let y = Math.floor((begin - from) / span); y < ROWS && from + y * span < end; y++) {
+    for (let y = Math.floor((begin - from) / span); y < lines && from + y * span < end; y++) {
       const x = Math.max(0, begin - from - y * span) / span * w, z = Math.min(span, end - from - y * span) / span * w;
       f(x, y, z - x); } };
   const key = [id, p, from, to, w0, h, d, c.bg, lookOf(run)].join();
-  if (run.space?.key !== key) run.space = { key, sheet: spaceSheet(run, p, from, to, strip, w0, h, d, run.space?.sheet) };
-  g.resetTransform(); g.drawImage(run.space.sheet, 0, 0); g.scale(d, d);
+  const sheets = run.spaces;
+  if (sheets[id]?.key !== key) sheets[id] = { key, sheet: spaceSheet(run, p, from, to, strip, w0, h, d, sheets[id]?.sheet, lines) };
+  g.resetTransform(); g.drawImage(sheets[id].sheet, 0, 0); g.scale(d, d);
   for (const [o, n, dash, stroke] of marked) {
     // between two lines of the background, as an age may have the same lightness
-    for (const [wide, style, lines] of [[4, c.bg, []], [2, stroke, dash]]) {
-      g.setLineDash(lines); g.strokeStyle = style; g.lineWidth = wide;
+    for (const [wide, style, dashes] of [[4, c.bg, []], [2, stroke, dash]]) {
+      g.setLineDash(dashes); g.strokeStyle = style; g.lineWidth = wide;
       strip(o, Math.max(n, 1e-9), (x, y, z) => g.strokeRect(GUTTER + x, y * rh + 1, Math.max(3, z), rh - 2)); }
   }
   g.setLineDash([]);
 }
-function spaceSheet(run, p, from, to, strip, w0, h, d, old) {
+function spaceSheet(run, p, from, to, strip, w0, h, d, old, lines) {
   const [wide, high] = [w0, h].map(v => Math.max(1, Math.round(v * d))), sheet = old?.width === wide && old.height === high ? old : new OffscreenCanvas(wide, high), g = prepared(sheet, d);
-  const w = w0 - GUTTER, rh = h / ROWS, span = (to - from) / ROWS, c = colors();
+  const w = w0 - GUTTER, rh = h / lines, span = (to - from) / lines, c = colors();
   g.textAlign = 'right';
-  for (let y = 0; y < ROWS; y++) g.fillText(short(Math.round(run.scale * (from + y * span))), GUTTER - 4, y * rh + rh / 2);
+  for (let y = 0; y < lines && lines === ROWS; y++) g.fillText(short(Math.round(run.scale * (from + y * span))), GUTTER - 4, y * rh + rh / 2);
   const bar = (x, y, z) => g.fillRect(GUTTER + x, y * rh + 1, z, rh - 2);
   // what is not in the space is not free
   g.fillStyle = c.free; strip(0, run.sizeAt(p), bar);
   // a range of less than three pixels covers a part of them
-  const thin = new Coverage(Math.round(w * d), ROWS, c.inks), [ranges, others] = run.near(p), next = run.begunAt(p), ink = inking(run);
+  const thin = new Coverage(Math.round(w * d), lines, c.inks), [ranges, others] = run.near(p), next = run.begunAt(p), ink = inking(run);
   let last = -1;
   const whole = (o, n, age) => strip(o, n, (x, y, z) => {
     if (z <= 3) return thin.add(age, x / w * thin.wide, y, (x + z) / w * thin.wide, y + 1);
     // to set a colour takes longer than to draw
     if (age !== last) g.fillStyle = c.inks[last = age];
     bar(x, y, z - 1); });
-  coverLine(thin, ranges, Math.max(0, ranges.upTo(from) - 1), ranges.upTo(to), p, next, from, to, span, ink, whole);
-  coverLine(thin, others, 0, others.count, p, next, from, to, span, ink, whole);
+  coverLine(run, thin, ranges, Math.max(0, ranges.upTo(from) - 1), ranges.upTo(to), p, next, from, to, span, ink, whole);
+  coverLine(run, thin, others, 0, others.count, p, next, from, to, span, ink, whole);
   thin.paint(); g.imageSmoothingEnabled = false;
-  for (let y = 0; y < ROWS; y++) g.drawImage(thin.sheet, 0, y, thin.wide, 1, GUTTER, y * rh + 1, w, rh - 2);
+  for (let y = 0; y < lines; y++) g.drawImage(thin.sheet, 0, y, thin.wide, 1, GUTTER, y * rh + 1, w, rh - 2);
   return sheet;
 }
 // Draws those of some ranges that are live: what is less than a pixel in one line here, the others by a function.
-function coverLine(thin, { o, n, born, to: ends, l }, i, count, p, next, from, to, span, ink, other) {
-  const scale = thin.wide / span, all = thin.sums.map((_, ink) => thin.sumsOf(ink)), step = thin.wide + 2;
+function coverLine(run, thin, { o, n, born, to: ends, l }, i, count, p, next, from, to, span, ink, other) {
+  const ages = agesOf(run), scale = thin.wide / span, all = thin.sums.map((_, ink) => thin.sumsOf(ink)), step = thin.wide + 2;
   for (; i < count; i++) {
     const at = o[i], units = n[i];
     if (ends[i] <= p || l[i] >= next || at >= to || at + units <= from) continue;
-    const lived = ageOf(p - born[i]), age = ink ? ink(l[i], lived) : lived, y = Math.floor((at - from) / span), x = (at - from - y * span) * scale, end = x + units * scale, j = Math.floor(x);
+    const lived = ageOf(p - born[i], ages), age = ink ? ink(l[i], lived) : lived, y = Math.floor((at - from) / span), x = (at - from - y * span) * scale, end = x + units * scale, j = Math.floor(x);
     if (units && at >= from && end < j + 1) { const s = all[age], k = y * step + j; s[k] += end - x; s[k + 1] -= end - x; } else other(at, units, age);
   }
 }
@@ -122,12 +134,20 @@ function unitAt(event, from, to) {
   const y = Math.floor(part(ROWS * (event.clientY - b.top), b.height, ROWS - 1)), x = part(event.clientX - b.left - GUTTER, b.width - GUTTER, 1);
   return from + (y + x) * (to - from) / ROWS;
 }
-// Where refusals are marked on a width of so many calls; kept, as there may be very many.
+// Where refusals are marked on a width of so many calls, and how many are there; kept, as there may be very many.
 function ticks(run, from, to, w) {
   run.ticks = run.ticks || new Map();
   const key = `${from} ${to} ${w}`;
   if (run.ticks.size > 9) run.ticks.clear();
-  if (!run.ticks.has(key)) run.ticks.set(key, new Set(run.refusals.filter(p => p >= from && p <= to).map(p => Math.round((p - from) / (to - from) * w))));
+  if (!run.ticks.has(key)) {
+    const rows = tickedRows(run), found = new Map(), first = firstOf(rows.length, i => rows[i] >= from);
+    let most = 1;
+    for (let i = first; i < rows.length && rows[i] <= to; i++) {
+      const x = Math.round((rows[i] - from) / (to - from) * w), count = (found.get(x) || 0) + 1;
+      found.set(x, count); if (count > most) most = count;
+    }
+    run.ticks.set(key, { found, most });
+  }
   return run.ticks.get(key);
 }
 // The lives of all ranges, drawn once for each size of the window and scheme of colours, in turns: what is missing comes
@@ -138,43 +158,59 @@ const ROOM = 4, lineLeft = (from, to) => to - from > ROOM ? 1 : 0;
 function drawLives(id, run, at, isTurn = false) {
   const p = at();
   if (p === null) return;
-  const [g, w0, h0, d] = canvas($(id)), w = w0 - GUTTER, h = h0 - 16, c = colors(), n = run.count + 1, [p0, p1, o0, o1] = shownLives(id, run);
+  const isMap = id === 'lifemap', [g, w0, h0, d] = canvas($(id)), w = w0 - GUTTER, h = h0 - (isMap ? 0 : 16), c = colors(), n = run.count + 1, [p0, p1, o0, o1] = shownLives(id, run);
   const key = [w, h, d, c.bg, run.count, p0, p1, o0, o1, lookOf(run)].join();
-  // a run that is compared is drawn in two sizes
-  if (run.picture?.key !== key) [run.picture, run.other] = [run.other?.key === key ? run.other : null, run.picture];
-  if (!run.picture) {
+  if (run.pictures[id]?.key !== key) {
     const drawn = new Coverage(Math.round(w * d), Math.round(h * d), c.inks);
-    run.picture = { key, next: 0, line: 0, isDone: false, drawn, sheet: drawn.sheet, due: 0 };
+    run.pictures[id] = { key, next: 0, line: 0, isDone: false, drawn, sheet: drawn.sheet, later: null, due: 0 };
   }
-  const s = run.picture, { wide, high } = s.drawn;
+  const s = run.pictures[id], { wide, high } = s.drawn, ages = agesOf(run);
   if (!s.isDone && (isTurn || !s.due)) {
     const y = o => (1 - (o - o0) / (o1 - o0)) * high, x = p => (p - p0) / (p1 - p0) * wide, t = performance.now(), all = run.lives.list, ink = inking(run);
     while (s.line < high && performance.now() - t <= TURN) {
       if (s.next === run.lifeCount) { s.drawn.paint(s.line, 16); s.line += 16; }
       for (const end = Math.min(run.lifeCount, s.next + 1000); s.next < end; s.next++) {
-        const l = LIFE * s.next, o = all[l + O], end = o + all[l + N], from = all[l + FROM], to = Math.min(all[l + TO], n), age = ageOf(run.lived(s.next, n));
+        const l = LIFE * s.next, o = all[l + O], end = o + all[l + N], from = all[l + FROM], to = Math.min(all[l + TO], n), age = ageOf(run.lived(s.next, n), ages);
         if (from < p1 && to > p0 && o <= o1 && end >= o0)
           s.drawn.add(ink ? ink(s.next, age) : age, Math.max(0, x(from)), Math.max(0, y(end) + lineLeft(y(end), y(o))), Math.min(wide, x(to) - lineLeft(x(from), x(to))), Math.min(high, y(o)));
       }
     }
     s.isDone = s.line >= high;
-    if (s.isDone) s.drawn.sums = null; else s.due = requestAnimationFrame(() => {
-      s.due = 0; if ([run.picture, run.other].includes(s)) drawLives(id, run, at, true); });
+    if (s.isDone) { s.drawn.sums = null; s.later = paled(s.sheet); } else s.due = requestAnimationFrame(() => {
+      s.due = 0; if (run.pictures[id] === s) drawLives(id, run, at, true); });
   }
-  const cx = Math.max(0, Math.min(w, (p + 1 - p0) / (p1 - p0) * w)), part = (from, to) => to > from &&
-    g.drawImage(s.sheet, from * d, 0, (to - from) * d, h * d, GUTTER + from, 0, to - from, h);
-  part(0, cx); g.globalAlpha = 0.25; part(cx, w); g.globalAlpha = 1;
+  const cx = Math.max(0, Math.min(w, (p + 1 - p0) / (p1 - p0) * w)), part = (sheet, from, to) => to > from &&
+    g.drawImage(sheet, from * d, 0, (to - from) * d, h * d, GUTTER + from, 0, to - from, h);
+  part(s.sheet, 0, cx); part(s.later || s.sheet, cx, w);
   g.beginPath();
-  for (const x of ticks(run, p0, p1, w)) { g.moveTo(GUTTER + x + 0.5, 0); g.lineTo(GUTTER + x + 0.5, 10); }
+  const { found, most } = ticks(run, p0, p1, w);
+  for (const [x, count] of isMap ? [] : found) { g.moveTo(GUTTER + x + 0.5, 0); g.lineTo(GUTTER + x + 0.5, tickOf(count, most)); }
   const line = GUTTER + Math.round(Math.min(cx, w - 2));
   for (const [edge, style] of [[1, c.bg], [0, c.mark]]) {
     g.lineWidth = 1 + 2 * edge; g.strokeStyle = g.fillStyle = style; g.stroke();
     g.fillRect(line - edge, 0, 2 + 2 * edge, h); }
+  if (isMap) return frameOnMap(g, w, h, run);
   g.fillStyle = c.dim;
   for (const x of flagTicks(run, p0, p1, w)) g.fillRect(GUTTER + Math.round(x), h - 6, 1, 6);
   g.textAlign = 'right';
   for (const [part0, y] of [[1, 7], [0.5, h / 2], [0, h - 6]]) g.fillText(short(Math.round(run.scale * (o0 + (o1 - o0) * part0))), GUTTER - 4, y);
   g.textAlign = 'left'; g.fillText(`row ${whole(Math.round(p0))}`, GUTTER, h + 9); g.textAlign = 'right'; g.fillText(whole(Math.round(p1 - 1)), w0, h + 9);
+}
+// What comes after the position, in paler colours that still have 3:1 to the background.
+const PALE = 0.6;
+function paled(sheet) {
+  const later = new OffscreenCanvas(sheet.width, sheet.height), g = later.getContext('2d');
+  g.drawImage(sheet, 0, 0);
+  g.globalCompositeOperation = 'source-atop'; g.globalAlpha = PALE; g.fillStyle = colors().later; g.fillRect(0, 0, sheet.width, sheet.height);
+  return later;
+}
+// On the small map of all lives: the part that is shown large.
+function frameOnMap(g, w, h, run) {
+  const [p0, p1, o0, o1] = shownLives('life', run), [all, top] = [run.count + 1, run.top];
+  // within the map, and large enough to be seen
+  const wide = Math.max(6, (p1 - p0) / all * w), high = Math.max(6, (o1 - o0) / top * (h - 2));
+  const box = [GUTTER + Math.min(p0 / all * w, w - wide - 1), Math.max(1, Math.min((1 - o1 / top) * h, h - high - 1)), wide, high];
+  for (const [wide, style] of [[4, colors().bg], [2, colors().fg]]) { g.strokeStyle = style; g.lineWidth = wide; g.strokeRect(...box); }
 }
 // The rows and offsets that are shown of the lives.
 const shownLives = (id, run) => id === 'life' && S.life || [0, run.count + 1, 0, run.top];
@@ -215,6 +251,70 @@ function drawCurves(run, p) {
   g.resetTransform(); g.drawImage(run.curves.sheet, 0, 0); g.scale(d, d);
   g.fillStyle = c.mark; g.fillRect(GUTTER + Math.round(Math.max(0, Math.min(w - 2, (p + 1 - p0) / (p1 - p0) * w))), 0, 1, h);
 }
+// The rows at which frames end, and those of times in nanoseconds, in the order of the rows.
+function axisOf(run) {
+  if (run.axis?.count === run.count) return run.axis;
+  const flags = flagsOf(run), list = run.file?.marks || [], frames = [], rows = [], times = [];
+  for (let i = 0; i < flags.length; i++) {
+    const { text, time } = list[i];
+    if (text === 'frame') frames.push(flags[i]);
+    else if (text.startsWith('time ') && time !== null && (!times.length || Number(time) >= times.at(-1))) { rows.push(flags[i]); times.push(Number(time)); }
+  }
+  return run.axis = { count: run.count, frames, rows, times };
+}
+// The least of 1, 2, 5, 10, .. that divides a span into at most so many parts.
+function niceStep(span, parts) {
+  let step = 1;
+  for (let i = 0; span / step > parts; i++) step *= [2, 2.5, 2][i % 3];
+  return step;
+}
+// Where an axis has labels, each with room for its words: rows and texts.
+function labelsOf(from, to, parts, rowOf, said) {
+  const step = niceStep(Math.max(1, to - from), parts), found = [];
+  for (let v = Math.ceil(from / step) * step; v <= to; v += step) found.push([rowOf(v), said(v)]);
+  return found;
+}
+// Frames and time, over the rows that are shown of the lives.
+function drawAxis(run) {
+  const { frames, rows, times } = axisOf(run);
+  $('axis').hidden = !frames.length && !times.length;
+  if ($('axis').hidden) return;
+  $('axis').style.height = `${15 * ((frames.length > 0) + (times.length > 0))}px`;
+  const [g, w0] = canvas($('axis')), w = w0 - GUTTER, [p0, p1] = shownLives('life', run), parts = Math.max(2, Math.floor(w / 90)), lines = [];
+  const upTo = (list, p) => firstOf(list.length, i => list[i] > p);
+  if (frames.length) lines.push(['frame', labelsOf(upTo(frames, p0) + 1, upTo(frames, p1 - 1) + 1, parts, k => k > 1 ? frames[k - 2] : 0, k => whole(k))]);
+  if (times.length) {
+    const at = p => times[Math.max(0, Math.min(times.length, upTo(rows, p)) - 1)];
+    // a label is at a mark, and says its time
+    const markOf = t => Math.min(times.length - 1, firstOf(times.length, i => times[i] >= t));
+    lines.push(['time', labelsOf(at(p0), at(p1 - 1), parts, t => rows[markOf(t)], t => inTime(String(times[markOf(t)]))).filter(([row], i, all) => !i || row !== all[i - 1][0])]);
+  }
+  run.axis.shown = lines;
+  for (const [i, [name, labels]] of lines.entries()) {
+    g.textAlign = 'right'; g.fillText(name, GUTTER - 4, 15 * i + 8); g.textAlign = 'left';
+    let free = -1;
+    for (const [p, text] of labels) {
+      const x = (p + 1 - p0) / (p1 - p0) * w, wide = g.measureText(text).width;
+      if (x < 0 || x > w) continue;
+      g.fillRect(GUTTER + x, 15 * i, 1, 5);
+      if (x > free && x + wide + 4 < w) { g.fillText(text, GUTTER + x + 3, 15 * i + 8); free = x + wide + 12; }
+    }
+  }
+}
+// The small maps of the whole space and of the whole run, where a part is shown.
+function drawMaps(run, p, isQuick) {
+  $('spacemap').hidden = !S.zoom; $('lifemap').hidden = !S.life;
+  if (S.life) drawLives('lifemap', run, () => S.run === run ? S.p : null);
+  if (!S.zoom || isQuick) return;
+  const size = Math.max(1, run.sizeAt(p));
+  drawSpace('spacemap', run, p, 0, size, [[S.zoom[0], S.zoom[1] - S.zoom[0], [], colors().fg]], 1);
+}
+// Moves what is shown of the lives by a part of it.
+function panLives(rows, offsets) {
+  if (!S.life) return;
+  const [p0, p1, o0, o1] = S.life, p = rows * (p1 - p0), o = offsets * (o1 - o0);
+  zoomLives(p0 + p, p1 + p, o0 + o, o1 + o);
+}
 // Shows a part of the lives: at least eight rows, and eight units.
 function zoomLives(p0, p1, o0, o1) {
   const { run } = S, within = (from, to, all) => {
@@ -242,7 +342,8 @@ const rowAt = (event, id, run) => {
 function drawMarks(run) {
   const [g, w, h] = canvas($('marks'));
   g.fillStyle = colors().mark;
-  for (const x of ticks(run, 0, Math.max(1, run.count), w - 16)) g.fillRect(8 + x - 0.5, 0, 1.5, h);
+  const { found, most } = ticks(run, 0, Math.max(1, run.count), w - 16);
+  for (const [x, count] of found) g.fillRect(8 + x - 0.5, 0, 1.5, tickOf(count, most, h));
 }
 // The bins, one for each size class: left the top mask, a bit for each word; right a bit for each that has a free block.
 function drawBins(bins, searched, taken) {

@@ -39,7 +39,6 @@ function dumpText(bytes) {
   if (!blocks.length) throw new Fault('the JSON has no block with Suballocations, or with blocks: it is no dump');
   const isVma = isObject(dump.General) && Object.keys(dump.General).some(key => key !== 'API') || blocks.some(b => b.title.includes('dedicated'));
   // what is larger than a space may be is counted in larger units
-  const gcd = (a, b) => { while (b) [a, b] = [b, a % b]; return a; };
   let unit = 1;
   if (blocks.some(b => b.size > LARGEST)) {
     unit = 0;
@@ -59,5 +58,6 @@ function dumpText(bytes) {
     }
   }
   if (isVma || unit > 1) lines.unshift(`#! unit ${unit}`);
+  if (isVma) lines.unshift('#! dump');
   return lines.join('\n') + '\n';
 }

@@ -27,14 +27,14 @@ async function sought(run, find, work) {
 }
 // For each grant the ink and the place of how its name begins; the places by the units of all grants.
 async function grouped(run, work) {
-  const places = new Map(), of = new Uint32Array(run.born.length), all = [];
+  const places = new Map(), prefixes = new Map(), of = new Uint32Array(run.born.length), all = [];
   for (let k = 1; k < of.length; k++) {
     const name = run.nameOf(k);
     let i = places.get(name);
     if (i === undefined) {
       const prefix = prefixOf(name);
-      i = all.findIndex(g => g.name === prefix);
-      if (i < 0) i = all.push({ name: prefix, granted: 0, left: 0, leftUnits: 0 }) - 1;
+      i = prefixes.get(prefix);
+      if (i === undefined) { i = all.push({ name: prefix, granted: 0, left: 0, leftUnits: 0 }) - 1; prefixes.set(prefix, i); }
       places.set(name, i);
     }
     of[k] = i;
@@ -62,7 +62,7 @@ async function look() {
   if (key !== (run.found ? run.found.key : null)) run.found = key === null ? null : await during('Looking', work => sought(run, S.find, work));
   if (S.run !== run) return;
   FIELDS_FOUND.forEach((id, i) => { $(id).value = S.find ? S.find[i] : ''; });
-  $('fnever').checked = Boolean(S.find && S.find[5]); $('byname').value = S.byName ? 1 : 0; $('unit').value = S.unit || '';
+  $('fnever').checked = Boolean(S.find && S.find[5]); $('byname').options[0].disabled = run.file.isDump; $('byname').value = S.byName ? 1 : 0; $('unit').value = S.unit || '';
   const f = run.found;
   $('found').textContent = f ? `${counted(f.count, 'range')} granted, ${units(f.units)}; never freed: ${counted(f.left, 'range')}, ${units(f.leftUnits)}.` : '';
   showLegend();
@@ -74,14 +74,28 @@ function find() {
   return lookFor({ find: values.some(v => v) ? values : null });
 }
 const isCount = text => text === '' || (/^\d{1,10}$/.test(text) && Number(text) <= LARGEST);
-function showLegend() {
-  const groups = S.byName && S.run.groups, words = groups ? [...groups.all.filter(g => g.name !== '').slice(0, NAMED_INKS).map(g => g.name), 'others'] :
-    ['to 10 rows', 'to 30', 'to 100', 'to 300', 'to 1,000', 'to 3,000', 'to 10,000', 'longer'];
+// A legend: words, each with an ink of the ages.
+function showInks(id, title, words, inkOf, more = []) {
   const item = (style, word) => {
     const s = document.createElement('span'), i = document.createElement('i');
     i.style.background = `var(--${style})`; s.append(i, word); return s; };
-  $('legend').replaceChildren(groups ? 'Names that begin with' : 'Live for',
-    ...words.map((word, i) => item(`age${groups && word === 'others' && i === words.length - 1 ? 8 : i + 1}`, word)), item('free', 'free'), ...(S.run.found ? [item('line', 'not looked for')] : []));
+  $(id).replaceChildren(title, ...words.map((word, i) => item(`age${inkOf(i)}`, word)), item('free', 'free'), ...more.map(([style, word]) => item(style, word)));
+}
+function showLegend() {
+  const groups = S.byName && S.run.groups, words = groups ? [...groups.all.filter(g => g.name !== '').slice(0, NAMED_INKS).map(g => g.name), 'others'] :
+    [...agesOf(S.run).map((n, i) => `to ${whole(n)}${i ? '' : ' rows'}`), 'longer'];
+  showInks('legend', groups ? 'Names that begin with' : 'Live for', words, i => groups && words[i] === 'others' && i === words.length - 1 ? 8 : i + 1, S.run.found ? [['line', 'not looked for']] : []);
+}
+// The numbers below `count` with the largest values, so many of them, the largest first; of equal ones the smaller first. Lists that
+// are much longer are not sorted.
+function largest(count, most, value) {
+  let list = [];
+  const order = (i, j) => value(j) - value(i) || i - j;
+  for (let i = 0; i < count; i++) {
+    list.push(i);
+    if (list.length > 8 * most) list = list.sort(order).slice(0, most);
+  }
+  return list.sort(order).slice(0, most);
 }
 // The totals of how names begin: live now, and never freed.
 function showGroups(v) {
@@ -90,7 +104,7 @@ function showGroups(v) {
   if (!groups) return;
   const counts = new Uint32Array(groups.all.length), sums = new Float64Array(groups.all.length), { k, n } = v;
   for (let i = 0; i < v.count; i++) { const g = groups.of[k[i]]; counts[g]++; sums[g] += n[i]; }
-  const order = [...counts.keys()].sort((i, j) => sums[j] - sums[i] || i - j).slice(0, MOST_GROUPS);
+  const order = largest(counts.length, MOST_GROUPS, i => sums[i]);
   $('grouprows').replaceChildren(...order.map(i => {
     const g = groups.all[i], row = document.createElement('tr'), th = document.createElement('th'), b = document.createElement('button');
     b.textContent = g.name || 'no name'; b.title = 'Looks for these'; b.disabled = !g.name;

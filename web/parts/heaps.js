@@ -1,7 +1,7 @@
 // Many heaps of one file: rows, of which each is opened as a space. Their time is that of the file, in its lines.
 const STEPS = 120, WHY_NOT = ['the request is for no unit', 'the request is larger than any heap may be', 'no heap has room, and no other may be made', 'no memory is left for another heap'];
 const nameOfPart = (file, i) => {
-  const { heap, title, head } = file.parts[i], same = file.parts.slice(0, i).filter(of => of.heap === heap).length;
+  const { heap, title, head, same } = file.parts[i];
   return (heap === null ? (same ? `limit ${whole(head[1])}` : 'as it began') : `heap ${whole(heap)}` + (same ? ` (${whole(same + 1)})` : '')) + (title ? ` “${title}”` : ''); };
 // How many bytes a unit of a part has. Where no heap has its own, all have the one that is shown.
 const unitOf = (file, i) => i === S.part || !file.units.size ? S.unit : unitIn(file, file.parts[i]);
@@ -25,7 +25,7 @@ async function surveyed(file, bytes, work) {
   const m = new Module();
   const all = file.parts.reduce((sum, of) => sum + of.lines.length, 0), last = file.lines + 1;
   for (const of of file.parts) {
-    if (of.before) carryNames(of);
+    if (of.before) { carryNames(of); of.firstStep = of.before.step; }
     const run = of.run(m), curve = new Float32Array(STEPS).fill(-1), step = line => Math.min(STEPS - 1, Math.floor(line / last * STEPS));
     run.start(of.lines.length); run.left = 0;
     let before = 0, to = of.to ?? last;
@@ -43,6 +43,8 @@ async function surveyed(file, bytes, work) {
       of.named = new Map();
       for (let k = 1; k < run.born.length; k++) if (run.died.list[k] === ALIVE && run.nameOf(k)) of.named.set(run.life(run.last.list[k]).o, run.nameOf(k));
     }
+    keepLives(of, run, file, last);
+    of.refused = Uint32Array.from(run.refusals); of.step = stepAt(run, run.count);
     const size = run.sizes.reduce((m, s) => Math.max(m, s[1]), 1);
     for (let s = step(of.from), i = 0; s <= step(to) && s < STEPS; s++) {
       let highest = before;
@@ -68,6 +70,49 @@ function drawHeap(row, i) {
     for (let s = first; s < end; s++) g.fillRect(s / STEPS * w, h - 2 - seen.curve[s] * (h - 4), w / STEPS + 0.5, seen.curve[s] * (h - 4));
   });
 }
+// What lives in each heap, for all heaps at once: offsets, units, the lines of the file from and up to which, and how names begin.
+const MOST_BARS = 48, BAR = 18;
+function keepLives(of, run, file, last) {
+  const count = run.lifeCount, [o, n, from, to, type] = [0, 1, 2, 3, 4].map(() => new Uint32Array(count)), all = run.lives.list;
+  file.types ??= new Map();
+  for (let l = 0; l < count; l++) {
+    const at = LIFE * l, prefix = prefixOf(run.nameOf(all[at + K]));
+    let kind = file.types.get(prefix);
+    if (!kind) file.types.set(prefix, kind = { i: file.types.size, name: prefix, units: 0 });
+    o[l] = all[at + O]; n[l] = all[at + N]; type[l] = kind.i; kind.units += n[l];
+    from[l] = of.lines[all[at + FROM] - 1]; to[l] = all[at + TO] === ALIVE ? last : of.lines[all[at + TO] - 1];
+  }
+  of.lives = { o, n, from, to, type };
+}
+// The inks of how names begin, in the whole file: by their units, those without a name last.
+function typeInks(file) {
+  if (file.inks) return file.inks;
+  const order = [...(file.types || new Map()).values()].sort((x, y) => (x.name === '') - (y.name === '') || y.units - x.units), inks = new Uint8Array(order.length);
+  order.forEach((kind, at) => { inks[kind.i] = kind.name === '' ? NAMED_INKS : Math.min(NAMED_INKS, at); });
+  return file.inks = { inks, names: order.filter(kind => kind.name !== '').slice(0, NAMED_INKS).map(kind => kind.name) };
+}
+// All heaps at the time that is shown, each a bar as long as its size.
+function drawHeapsNow() {
+  const { file } = S.run;
+  if (!file || !isSeveral(file) || !$('allnow').open) return;
+  const line = lineNow(), there = [], c = colors(), { inks, names } = typeInks(file);
+  for (const [j, of] of file.parts.entries()) if (of.from <= Math.max(line, 1) && (of.to === null || of.to > line)) there.push(j);
+  const shown = there.slice(0, MOST_BARS), sizeOf = j => file.parts[j].sizes.findLast(([p]) => p <= rowAtLine(file.parts[j], line))[1] * (file.units.size ? unitOf(file, j) || 1 : 1);
+  const most = shown.reduce((m, j) => Math.max(m, sizeOf(j)), 1), box = $('heapsnow');
+  box.style.height = `${BAR * Math.max(1, shown.length)}px`;
+  const [g, w0, , d] = canvas(box), left = Math.min(220, w0 / 3), w = w0 - left, drawn = new Coverage(Math.round(w * d), Math.max(1, shown.length), c.inks);
+  file.now = shown;
+  for (const [y, j] of shown.entries()) {
+    const of = file.parts[j], { o, n, from, to, type } = of.lives, scale = (file.units.size ? unitOf(file, j) || 1 : 1) / most * drawn.wide;
+    g.fillStyle = c.free; g.fillRect(left, y * BAR + 2, Math.max(1, sizeOf(j) / most * w), BAR - 4);
+    for (let l = 0; l < o.length && from[l] <= line; l++) if (to[l] > line) drawn.add(inks[type[l]], o[l] * scale, y, Math.min(drawn.wide, (o[l] + n[l]) * scale), y + 1);
+    g.fillStyle = j === S.part ? c.fg : c.dim; g.fillText(nameOfPart(file, j), 2, y * BAR + BAR / 2, left - 8);
+  }
+  drawn.paint(); g.imageSmoothingEnabled = false;
+  for (let y = 0; y < shown.length; y++) g.drawImage(drawn.sheet, 0, y, drawn.wide, 1, left, y * BAR + 2, w, BAR - 4);
+  showInks('typelegend', 'Names that begin with', [...names, 'others'], i => i === names.length ? 8 : i + 1);
+  tell('heapsnowis', `${counted(there.length, 'heap')} at line ${whole(line)} of the file${there.length > shown.length ? `, of which the first ${whole(shown.length)} are shown` : ''}. A bar is as long as its heap is large.`);
+}
 // The line at the position, over the time of all rows.
 function showTime() {
   const strip = document.querySelector('#heaprows .strip'), { file } = S.run;
@@ -79,11 +124,13 @@ function showTime() {
 const lineAt = (run, p) => p ? run.lines[Math.min(p, run.lines.length) - 1] || run.part.from : run.part ? run.part.from : 0;
 function showHeaps() {
   const { file } = S.run, isShown = Boolean(file && isSeveral(file));
-  $('heaps').hidden = !isShown;
+  $('heaps').hidden = !isShown; $('exportall').hidden = !isShown;
   if (!isShown) return;
   const { parts, others } = file;
-  file.refused ??= others.filter(o => o.kind === OTHER.refused).length; file.left ??= parts.reduce((sum, of) => sum + of.seen.live, 0);
-  const left = addedUp(file, parts.map((of, i) => [i, of.seen.units]).filter(([, n]) => n)) || 'of units that differ, and are not added up';
+  file.refused ??= others.filter(isUngranted).length; file.left ??= parts.reduce((sum, of) => sum + of.seen.live, 0);
+  const keyOfSum = [S.part, S.unit].join();
+  if (file.sum?.key !== keyOfSum) file.sum = { key: keyOfSum, text: addedUp(file, parts.map((of, i) => [i, of.seen.units]).filter(([, n]) => n)) || 'of units that differ, and are not added up' };
+  const left = file.sum.text;
   tell('heapshead', file.isMany ? `${counted(parts.length, 'heap')} in this file` : `${counted(parts.length, 'space')} in this file, one after the other`);
   tell('heapsum', `Shown below: ${nameOfPart(file, S.part)}. Live at the end in all: ${counted(file.left, 'range')}, ${left}.` +
     (file.refused ? ` ${counted(file.refused, 'request')} that no heap granted.` : '') + (S.run !== S.base ? ' The rows are of the original, without your calls.' : ''));
@@ -96,9 +143,10 @@ function showHeaps() {
   if (L.others.of !== file) { L.others.of = file; L.others.set(others.length); }
   $('nogranthead').textContent = `${counted(others.length, 'call')} that changed no heap`;
 }
-function saidOf({ kind, n, a, why }) {
+const saidOf = other => inUnitOf(unitOfRequest(S.run.file), () => requestInWords(other));
+function requestInWords({ kind, n, a, why, isTight }) {
   if (kind === OTHER.gone) return ['a place that is not live', 'gone'];
-  const request = (a > 1 ? `align ${n} ${a}` : `alloc ${n}`) + (S.unit && n ? ` (${inBytes(n)})` : '');
+  const request = said(a > 1 ? (isTight ? OP.tightAligned : 1) : isTight ? OP.tight : 0, n, a) + (S.unit && n ? ` (${inBytes(n)})` : '');
   return kind === OTHER.kept ? [`relocate ${units(n)}${a > 1 ? ` at a multiple of ${whole(a)}` : ''}`, 'no other heap takes it'] : [request, WHY_NOT[why]];
 }
 function drawOther(row, i) {
@@ -106,33 +154,25 @@ function drawOther(row, i) {
   cell(row, whole(other.line), 'n', 'The line of the file'); cell(row, what, 'c'); cell(row, why, other.kind === OTHER.refused ? 'bad' : '', why);
   if (other.name) cell(row, other.name, 'dim', other.name);
 }
-// What the heaps had when a call changed none of them: shown with the call.
+// A call that changed no heap, where it is chosen.
 function showUngranted(i) {
-  const { file } = S.run, other = file.others[i], [what, why] = saidOf(other), there = [];
-  for (const [j, of] of file.parts.entries()) {
-    if (of.from > other.line || (of.to !== null && of.to <= other.line)) continue;
-    const p = rowAtLine(of, other.line), size = of.sizes.findLast(([row]) => row <= p)[1];
-    there.push({ j, free: size - (p ? of.used[p - 1] : 0), largest: p ? of.largest[p - 1] : valueOf(classOf(size)) });
-  }
+  const { file } = S.run, other = file.others[i];
+  if (isUngranted(other)) return toUngranted(i);
   jump(rowAtLine(S.run, other.line));
-  // where units differ, the largest is that in bytes
-  const isMixed = file.units.size > 0, inAll = h => h.largest * (isMixed ? unitOf(file, h.j) || 1 : 1);
-  const best = there.reduce((b, h) => !b || inAll(h) > inAll(b) ? h : b, null), free = addedUp(file, there.map(h => [h.j, h.free]));
-  say(`Line ${whole(other.line)}: ${what}: ${why}. Then there ${there.length === 1 ? 'was' : 'were'} ${counted(there.length, 'heap')}${free ? `, with ${free} free in all` : ''}` +
-    (best ? `; the largest request that one granted was ${units(best.largest, unitOf(file, best.j))}, of ${nameOfPart(file, best.j)}` : '') + '.', false, best ? [['Open it', () => openPart(best.j, other.line)]] : []);
+  return say(`Line ${whole(other.line)}: ${saidOf(other).join(': ')}.`);
 }
 // Opens another part, at the time of the file that is shown, at a line, or at its first refusal.
-async function openPart(i, line = lineAt(S.run, S.p), isAtRefusal = false) {
+async function openPart(i, line = lineAt(S.run, S.p), isAtRefusal = false, row = null, ungranted = null) {
   stop();
-  if (i === S.part) return jump(isAtRefusal && S.run.refusals.length ? S.run.refusals[0] : rowAtLine(S.run, line));
+  if (i === S.part) return jump(isAtRefusal && S.run.refusals.length ? S.run.refusals[0] : row ?? rowAtLine(S.run, line), ungranted);
   const { file } = S.run, of = file.parts[i];
   const run = await during('Playing', work => of.run().survey(work));
   if (!run) return null;
   leave();
   Object.assign(run, { file, part: of });
-  Object.assign(S, { run, base: run, part: i, past: [], ahead: [], grant: 0, free: undefined, zoom: null, life: null, find: null, unit: file.units.size ? unitIn(file, of) : S.unit });
-  dropOther(); showNames(); await look(); go(isAtRefusal ? run.refusals[0] : rowAtLine(run, line)); enter();
-  say(`${nameOfPart(file, i)}, at ${isAtRefusal ? 'its first refusal' : `line ${whole(line)} of the file, the time that was shown${run.refusals.length ? '. The number of its refusals opens it at the first' : ''}`}.`);
+  Object.assign(S, { run, base: run, part: i, past: [], ahead: [], grant: 0, free: undefined, zoom: null, life: null, find: null, ungranted: null, unit: file.units.size ? unitIn(file, of) : S.unit });
+  dropOther(); showNames(); await look(); go(isAtRefusal ? run.refusals[0] : row ?? rowAtLine(run, line), ungranted); enter();
+  say(`${nameOfPart(file, i)}, at ${isAtRefusal ? 'its first refusal' : row !== null ? 'its next refusal in the file' : ungranted !== null ? `line ${whole(line)} of the file` : `line ${whole(line)} of the file, the time that was shown${run.refusals.length ? '. The number of its refusals opens it at the first' : ''}`}.`);
   return null;
 }
 const rowAtLine = (run, line) => firstOf(run.lines.length, i => run.lines[i] > line);

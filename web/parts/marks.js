@@ -11,7 +11,11 @@ function marked(before, line, text) {
 // The rows of a run after which its marks come; those after calls of the user's are left out.
 function flagsOf(run) {
   const list = run.file ? run.file.marks : [];
-  if (!run.flags) run.flags = Uint32Array.from(list, m => firstOf(run.lines.length, i => run.lines[i] > m.line));
+  if (!run.flags) {
+    run.flags = new Uint32Array(list.length);
+    // both are in the order of the file
+    for (let i = 0, row = 0; i < list.length; i++) { while (row < run.lines.length && run.lines[row] < list[i].line) row++; run.flags[i] = row; }
+  }
   return run.base ? run.flags.filter(p => p <= run.kept) : run.flags;
 }
 const inTime = text => { const ns = Number(text); return ns < 1e3 ? `${ns} ns` : ns < 1e6 ? `${(ns / 1e3).toFixed(2)} µs` : ns < 1e9 ? `${(ns / 1e6).toFixed(2)} ms` : `${(ns / 1e9).toFixed(3)} s`; };

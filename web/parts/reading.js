@@ -1,5 +1,5 @@
 // Texts to calls. A text is a script, or a recording: a script of any length with a line for each other call too.
-const PIECE = 1 << 18, WIDE = 5, READ = 8;
+const PIECE = 1 << 16, WIDE = 5, READ = 8;
 // What a row has in place of a call: see lib.rs.
 const OTHER = { header: 255, heap: 254, drop: 253, giveUp: 252, refused: 251, kept: 250, gone: 249, mark: 248 };
 // Each call by its kind: its word, and a letter for each of its numbers: units `n`, alignment `a`, grant `k`, step `s`, units
@@ -9,7 +9,7 @@ const CALLS = [['alloc', 'n'], ['align', 'na'], ['free', 'k'], ['size', 'k'], ['
   ['tight', 'na'], ['room', 'n'], ['room', 'nas'], ['relocate', 'k'], ['relocate', 'ka'], ['retract', 'd'], ['offset', 'k'],
   ['where', 'n'], ['where', 'na'], ['first', ''], ['last', ''], ['before', 'k'], ['after', 'k'], ['cost', 'n'], ['cost', 'nas'],
   ['why alloc', 'n'], ['why align', 'na'], ['why tight', 'n'], ['why tight', 'na'], ['at', 'dn']];
-const NAMES = CALLS.map(c => c[0]), KINDS = CALLS.map(c => c[1]), OP = { free: 2, compact: 10, within: 12, tight: 13, tightAligned: 14, room: 15, relocate: 17, relocateAligned: 18, retract: 19, whyAlloc: 29, whyAlign: 30, at: 33 };
+const NAMES = CALLS.map(c => c[0]), KINDS = CALLS.map(c => c[1]), OP = { free: 2, compact: 10, compactBy: 11, within: 12, tight: 13, tightAligned: 14, room: 15, roomBy: 16, relocate: 17, relocateAligned: 18, retract: 19, whyAlloc: 29, whyAlign: 30, at: 33, size: 3, report: 4, last: 24 };
 const isOnGrant = op => KINDS[op][0] === 'k', isTight = op => op === OP.tight || op === OP.tightAligned;
 const isRelocation = op => NAMES[op] === 'relocate', isSlide = op => ['compact', 'room'].includes(NAMES[op]);
 const said = (op, ...of) => [NAMES[op], ...of.slice(0, KINDS[op].length)].join(' ');
@@ -26,7 +26,7 @@ class Growing {
   }
   push(v) { if (this.length === this.list.length) this.reserve(1); this.list[this.length++] = v; }
   append(values) { this.reserve(values.length); this.list.set(values, this.length); this.length += values.length; }
-  whole() { return this.list.slice(0, this.length); }
+  whole() { return this.list.subarray(0, this.length); }
   copy(length) {
     const c = new Growing(this.list.constructor, 0);
     c.list = this.list.slice(0, length + 256); c.length = length;
@@ -48,12 +48,12 @@ function inOrder(count, key) {
 // A part is the recording of one space: of one heap of many, or of what takes the place of the one before.
 class Part {
   constructor(heap, head, from, title) {
-    Object.assign(this, { heap, head, from, title, calls: new Growing(Uint32Array, 64 * WIDE), lines: new Growing(Uint32Array, 64), names: new Map(), given: [], drops: [], to: null, end: '', before: null });
+    Object.assign(this, { heap, head, from, title, calls: new Growing(Uint32Array, 8 * WIDE), lines: new Growing(Uint32Array, 8), names: new Map(), given: [], drops: [], to: null, end: '', before: null, refused: new Uint32Array(0) });
   }
-  run(m) { return Object.assign(new Run(this.head, this.calls, this.names, this.lines, m), { given: this.given }); }
+  run(m) { return Object.assign(new Run(this.head, this.calls, this.names, this.lines, m), { given: this.given, firstStep: this.firstStep || 1 }); }
 }
 async function readText(bytes, work) {
-  const m = new Module(), decoder = new TextDecoder(), one = new Map(), file = { parts: [], marks: [], others: [], isMany: false, lines: 0, unit: 0, units: new Map() }, open = new Map();
+  const m = new Module(), decoder = new TextDecoder(), one = new Map(), file = { parts: [], marks: [], others: [], isMany: false, isDump: false, lines: 0, unit: 0, units: new Map() }, open = new Map(), seen = new Map();
   const bad = line => new Fault(`line ${line}: bad command`, line, ...spanOf(bytes, line));
   let at = 0, part = 0;
   do {
@@ -67,12 +67,12 @@ async function readText(bytes, work) {
       if (fault instanceof Fault) { fault.from += at; fault.to += at; }
       throw fault;
     }
-    const [rows, text] = found;
+    const [rows, text] = found, ascii = decoder.decode(text), isAscii = ascii.length === text.length;
     for (let i = 0, t = 0; i < rows.length; i += READ) {
       const kind = rows[i], line = rows[i + WIDE], name = rows[i + WIDE + 1], heap = rows[i + WIDE + 2];
       let word = '';
       if (name) {
-        word = decoder.decode(text.subarray(t, t + name)); t += name;
+        word = isAscii ? ascii.slice(t, t + name) : decoder.decode(text.subarray(t, t + name)); t += name;
         // a name that many ranges have is kept once
         if (one.has(word)) word = one.get(word); else one.set(word, word);
       }
@@ -91,6 +91,8 @@ async function readText(bytes, work) {
         if (isMore) next.before = before;
         if (before) Object.assign(before, { to: before.drops.length ? before.drops.at(-1).line : line, end: before.drops.length ? 'dropped' : 'replaced' });
         file.isMany ||= kind === OTHER.heap;
+        // how many before it have its number
+        next.same = seen.get(next.heap) || 0; seen.set(next.heap, next.same + 1);
         open.set(heap, next); file.parts.push(next);
       } else if (kind === OTHER.drop) { const of = open.get(heap); if (of) of.drops.push({ line, p: of.lines.length, next: null });
       } else if (kind === OTHER.giveUp) {
@@ -101,13 +103,14 @@ async function readText(bytes, work) {
         // without a heap it is of all
         if (of) file.units.set(Number(of), unit); else { file.unit = unit; file.units.clear(); }
       }
+      else if (kind === OTHER.mark && word === 'dump') file.isDump = true;
       else if (kind === OTHER.mark && /^(heap \d{1,10} )?name \d{1,10} ./.test(word)) {
         // the name of a grant, after it; of many heaps it says of which
         const [, heap, k, name] = /^(?:heap (\d+) )?name (\d+) +(.*)$/s.exec(word), of = file.isMany === (heap !== undefined) ? open.get(Number(heap || 0)) : null;
         if (!one.has(name)) one.set(name, name);
         if (of) of.given.push([Number(k), one.get(name), of.lines.length]);
       } else if (kind === OTHER.mark) file.marks.push(marked(file.marks.at(-1), line, word));
-      else { file.isMany = true; file.others.push({ line, kind, n: rows[i + 1], a: rows[i + 2], why: rows[i + 3], name: word }); }
+      else { file.isMany = true; file.others.push({ line, kind, n: rows[i + 1], a: rows[i + 2], why: rows[i + 3], isTight: rows[i + 4] === 1, name: word }); }
     }
     at = end; part = 1;
     await work.turn(at, bytes.length);
@@ -152,16 +155,17 @@ function mended(given) {
 }
 // How many bytes a unit of a heap has, as the file says; or 0.
 const unitIn = (file, { heap }) => file.units.get(heap) ?? file.unit;
-// The text of calls: what reads as them again.
+// The text of calls as a file: what reads as them again.
 async function writeText(run, work) {
   const unit = run.file ? unitIn(run.file, run.part) : 0, flags = flagsOf(run);
-  const parts = [`space ${run.head[0]} nodes ${run.head[1]} index ${run.head[2]}\n${unit ? `#! unit ${unit}\n` : ''}`];
+  let piece = ''; const parts = [], put = text => { piece += text; if (piece.length > PIECE) { parts.push(piece); piece = ''; } };
+  put(`space ${run.head[0]} nodes ${run.head[1]} index ${run.head[2]}\n${unit ? `#! unit ${unit}\n` : ''}${run.file?.isDump ? '#! dump\n' : ''}`);
   for (let i = 0, mark = 0; i <= run.count; i++) {
-    for (; mark < flags.length && flags[mark] <= i; mark++) if (run.file.marks[mark].line > run.part.from) parts.push(`#! ${run.file.marks[mark].text}\n`);
+    for (; mark < flags.length && flags[mark] <= i; mark++) if (run.file.marks[mark].line > run.part.from) put(`#! ${run.file.marks[mark].text}\n`);
     if (i === run.count) break;
     const name = run.callName(i);
-    parts.push((name ? `# ${name}\n` : '') + said(...run.call(i)) + '\n');
-    if (i % 4096 === 0) await work.turn(i, run.count);
+    put((name ? `# ${name}\n` : '') + said(...run.call(i)) + '\n');
+    if (i % 1024 === 0) await work.turn(i, run.count);
   }
-  return parts.join('');
+  return new Blob([...parts, piece]);
 }

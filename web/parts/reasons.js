@@ -22,12 +22,76 @@ const amount = n => whole(n) + (S.unit ? ` (${inBytes(n)})` : '');
 const boundsOf = c => [valueOf(c), Math.min(LARGEST, valueOf(c + 1) - 1)], between = ([least, most], shown) => most > least ? `${shown(least)} to ${shown(most)}` : shown(least);
 const sizesOf = c => between(boundsOf(c), whole), bytesOf = c => S.unit ? between(boundsOf(c), inBytes) : '';
 const isRefusal = (run, p) => p > 0 && run.row(p - 1)[0] === ANSWER.refused;
+// The alignment that a grant was requested with: 1 where it was granted without.
+const WITH_ALIGNMENT = [1, OP.tightAligned, OP.relocateAligned];
+const alignmentOf = (run, k) => { const [op, , a] = run.call(run.born.list[k] - 1); return WITH_ALIGNMENT.includes(op) ? a : 1; };
+// The step of a space after so many calls: the least common multiple of the alignments that were granted since it was made or
+// reset. Ranges that slide by multiples of it keep them. `null` where it has more than 32 bits.
+const gcd = (a, b) => { while (b) [a, b] = [b, a % b]; return a; };
+function stepAt(run, p) {
+  let step = run.firstStep;
+  if (!run.stepped || run.stepped.count > run.count) {
+    run.stepped = { count: run.count, list: [] };
+    for (let i = 0; i < run.count; i++) {
+      const op = run.calls.list[WIDE * i], kind = run.rows.list[8 * i];
+      if (kind === ANSWER.reset) run.stepped.list.push([i + 1, step = 1]);
+      else if (kind === ANSWER.grant && WITH_ALIGNMENT.includes(op) && step) {
+        const a = run.calls.list[WIDE * i + 2], next = step / gcd(step, a) * a;
+        if (next !== step) run.stepped.list.push([i + 1, step = next > LARGEST ? null : next]);
+      }
+    }
+  }
+  const found = run.stepped.list.findLast(([from]) => from <= p);
+  return found ? found[1] : run.firstStep;
+}
+// What moves would break: ranges at offsets that are no multiples of the alignments that they were granted with, and ranges that
+// were requested at a place. `moved` are numbers of grants, and where each begins then.
+function brokenBy(run, moved) {
+  const off = [], placed = [], begun = run.file ? begunAt(run) : 0;
+  for (let j = 0; j < moved.length; j += 2) {
+    const k = moved[j], a = alignmentOf(run, k), row = run.born.list[k];
+    if (moved[j + 1] % a) off.push([k, a]);
+    if (row > begun && run.call(row - 1)[0] === OP.at) placed.push(k);
+  }
+  const few = (list, said) => list.slice(0, MOST_NAMED).map(said).join(', ') + (list.length > MOST_NAMED ? `, and ${whole(list.length - MOST_NAMED)} more` : '');
+  return [off.length ? `breaks the alignment of ${few(off, ([k, a]) => `${named(run, k)} (${whole(a)})`)}` : '',
+    placed.length ? `moves ${few(placed, k => named(run, k))}, requested at a place` : ''].filter(text => text).join(', and ');
+}
+// A compaction after which calls succeed: by the step, which keeps the alignments; or, where that is not enough, a plain one, with
+// what it would break.
+function* compacted(out, run, p, then, calls = [out.call]) {
+  const step = stepAt(run, p - 1);
+  if (step > 1 && (yield* granted(run, p, [[OP.compactBy, step], ...calls])))
+    return out.help(`compact ${step}: after it ${then}; ranges slide by multiples of ${amount(step)}, so each keeps its alignment`, [[OP.compactBy, step], ...calls], { kind: 'compact' });
+  const moved = yield* granted(run, p, [[OP.compact], ...calls]), broken = moved && brokenBy(run, moved);
+  if (moved) out.help(`compact: after it ${then}${broken ? `; but it ${broken}` : step === 1 ? '' : '; here each range keeps its alignment'}`, [[OP.compact], ...calls], { kind: 'compact', breaks: Boolean(broken) });
+}
+// How a space is compacted: by its step, where it has one.
+const slideOf = step => step > 1 ? [OP.compactBy, step] : [OP.compact];
+// The free units at the end after a compaction by the step.
+function* tailAfter(run, p) {
+  if (!(yield* granted(run, p, [slideOf(stepAt(run, p - 1))]))) return null;
+  const last = run.copy.play(Uint32Array.from(filled([OP.last])));
+  if (last[0] !== ANSWER.beside) return run.sizeAt(p - 1);
+  return run.sizeAt(p - 1) - last[2] - run.copy.play(Uint32Array.from(filled([OP.size, last[1]])))[3];
+}
+// What a compaction by the step does, where alignments were granted: a reason to read before the advice.
+function* stepFact(out, run, p) {
+  const step = stepAt(run, p - 1);
+  if (step === 1) return;
+  if (step === null) { out.facts.push(`no step of 32 bits keeps all alignments that were granted: no compaction keeps them`); return; }
+  const moved = yield* granted(run, p, [slideOf(step)]);
+  if (!moved) return;
+  const largest = run.copy.play(Uint32Array.from(filled([OP.report])))[5];
+  out.facts.push(`alignments are kept where ranges slide by multiples of ${amount(step)} (the step): ` + (moved.length ?
+    `compact ${step} moves ${counted(moved.length / 2, 'range')}, and the largest request granted is ${units(largest)} then` : `compact ${step} moves no range: each free block before one is smaller than that`));
+}
 // A refused call, p the row after it: what it asked for, why it was refused, and what would have helped: a text, the calls in its
 // place that show it, or the nodes that do, and the units that are outlined. A step at a time, as in a large space each takes
 // its time.
 function* explain(run, p) {
   const [op, a, b, ...more] = run.call(p - 1), before = run.view(p - 1), size = run.sizeAt(p - 1), name = NAMES[op];
-  const out = { title: `Row ${whole(p)}: ${said(op, a, b, ...more)} is refused`, facts: [], helps: [], call: [op, a, b] };
+  const out = { title: `Row ${whole(p)}: ${said(op, a, b, ...more)} is refused`, facts: [], helps: [], call: [op, ...[a, b, ...more].slice(0, Math.max(2, KINDS[op].length))] };
   out.help = (text, calls = null, more = {}) => out.helps.push({ text, calls, ...more });
   if (op <= 1) yield* asked(out, run, p, a, op ? b : 1, before, size);
   else if (op === OP.at) yield* placed(out, run, p, a, b, before, size);
@@ -72,23 +136,29 @@ function cheapest(view, fits) {
 }
 // What would have to go for a request: ranges that are moved together, or released. `need` are the units of the block that it asks
 // for, and `fits` says where it is served. The range of the grant `kept` stays where it is, and for it none is moved.
-function* evicted(out, run, p, before, need, fits, isOut = run.row(p - 1)[7] === 1, kept = 0) {
+function* evicted(out, run, p, before, need, fits, request, isOut = run.row(p - 1)[7] === 1, kept = 0) {
   const list = ranges => ranges.slice(0, MOST_NAMED).map(b => `${named(run, b.k)} of ${units(b.n)}`).join(', ') +
     (ranges.length > MOST_NAMED ? `, and ${whole(ranges.length - MOST_NAMED)} more` : '');
-  const one = (what, ranges, calls, style) => {
+  const one = (what, ranges, calls, style, more, kind, broken = '') => {
     const first = ranges[0], last = ranges.at(-1), end = last.o + last.n;
     out.help(`${what} ${counted(ranges.length, 'range')} of ${units(ranges.reduce((s, b) => s + b.n, 0))}, from ${place(first.o)} to ${place(end)} (${style}): ` +
-      `${list(ranges)}; then it is granted`, calls, { outline: [first.o, end - first.o, style === 'dashed'] });
+      `${list(ranges)}; then it is granted${more}`, calls, { kind, breaks: Boolean(broken), cost: ranges.reduce((s, b) => s + b.n, 0), ranges, outline: [first.o, end - first.o, style === 'dashed'] });
   };
-  const room = [OP.room, need], moved = need <= LARGEST && !kept ? yield* granted(run, p, [room, out.call]) : null;
-  if (moved?.length) one('move', [...moved].filter((_, i) => i % 2 === 0).map(k => run.rangeOf(k, p - 1)), [room, out.call], 'outlined');
+  const step = stepAt(run, p - 1), [n, align] = request, byStep = step && (step > 1 || align > 1) ? [OP.roomBy, n, align, step] : null;
+  for (const room of byStep ? [byStep, [OP.room, need]] : [[OP.room, need]]) {
+    const moved = need <= LARGEST && !kept ? yield* granted(run, p, [room, out.call]) : null;
+    if (!moved) continue;
+    const broken = room === byStep ? '' : brokenBy(run, moved), said = room !== byStep ? (broken ? `; but it ${broken}` : '') : step > 1 ? `; by multiples of ${amount(step)}, so each keeps its alignment` : '';
+    if (moved.length) one('move', [...moved].filter((_, i) => i % 2 === 0).map(k => run.rangeOf(k, p - 1)), [room, out.call], 'outlined', said, 'move', broken);
+    break;
+  }
   // at the node limit a release between free blocks gives up nodes
   const isShort = isOut && before.anyFree((o, n) => fits(o, o + n)), free = i => (before.before(i) > 0) + (before.before(i + 1) > 0);
   const places = isShort ? [1, 2].map(least => [...before.n.keys()].filter(i => free(i) >= least && before.at(i).k !== kept).sort((i, j) => before.n[i] - before.n[j])[0]).filter(i => i !== undefined)
     .map(i => ({ from: i, to: i + 1 })) : [cheapest(before, fits)].filter(run => run);
   for (const { from, to } of places) {
     const ranges = Array.from({ length: to - from }, (_, i) => before.at(from + i)), calls = [...ranges.map(b => [OP.free, b.k]), out.call];
-    if (yield* granted(run, p, calls)) { one('release', ranges, calls, 'dashed'); break; }
+    if (yield* granted(run, p, calls)) { one('release', ranges, calls, 'dashed', '', 'release'); break; }
   }
 }
 function* asked(out, run, p, n, align, before, size) {
@@ -99,46 +169,56 @@ function* asked(out, run, p, n, align, before, size) {
     return;
   }
   const c = roundedUp(need), value = valueOf(c);
-  out.facts.push(why !== 1 && align === 1 && n > 0 && big >= n ? `${REASONS[why]}: for the request rounded up` : REASONS[why]);
+  const step = stepAt(run, p - 1), reason = why === 4 && step !== 1 ? 'no free block is large enough' : REASONS[why];
+  out.facts.push(why !== 1 && align === 1 && n > 0 && big >= n ? `${reason}: for the request rounded up` : reason);
   const aligned = align > 1 ? ` at a multiple of ${amount(align)}, so a block for ${amount(need)}` : '';
   out.facts.push(`asked: ${units(n)}${aligned}; rounded up to class ${c}: ` +
     (c < BINS ? units(value) : 'more than any block has'));
   out.facts.push(`largest free block: ${units(big)}; free in all: ${units(all)}; largest request granted now: ${units(largest)}${largest > 0 && largest < big ? ', since requests are rounded up' : ''}`);
   out.facts.push(`blocks: ${whole(count)} of at most ${whole(limit - 1)}`);
-  if (yield* granted(run, p, [[10], call])) out.help('compact: after it the request is granted', [[10], out.call]);
+  if (why === 4) yield* stepFact(out, run, p);
+  yield* compacted(out, run, p, 'the request is granted');
   const more = value - before.tail;
   if (c < BINS && more > 0 && size + more <= LARGEST && (yield* granted(run, p, [[7, more], call])))
-    out.help(`${units(more)} more space (extend ${more}): then it is granted`, [[7, more], out.call]);
-  else if (c < BINS && value > all && size + value - all <= LARGEST && (yield* granted(run, p, [[10], [7, value - all], call])))
-    out.help(`compact, and ${units(value - all)} more space (extend ${value - all}): then it is granted`, [[10], [7, value - all], out.call]);
+    out.help(`${units(more)} more space (extend ${more}): then it is granted`, [[7, more], out.call], { kind: 'extend', cost: more });
+  else if (c < BINS && value > all) yield* compactedAndExtended(out, run, p, tail => value - tail);
   if (why === 1 && big >= value)
     out.help(`more nodes: a limit of ${whole(count + (align > 1 ? 3 : 2))} (it is ${whole(limit)}), where the calls before stay the same`, null, { nodes: count + (align > 1 ? 3 : 2) });
   if (why === 1 && big < value) out.help('more nodes alone would not do: no free block is large enough');
   if (align === 1 && why !== 1 && n > 0 && big >= n && (yield* granted(run, p, [[OP.tight, n]])))
-    out.help(`tight ${n} in its place: a free block has the ${units(n)}, but not the rounded ones`, [[OP.tight, n]]);
+    out.help(`tight ${n} in its place: a free block has the ${units(n)}, but not the rounded ones`, [[OP.tight, n]], { kind: 'tight' });
+  if (align > 1 && why !== 1 && n > 0 && (yield* granted(run, p, [[OP.tightAligned, n, align]])))
+    out.help(`tight ${n} ${align} in its place: a free block holds the ${units(n)} from a multiple of ${amount(align)} on`, [[OP.tightAligned, n, align]], { kind: 'tight' });
   if (align > 1 && why !== 1 && (yield* granted(run, p, [[0, n]])))
     out.help('no alignment: alloc of the same units is granted. A unit as large as the alignment needs none', [[0, n]]);
-  if (largest > 0 && largest < n) out.help(`a smaller request: at most ${units(largest)}`, [[0, largest]]);
-  if (c < BINS) yield* evicted(out, run, p, before, need, (from, to) => to - from >= value);
+  const most = largest - align + 1;
+  if (most > 0 && most < n) out.help(`a smaller request: at most ${units(most)}${align > 1 ? ` at a multiple of ${amount(align)}` : ''}`, [align > 1 ? [1, most, align] : [0, most]], { kind: 'smaller', cost: -most });
+  if (c < BINS) yield* evicted(out, run, p, before, need, (from, to) => to - from >= value, [n, align]);
+}
+// A compaction by the step, and as many units more as the end lacks after it, which a function of its free units says.
+function* compactedAndExtended(out, run, p, lack) {
+  const tail = yield* tailAfter(run, p), more = tail === null ? 0 : lack(tail), slide = slideOf(stepAt(run, p - 1)), calls = [slide, [7, more], out.call];
+  if (more > 0 && run.sizeAt(p - 1) + more <= LARGEST && (yield* granted(run, p, calls)))
+    out.help(`${said(...slide)}, and ${units(more)} more space (extend ${more}): then it is granted`, calls, { kind: 'extend', cost: more });
 }
 const blocksOf = (run, p) => `${whole(run.row(p - 1)[6])} of at most ${whole(run.head[1] - 1)}`;
 // A request that takes any block that holds it: what is free at the end has to hold it from a multiple of `align` on.
 function* tight(out, run, p, n, align, before, size) {
-  const call = run.call(p - 1), [, , , , , , count, why] = run.row(p - 1), { free, tail } = before, from = o => Math.ceil(o / align) * align;
+  const call = run.call(p - 1), [, , , , , , count, why] = run.row(p - 1), { free, tail } = before, from = o => Math.ceil(o / align) * align, step = stepAt(run, p - 1);
   const lacks = from(size - tail) + n - size, later = from(size - free.units) + n - size;
   const isHeld = before.anyFree((o, room) => from(o) + n <= o + room);
-  out.facts.push(REASONS[why], `asked: ${units(n)}${align > 1 ? ` at a multiple of ${amount(align)}` : ''}, not rounded up`);
+  out.facts.push(why === 4 && step !== 1 ? 'no free block holds it' : REASONS[why], `asked: ${units(n)}${align > 1 ? ` at a multiple of ${amount(align)}` : ''}, not rounded up`);
   out.facts.push(`largest free block: ${units(free.largest)}; free in all: ${units(free.units)}`);
   out.facts.push(`blocks: ${blocksOf(run, p)}`);
-  if (yield* granted(run, p, [[OP.compact], call])) out.help('compact: after it the request is granted', [[OP.compact], out.call]);
+  if (why === 4) yield* stepFact(out, run, p);
+  yield* compacted(out, run, p, 'the request is granted');
   if (lacks > 0 && size + lacks <= LARGEST && (yield* granted(run, p, [[7, lacks], call])))
-    out.help(`${units(lacks)} more space (extend ${lacks}): then it is granted`, [[7, lacks], out.call]);
-  else if (later > 0 && size + later <= LARGEST && (yield* granted(run, p, [[OP.compact], [7, later], call])))
-    out.help(`compact, and ${units(later)} more space (extend ${later}): then it is granted`, [[OP.compact], [7, later], out.call]);
+    out.help(`${units(lacks)} more space (extend ${lacks}): then it is granted`, [[7, lacks], out.call], { kind: 'extend', cost: lacks });
+  else if (later > 0) yield* compactedAndExtended(out, run, p, tail => from(size - tail) + n - size);
   if (why === 1 && isHeld)
     out.help(`more nodes: a limit of ${whole(count + (align > 1 ? 3 : 2))} (it is ${whole(run.head[1])}), where the calls before stay the same`, null, { nodes: count + (align > 1 ? 3 : 2) });
   else if (why === 1) out.help('more nodes alone would not do: no free block is large enough');
-  yield* evicted(out, run, p, before, n + align - 1, (o, to) => from(o) + n <= to);
+  yield* evicted(out, run, p, before, n + align - 1, (o, to) => from(o) + n <= to, [n, align]);
 }
 // A request at a place: what is in its way.
 function* placed(out, run, p, o, n, before, size) {
@@ -167,7 +247,7 @@ function* retracted(out, run, p, before) {
   out.facts.push(free ? `at its end ${units(free)} ${free === 1 ? 'is' : 'are'} free` :
     `its last block is used${last ? ` (${named(run, last.k)})` : ''}`);
   if (free) out.help(`at most ${units(free)} fewer (retract ${free})`, [[OP.retract, free]]);
-  if (yield* granted(run, p, [[OP.compact], run.call(p - 1)])) out.help('compact: after it the space can be retracted', [[OP.compact], out.call]);
+  yield* compacted(out, run, p, 'the space can be retracted');
 }
 // Room that no moves make.
 function* unroomed(out, run, p, op, n, before, size) {
@@ -177,13 +257,14 @@ function* unroomed(out, run, p, op, n, before, size) {
   out.facts.push(`blocks: ${blocksOf(run, p)}`);
   if (op === OP.room && roundedUp(n) < BINS && more > 0 && size + more <= LARGEST && (yield* granted(run, p, [[7, more], call])))
     out.help(`${units(more)} more space (extend ${more}): then room is made`, [[7, more], out.call]);
-  if (yield* granted(run, p, [[OP.compact], call])) out.help('compact: after it there is room', [[OP.compact]]);
+  yield* compacted(out, run, p, 'there is room');
 }
 // A compaction by steps that lacks a node.
 function* unslid(out, run, p) {
   out.facts.push(`no further block may exist for the units that the ranges leave: ${blocksOf(run, p)}`);
   out.help(`more nodes: a limit of ${whole(run.head[1] + 1)}`, null, { nodes: run.head[1] + 1 });
-  if (yield* granted(run, p, [[OP.compact], run.call(p - 1)])) out.help('compact: after it nothing is left to slide', [[OP.compact]]);
+  const moved = yield* granted(run, p, [[OP.compact], run.call(p - 1)]), broken = moved && brokenBy(run, moved);
+  if (moved) out.help(`compact: after it nothing is left to slide${broken ? `; but it ${broken}` : ''}`, [[OP.compact]]);
 }
 // A second range takes the block that a request of as many units takes, where that is before the first one.
 function* unmoved(out, run, p, k, before) {
@@ -209,8 +290,13 @@ function* unmoved(out, run, p, k, before) {
   if (isOut && hasRoom && isBefore && !isAfter) out.help(`more nodes: a limit of ${whole(nodes)} (it is ${whole(limit)}), where the calls before stay the same`, null, { nodes });
   else if (isOut && hasRoom && isBefore) out.help(`a limit of ${whole(nodes)} nodes (it is ${whole(limit)}) may do: of two free blocks that serve it, one after it, the newest is taken`, null, { nodes });
   else if (isOut && o > 0) out.help(`more nodes alone would not do: ${hasRoom ? 'the free block that is taken is after it' : lacks}`);
-  if (o > 0 && need <= LARGEST && c < BINS) yield* evicted(out, run, p, before, need, fits, isOut, k);
-  if (yield* granted(run, p, [[0, block.n]])) out.help(`another range: alloc ${n} is granted; copy, then free ${k}`, [[0, n], [OP.free, k]]);
+  if (o > 0 && need <= LARGEST && c < BINS) yield* evicted(out, run, p, before, need, fits, [n, align], isOut, k);
+  yield* elsewhere(out, run, p, k, n, align);
+}
+// A second range for that of a grant, at the alignment that the grant was requested with.
+function* elsewhere(out, run, p, k, n, align = 1) {
+  const a = align > 1 ? align : alignmentOf(run, k), call = a > 1 ? [1, n, a] : [0, n];
+  if (yield* granted(run, p, [call])) out.help(`another range: ${said(...call)} is granted; copy, then free ${k}`, [call, [OP.free, k]]);
 }
 function* extended(out, run, p, more, before, size) {
   if (size + more > LARGEST) {
@@ -222,7 +308,7 @@ function* extended(out, run, p, more, before, size) {
   out.facts.push(`its last block is used${last ? ` (${named(run, last.k)})` : ''}, and no further block may exist: ` +
     `${whole(count)} of at most ${whole(limit - 1)}`);
   out.help(`more nodes: a limit of ${whole(limit + 1)}`, null, { nodes: limit + 1 });
-  if (yield* granted(run, p, [[10], run.call(p - 1)])) out.help('compact: after it the space can be extended', [[10], out.call]);
+  yield* compacted(out, run, p, 'the space can be extended');
 }
 function* resized(out, run, p, op, k, n, before, size) {
   const block = before.of(k);
@@ -236,7 +322,7 @@ function* resized(out, run, p, op, k, n, before, size) {
       return; }
     out.facts.push(`no further block may exist for the units after it, and no free block is directly after it`);
     out.help(`more nodes: a limit of ${whole(run.head[1] + 1)}`, null, { nodes: run.head[1] + 1 });
-    if (yield* granted(run, p, [[10], run.call(p - 1)])) out.help('compact: after it the range can shrink', [[10], out.call]);
+    yield* compacted(out, run, p, 'the range can shrink');
     return;
   }
   if (lack < 0) { out.facts.push(`${amount(n)} is fewer: grow makes no range smaller`);
@@ -247,8 +333,8 @@ function* resized(out, run, p, op, k, n, before, size) {
   const isLast = block.i === before.last.i;
   if (isLast && (yield* granted(run, p, [[7, lack - room], run.call(p - 1)])))
     out.help(`${units(lack - room)} more space (extend ${lack - room}): then it grows`, [[7, lack - room], out.call]);
-  if (yield* granted(run, p, [[10], run.call(p - 1)])) out.help('compact: after it the range can grow', [[10], out.call]);
-  if (yield* granted(run, p, [[0, n]])) out.help(`another range: alloc ${n} is granted; copy, then free ${k}`, [[0, n], [OP.free, k]]);
+  yield* compacted(out, run, p, 'the range can grow');
+  yield* elsewhere(out, run, p, k, n);
 }
 // A grant as the page names it.
 const named = (run, k) => `grant ${k}${run.nameOf(k) ? ` “${run.nameOf(k)}”` : ''}`;

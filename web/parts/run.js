@@ -98,7 +98,7 @@ function picked(source, old, others) {
 // `scale`: how many units of the run beside it one of its units is.
 class Run {
   constructor(head, calls, names, lines, m = new Module()) {
-    Object.assign(this, { head, names, lines, count: 0, at: 0, held: null, m, marks: [], kept: 0, edits: [], named: Infinity, given: [], scale: 1 });
+    Object.assign(this, { head, names, lines, count: 0, at: 0, held: null, m, marks: [], kept: 0, edits: [], named: Infinity, given: [], scale: 1, firstStep: 1, pictures: {}, spaces: {} });
     this.calls = new Growing(Uint32Array, 0);
     this.calls.list = calls; this.calls.length = calls.length;
     this.rows = new Growing(Uint32Array, 8 * this.all + 8);
@@ -114,6 +114,8 @@ class Run {
     this.isPlain = head[0] > 0;
   }
   get all() { return this.calls.length / WIDE; }
+  // The lives as they are drawn large.
+  get picture() { return this.pictures.life; }
   // Plays all calls from the start.
   async survey(work) {
     this.start(this.all);
@@ -270,7 +272,7 @@ class Run {
   // This run, left after so many calls, and others from there on.
   async branch(kept, edits, work) {
     const b = new Run(this.head, this.calls.list.slice(0, WIDE * kept), this.names, this.lines);
-    Object.assign(b, { file: this.file, part: this.part });
+    Object.assign(b, { file: this.file, part: this.part, firstStep: this.firstStep });
     Object.assign(b, { kept, edits, named: Math.min(kept, this.named), count: kept, every: this.every, base: this.base || this });
     b.rows = this.rows.copy(8 * kept); b.used = this.used.copy(kept); b.inUse = this.usedAt(kept);
     b.refusals = this.refusals.filter(p => p <= kept); b.sizes = this.sizes.filter(([p]) => p <= kept);

@@ -20,33 +20,37 @@ function draw() {
   }
   showSpace();
   drawLives('life', run, () => S.run === run ? S.p : null);
+  drawAxis(run);
   drawCurves(run, p);
+  drawMaps(run, p, isQuick);
   drawMarks(run);
   showMarks();
-  if (!isQuick) showHeaps();
+  if (!isQuick) { showHeaps(); drawHeapsNow(); }
   const free = size - run.usedAt(p), share = (100 * run.usedAt(p) / Math.max(1, size)).toFixed(1);
   let reports = `${units(size)}: ${sized(run.usedAt(p))} used (${share}%), ${sized(free)} free. ` +
-    (r ? `Largest request that is granted: ${sized(r[5])}. ` : '');
+    (r && !run.file?.isDump ? `Largest request that is granted: ${sized(r[5])}. ` : '');
   if (v) {
     drawBins(v.free.bins, searched, bin);
     const kept = free ? 1 - valueOf(classOf(v.free.largest)) / valueOf(classOf(free)) : 0, blocks = v.count + v.free.count;
+    if (run.file?.isDump) reports += `Largest free block: ${sized(v.free.largest)}. `;
     reports += `${counted(blocks, 'block')}${blocks >= run.head[1] - 1 ? ', as many as the node limit admits' : ''}. ` +
-      `Fragmentation ${(kept * 100).toFixed(1)}% (of the largest request, were all free units one block).`;
+      (run.file?.isDump ? `Free units outside the largest free block: ${(free ? 100 * (1 - v.free.largest / free) : 0).toFixed(1)}%.` : `Fragmentation ${(kept * 100).toFixed(1)}% (of the largest request, were all free units one block).`);
   }
   $('reports').textContent = reports;
   $('shown').textContent = `Shown: units ${place(Math.floor(from))} to ${place(Math.floor(to))}` +
     (S.zoom ? `, ${((to - from) / Math.max(1, size) * 100).toPrecision(2)}% of the space` : ', all of the space') +
     `; a line is ${units(Math.ceil((to - from) / ROWS))}.`;
   $('lives').textContent = `Up to ${sized(run.top)}, the highest end of a range, of ${units(run.sizes.at(-1)[1])}. ` +
-    `The line is the position; ticks are refusals${flagsOf(run).length ? ', those at the lower edge marks' : ''}. ` + 'Below: the units in use (lighter), and the largest request that is granted (darker).';
-  $('lzall').disabled = !S.life;
+    `The line is the position; ticks are refusals${flagsOf(run).length ? ', those at the lower edge marks' : ''}. ` + (run.file?.isDump ? 'Below: the units in use (lighter), and the largest request that offset_allocator would grant in these blocks (darker): the allocator of the dump may grant others.' :
+    'Below: the units in use (lighter), and the largest request that is granted (darker).');
+  for (const id of ['lzall', 'lleft', 'lright', 'lup', 'ldown']) $(id).disabled = !S.life;
+  $('zleft').disabled = $('zright').disabled = !S.zoom;
   tellUnder();
   $('at').value = p; $('row').value = p; $('now').ariaLive = playing ? 'off' : 'polite';
   $('at').setAttribute('aria-valuetext', p ? `row ${p}: ${said(...op)}, ${answered(run, p - 1)}` : 'before the first row');
   $('place').textContent = `of ${whole(run.count)}`;
-  $('refusals').textContent = run.refusals.length ? `${counted(run.refusals.length, 'refusal')}` : 'no refusals';
-  $('rback').disabled = !(run.refusals[0] < p); $('rnext').disabled = !(run.refusals.at(-1) > p);
-  tell('now', p ? `Row ${whole(p)}: ${said(...op)}: ${answeredInBytes(run, p - 1)}` +
+  showRefusals();
+  tell('now', S.ungranted !== null ? nowUngranted() : p ? `Row ${whole(p)}: ${said(...op)}: ${answeredInBytes(run, p - 1)}` +
     (taken ? `, from the free block at ${place(taken.o)} of ${units(taken.n)}` : '') +
     (run.callName(p - 1) ? ` “${run.callName(p - 1)}”` : '') : 'Before the first row.');
   const t1 = performance.now();
@@ -58,8 +62,8 @@ const shownUnits = () => S.zoom || [0, Math.max(1, S.run.sizeAt(S.p))];
 // The space, with what is marked in it, and the chosen block in words: all that the pointer changes.
 function showSpace() {
   const { run, p } = S, r = p ? run.row(p - 1) : null, chosen = chosenBlock(), marked = [];
-  if (r && (r[0] === ANSWER.grant || r[0] === ANSWER.resized)) marked.push([r[2], r[3], [], colors().mark]);
-  if (isRefusal(run, p) && whyOf[0] === run && whyOf[1] === p)
+  if (r && S.ungranted === null && (r[0] === ANSWER.grant || r[0] === ANSWER.resized)) marked.push([r[2], r[3], [], colors().mark]);
+  if ((isRefusal(run, p) || S.ungranted !== null) && whyOf[0] === run && whyOf[1] === p)
     for (const { outline: [o, n, isDashed] } of helps.filter(h => h.outline)) marked.push([o, n, isDashed ? [6, 4] : [], colors().mark]);
   if (chosen) marked.push([chosen.o, chosen.n, [4, 3], colors().fg]);
   drawSpace('space', run, p, ...shownUnits(), marked);
@@ -77,11 +81,39 @@ function lists(v, searched, bin) {
   showBins(v, searched, bin);
   showOther();
 }
+// How many refusals there are, and whether there are some on either side.
+function showRefusals() {
+  const { run, p } = S, { own, none, others, all } = refusalCounts(), isMany = all > own || (run.file && isSeveral(run.file) && run === S.base);
+  $('onlyhere').parentElement.hidden = !isMany;
+  tell('refusals', !all ? 'no refusals' : !isMany ? counted(own, 'refusal') : `${counted(all, 'refusal')}: ${whole(own)} in this heap` +
+    (others ? `, ${whole(others)} in others` : '') + (none ? `, ${whole(none)} that no heap granted` : ''));
+  // while the position moves on, no other heap is asked
+  if (isMany && (isMoving || playing)) return;
+  $('rback').disabled = isMany ? !refusalBeside(lineNow(), -1) : !(run.refusals[0] < p);
+  $('rnext').disabled = isMany ? !refusalBeside(lineNow(), 1) : !(run.refusals.at(-1) > p);
+}
+// The request that no heap granted, as the row in words.
+function nowUngranted() {
+  const other = S.run.file.others[S.ungranted], [what, why] = saidOf(other);
+  return `Line ${whole(other.line)} of the file, after row ${whole(S.p)} of ${nameOfPart(S.run.file, S.part)}: ${what}: ${why}` + (other.name ? ` “${other.name}”` : '');
+}
+// Why no heap granted a request.
+async function whyUngranted(i) {
+  const { file } = S.run, of = whyOf = [S.run, S.p, i], turns = new Turns(() => whyOf === of);
+  const other = file.others[i], [what, reason] = saidOf(other);
+  $('helped').hidden = false;
+  told({ title: `Line ${whole(other.line)}: ${what} is refused${other.kind === OTHER.refused ? ' by all heaps' : ''}`, facts: [reason], helps: [{ text: 'being tried' }] });
+  try { told(await explainUngranted(file, i, turns)); } catch (fault) { if (!(fault instanceof Stopped)) throw fault; }
+}
 // At a refusal: why, and what would have helped.
 function why(run, p) {
+  if (S.ungranted !== null) {
+    $('why').hidden = playing;
+    return playing || (whyOf[0] === run && whyOf[1] === p && whyOf[2] === S.ungranted) ? null : whyUngranted(S.ungranted);
+  }
   const isGone = p > 0 && run.row(p - 1)[0] === ANSWER.gone;
   $('why').hidden = playing || !(isRefusal(run, p) || isGone);
-  if ($('why').hidden || (whyOf[0] === run && whyOf[1] === p)) return;
+  if ($('why').hidden || (whyOf[0] === run && whyOf[1] === p && whyOf[2] === undefined)) return;
   const of = whyOf = [run, p];
   $('helped').hidden = isGone;
   if (isGone) return told({ title: `Row ${whole(p)}: ${said(...run.call(p - 1))}: gone`, facts: [whyGone(run, p)], helps: [] });
@@ -101,7 +133,7 @@ function told(e) {
   fill('facts', e.facts);
   // what would have helped is a button that shows it
   fill('helps', e.helps.map(help => {
-    if (!(help.calls && help.calls.every(([op]) => KINDS[op].length <= 2)) && !help.nodes) return help.text;
+    if (!(help.calls && help.calls.every(([op]) => ADDED.includes(op))) && !help.nodes) return help.text;
     const button = document.createElement('button');
     button.textContent = help.text; button.title = help.nodes ? 'Compares with a run of so many nodes' : 'Shows the space after it';
     button.onclick = () => showHelp(help);
@@ -110,8 +142,13 @@ function told(e) {
   helps = e.helps; showSpace();
 }
 // The space as it would be with what helps: its calls in place of the refused one, or the run with more nodes beside this one.
-async function showHelp({ calls, nodes }) {
+async function showHelp({ calls, nodes, part, line }) {
   stop(); say('');
+  // of a request that no heap granted: in the heap that it names
+  if (part !== undefined) {
+    if (part !== S.part) await openPart(part, line);
+    return S.part === part ? edit(...added(rowAtLine(S.run, line), calls)) : null;
+  }
   if (!nodes) return edit(...added(S.p - 1, calls));
   await compare([S.run.head[0], nodes, 1, COMPACT.asIs]);
   $('compared').scrollIntoView({ block: 'nearest' });

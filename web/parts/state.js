@@ -1,5 +1,5 @@
 // What the page shows: a run, a position in it, and what was added to it. The original is kept until another is read.
-const S = { run: null, base: null, name: '', title: '', bytes: null, p: 0, past: [], ahead: [], grant: 0, zoom: null, find: null, byName: false, unit: 0, life: null, part: 0 };
+const S = { run: null, base: null, name: '', title: '', bytes: null, p: 0, past: [], ahead: [], grant: 0, zoom: null, find: null, byName: false, unit: 0, life: null, part: 0, ungranted: null };
 const L = {}, OWN = 'Your script';
 // The message at the lower edge, always in sight: of a fault, or of what was done.
 function say(text, isFault = false, actions = []) {
@@ -45,7 +45,9 @@ async function load(bytes, name, title, part = 0) {
   if (!run) { if (S.run) $('trace').value = S.name; return false; }
   leave();
   const before = { ...S };
-  Object.assign(S, { run, base: run, name, title, bytes, part, past: [], ahead: [], grant: 0, zoom: null, find: null, life: null, unit: unitIn(run.file, run.part) || (S.run?.file && S.unit === unitIn(S.run.file, S.run.part) ? 0 : S.unit) });
+  // a dump has no time: what is in it has the colours of its types
+  S.byName = run.file.isDump || (S.byName && !S.run?.file?.isDump);
+  Object.assign(S, { run, base: run, name, title, bytes, part, past: [], ahead: [], grant: 0, zoom: null, find: null, life: null, ungranted: null, unit: unitIn(run.file, run.part) || (S.run?.file && S.unit === unitIn(S.run.file, S.run.part) ? 0 : S.unit) });
   say('');
   // another run takes nothing away: calls that were added come back by a click
   if (before.run !== before.base) say(`Your calls in ${before.title} are left.`, false, [['Back to them', () => {
@@ -84,7 +86,7 @@ async function showText() {
   const run = S.run;
   if (run.count > MOST_SHOWN) { say(`The text is too long to be shown: ${counted(run.count, 'call')}. It can be saved.`); return; }
   let text = run === S.base && S.bytes.length < 1 << 22 ? new TextDecoder().decode(S.bytes) : null;
-  if (text === null) text = await during('Writing', work => writeText(run, work));
+  if (text === null) text = await during('Writing', async work => (await writeText(run, work)).text());
   if (text === null) return;
   $('text').value = text; S.shown = true;
   $('textname').textContent = S.run === S.base ? S.title : `${S.title}, yours from row ${whole(S.run.kept)}`;
@@ -127,19 +129,19 @@ function enter(isNew = true) {
   const kept = [S.base, ...before.slice(0, MOST_RUNS).filter(base => (calls += base.count) <= MOST_KEPT)];
   for (const [id, place] of places) if (!kept.includes(place.base)) places.delete(id);
 }
-function jump(p) { stop(); if (p === S.p) return draw(); leave(); go(p); enter(); }
+function jump(p, ungranted = null) { stop(); if (p === S.p && ungranted === S.ungranted) return draw(); leave(); go(p, ungranted); enter(); }
 async function come({ id, name, title, p }) {
   const place = places.get(id);
   stop(); leave(); here = id;
   if (place) {
     Object.assign(S, place); say(''); showNames();
     if (S.other) $('compared').hidden = false; else dropOther();
-    await look(); go(S.p);
+    await look(); go(S.p, S.ungranted);
   } else if (name === S.name && title === S.title) go(p);
   else if (!Object.hasOwn(TRACES, name)) say(`${title} is not kept: give its file again.`);
   else { here = null; if (await load(await inflated(TRACES[name]), name, title)) go(p); here = id; leave(); }
 }
-function go(p) { S.p = Math.max(0, Math.min(S.run.count, Math.trunc(p) || 0)); draw(); }
+function go(p, ungranted = null) { S.p = Math.max(0, Math.min(S.run.count, Math.trunc(p) || 0)); S.ungranted = ungranted; draw(); }
 // A call of the user's: the run is left at the position, and the call is added. The original stays.
 const TAKES = { alloc: 'n', align: 'na', at: 'on', free: 'k', shrink: 'kn', grow: 'kn', compact: '', extend: 'n', reset: '' };
 const FIELDS = { n: 'Units', a: 'Alignment', k: 'Grant', o: 'Offset' };
@@ -158,7 +160,7 @@ function act(name) {
 // How many calls of the original stay where calls are added at a position, and the user's after these.
 function added(p, calls) {
   const { run, base } = S, kept = run === base ? p : Math.min(p, run.kept);
-  return [kept, [...run.edits.slice(0, p - kept), ...calls.map(([op, a = 0, b = 0]) => [op, a, b])]];
+  return [kept, [...run.edits.slice(0, p - kept), ...calls.map(([op, ...of]) => [op, ...[...of, 0, 0].slice(0, Math.max(2, KINDS[op].length))])]];
 }
 const edit = (kept, edits) => set({ kept, edits, p: kept + edits.length }, () => [S.past, S.ahead = []]);
 // Puts another course in place of the run; what was before goes to the list that `left` returns.
@@ -171,11 +173,6 @@ async function set({ kept, edits, p, isBase }, left) {
 }
 function undo(from, to) { if (from.length) return set(from.at(-1), () => { from.pop(); return [to]; }); }
 function original() { if (S.run !== S.base) return set({ isBase: true, p: Math.min(S.p, S.run.kept) }, () => [S.past]); }
-// The next refusal after the position, or the one before it.
-function refusal(step) {
-  const list = S.run.refusals, p = step > 0 ? list.find(r => r > S.p) : list.findLast(r => r < S.p);
-  if (p) jump(p); else say(list.length ? `No refusal ${step > 0 ? 'after' : 'before'} row ${whole(S.p)}.` : 'No call is refused.');
-}
 // Files for the user.
 function save(blob, name) {
   const a = document.createElement('a');
@@ -204,6 +201,7 @@ async function link() {
   if (S.title !== OWN && S.name === 'own') q.set('n', S.title);
   if (S.run !== S.base) { q.set('kept', S.run.kept); q.set('c', S.run.edits.flat().join('.')); }
   if (S.part) q.set('m', S.part);
+  if (S.ungranted !== null) q.set('o', S.ungranted);
   if (S.other?.as) q.set('x', S.other.as.join('.'));
   if (S.zoom) q.set('z', S.zoom.join('.'));
   const filters = Object.keys(FILTERS).filter(f => $(FILTERS[f]).checked).join('');
@@ -222,24 +220,36 @@ async function link() {
   try { await navigator.clipboard.writeText(location.href); say(`The link to this state is copied: ${size}.${long}`); }
   catch { say(`The link to this state is in the address bar: ${size}.${long}`); }
 }
-const ADDED = [...Array(11).keys(), OP.tight, OP.tightAligned, OP.room, OP.relocate, OP.relocateAligned, OP.retract, OP.at], ALIGNED = [1, OP.tightAligned, OP.relocateAligned];
+const ADDED = [...Array(11).keys(), OP.compactBy, OP.within, OP.tight, OP.tightAligned, OP.room, OP.roomBy, OP.relocate, OP.relocateAligned, OP.retract, OP.at];
+// The calls of a link: each its kind and two numbers at least. One that would not do as a line is faulty.
+function editsOf(numbers) {
+  const edits = [];
+  for (let i = 0; i < numbers.length;) {
+    const kinds = KINDS[numbers[i]] || '', edit = numbers.slice(i, i += 1 + Math.max(2, kinds.length));
+    if (!ADDED.includes(edit[0]) || edit.length < 3 || edit.length <= kinds.length) throw Error();
+    if (edit.some((n, j) => j > 0 && (j > kinds.length ? n > 0 : 'as'.includes(kinds[j - 1]) && n < 1))) throw Error();
+    edits.push(edit);
+  }
+  return edits;
+}
 const numbersOf = text => text.split('.').map(x => { if (!/^\d{1,10}$/.test(x) || Number(x) > LARGEST) throw Error(); return Number(x); });
 const oneOf = text => { const n = numbersOf(text); if (n.length !== 1) throw Error(); return n[0]; };
 async function restore() {
   stop(); leave();
   const q = new URLSearchParams(location.hash.slice(1)), t = q.get('t');
-  let isFaulty = t !== null && !Object.hasOwn(TRACES, t), why = 'what it names is not there', p = null;
+  let isFaulty = t !== null && !Object.hasOwn(TRACES, t), why = 'what it names is not there', p = null, ungranted = null;
   try {
     const part = q.has('m') ? oneOf(q.get('m')) : 0;
     if (q.has('s')) { if (!await load(await inflated(q.get('s')), 'own', q.get('n') || OWN, part)) throw null; }
     else if (t !== null && !isFaulty) await load(await inflated(TRACES[t]), t, titleOf(t), part);
     else await load(await inflated(TRACES[FIRST]), FIRST, titleOf(FIRST));
     if (q.has('p')) p = oneOf(q.get('p'));
+    if (q.has('o')) {
+      ungranted = oneOf(q.get('o'));
+      if (!S.run.file.others[ungranted]) { ungranted = null; throw Error(); }
+    }
     if (q.get('c')) {
-      const kept = oneOf(q.get('kept') || ''), c = numbersOf(q.get('c')), edits = [];
-      for (let i = 0; i < c.length; i += 3) {
-        if (i + 2 >= c.length || !ADDED.includes(c[i]) || (ALIGNED.includes(c[i]) && c[i + 2] < 1)) throw Error();
-        edits.push(c.slice(i, i + 3)); }
+      const kept = oneOf(q.get('kept') || ''), edits = editsOf(numbersOf(q.get('c')));
       if (kept > S.base.count) throw Error();
       S.run = await during('Playing', work => S.base.branch(kept, edits, work)) || S.run; showNames();
     }
@@ -276,7 +286,7 @@ async function restore() {
   S.linked = S.run;
   if (isFaulty) say(`The link is faulty: ${why}. This is the nearest state.`, true);
   // the first run is shown before its first refusal
-  go(p === null ? (S.name === FIRST ? S.run.count >> 2 : Math.min(4000, S.run.count)) : p);
+  go(p === null ? (S.name === FIRST ? S.run.count >> 2 : Math.min(4000, S.run.count)) : p, ungranted);
   enter(false);
 }
 const titleOf = name => name === 'every' ? 'every command' : name.replace('-', ' ');
