@@ -5,6 +5,8 @@ use Rattle.std.proofs.lemmas.Bool.{cases_Bool, cases_lt}
 use Rattle.offset_allocator.specs.Requests.{blocks_needed, units_needed}
 use Rattle.offset_guarded.specs.Guard.{Guard, Ticket}
 use Rattle.offset_guarded.specs.Guard as guarded
+use Rattle.offset_guarded.specs.Step.{IsJoined}
+use Rattle.std.proofs.Math.Nat.{dvd_trans, one-dvd}
 use Rattle.offset_heaps.specs.declared.limits.Limits.{Limits}
 use Rattle.offset_heaps.specs.declared.place.Granted.{Granted}
 use Rattle.offset_heaps.specs.declared.refusal.Refusal.{Refusal}
@@ -273,3 +275,18 @@ plain size = omega arith
 pub others_if : (size align : ℕ) (hs ks : Heaps) (r : Result Granted Refusal) → IfOk r (Grants size align hs ks) → IfOk r (λ g. KeepsOthers g.place hs ks)
 others_if size align hs ks (Ok grant) g = others_kept size align hs ks grant g
 others_if size align hs ks (Err why) g = tt
+
+-- ---- the first grant of a heap
+-- an alignment is taken in after 1
+pub joined_one : (s m align n : ℕ) → IsJoined s 1 m → IsJoined m align n → IsJoined s align n
+joined_one s m align n p q = record {
+  fits = q.fits;
+  first = dvd_trans s p.first q.first;
+  second = q.second;
+  least = λ k few a b. q.least k few (p.least k few a (one-dvd k)) b;
+}
+
+-- a grant is one with another step too
+pub restepped : (n : ℕ) (g m h : Guard) (t : Ticket) → guarded.Grants n g m t → h ≡ record m { step = h.step } → guarded.Grants n g h t
+restepped n g m h t s e = subst (λ (z : Guard). guarded.Grants n g z t) (sym e)
+    (record { serial = s.serial; given = s.given; realm = s.realm; serials = s.serials; not_live = s.not_live; range = s.range; space = s.space; others = s.others })

@@ -11,7 +11,7 @@ use Rattle.offset_allocator.specs.Requests.{CanGrant, blocks_needed, units_neede
 use Rattle.offset_allocator.specs.declared.moves.room.RoomCost.{RoomCost}
 use Rattle.offset_allocator.specs.Relations.{SameState}
 use Rattle.offset_allocator.specs.Resizing as space
-use Rattle.offset_allocator.specs.View.{View}
+use Rattle.offset_allocator.specs.View.{Block, View}
 use Rattle.offset_guarded.specs.Guard.{Guard, Ticket}
 use Rattle.offset_guarded.specs.Guard as guarded
 use Rattle.offset_heaps.specs.declared.resize.Resize.{Resize}
@@ -108,11 +108,14 @@ CanResizeAt how p hs = CanResizeIn how p.name (heap_at p.heap hs)
 abbrev pub KeepsSizes : Heaps → Heaps → Type 0
 KeepsSizes hs ks = (p : Place) → option_map (λ (r : Range). r.size) (range_of p ks) ≡ option_map (λ (r : Range). r.size) (range_of p hs)
 
--- whether a heap can be compacted by its step: it has one; and no block slides, or a free block can follow those that do,
--- since the node limit admits one more, or one of them is used up
+-- whether these blocks of a space can slide by a step: there is none, or a free block can follow them, since the node limit
+-- admits one more, or one of them is used up
+abbrev pub can_slide : ℕ → View → List Block → Bool
+can_slide s v run = nat_eq (length run) 0 || (nat_lt (length v.blocks + 1) v.max_allocs || nat_lt 0 (length (used_up s run)))
+
+-- whether a heap can be compacted by its step: it has one, and the blocks that slide by it can
 abbrev pub can_compact : Guard → Bool
-can_compact g = let run = run_by g.step g.space.blocks in
-    not (nat_eq g.step 0) && (nat_eq (length run) 0 || nat_lt (length g.space.blocks + 1) g.space.max_allocs || nat_lt 0 (length (used_up g.step run)))
+can_compact g = not (nat_eq g.step 0) && can_slide g.step g.space (run_by g.step g.space.blocks)
 
 -- the same of the heap of a number, which has to be there
 abbrev pub can_compact_in : Option Guard → Bool

@@ -7,7 +7,7 @@ ghost use Rattle.std.specs.Int.{IsGcd};
 ghost use Rattle.std.specs.List.{FoldsTo};
 ghost use Rattle.offset_allocator.specs.Requests.{blocks_needed, units_needed};
 ghost use Rattle.offset_allocator.specs.View.{IsWellFormed};
-ghost use Rattle.offset_guarded.specs.Guard.{Guard, IsLive, IsRaised};
+ghost use Rattle.offset_guarded.specs.Guard.{Guard, IsLive, IsRaised, range_of};
 ghost use Rattle.offset_allocator.specs.Moving.Compacting.{IsCalledWith};
 ghost use Rattle.offset_heaps.specs.Changing.{AltersIn, CanResize, CanResizeIn, CompactsIn, MakesRoomIn, Resizes};
 ghost use Rattle.offset_heaps.specs.Changing.{CompactsSlot, IsCalledAt, IsCompactible, can_compact_in, moves_in, numbered};
@@ -158,13 +158,13 @@ pub(crate) fn grant_first_in<T: Tables>(
     align: u32,
 ) -> Ticket
     requires alignment { 1 ≤ align }
-    requires room { HasRoomNow 1 (max 1 size) slot.old }
+    requires room { HasRoomNow 1 (max 1 (units_needed size 1)) slot.old }
     ensures { GrantsIn size 1 align slot.old slot.new result }
 {
     match slot {
         Some(heap) => {
             is_well_formed(heap.allocator());
-            match heap.allocate(size) {
+            match heap.allocate_aligned(size, 1) {
                 Some(ticket) => {
                     heap.raise_step(align);
                     ticket
@@ -368,6 +368,18 @@ fn common_divisor(first: u32, second: u32) -> u32
         rest = next;
     }
     divisor
+}
+
+// What the offset of the range of a ticket, where it is live, and the step of its heap have in common, or `None` where
+// the heap has no step.
+fn alignment_in<T: Tables>(heap: &GuardedOf<T>, ticket: Ticket) -> Option<u32>
+    ensures live { IsSome result ↔ (IsLive ticket heap.now × (1 ≤ heap.now.step)) }
+    ensures own { IfSome result (IsGcd (offset_in (range_of ticket heap.now)) heap.now.step) }
+    ensures some { IfSome result (λ d. 1 ≤ d) }
+{
+    let step = heap.step()?;
+    let offset = heap.offset_of(ticket)?;
+    Some(common_divisor(offset, step))
 }
 
 // Whether a heap with `full` live units may take a range of `size` units of the heap `own`, which has `live`.
@@ -747,8 +759,7 @@ impl<T: Tables> Slots<T> {
         }
     }
 
-    /// What the offset of the range of a ticket, where it is live, and the step of its heap have in common, or `None`
-    /// where the heap has no step.
+    /// The same of the heap of a number.
     pub(crate) fn alignment_at(
         &self,
         number: u32,
@@ -764,11 +775,7 @@ impl<T: Tables> Slots<T> {
     {
         match self.at(number, count) {
             None => None,
-            Some(heap) => {
-                let step = heap.step()?;
-                let offset = heap.offset_of(ticket)?;
-                Some(common_divisor(offset, step))
-            }
+            Some(heap) => alignment_in(heap, ticket),
         }
     }
 

@@ -35,8 +35,7 @@ impl<T: Tables> HeapsOf<T> {
         )
     }
 
-    // What the offset of the range of a place, where it is live, and the step of its heap have in common, or `None`
-    // where the heap has no step.
+    // The alignment that `relocate` asks for, or `None` where the place is not live, or its heap has no step.
     fn alignment_of(&mut self, place: Place) -> Option<u32> {
         let (own, realm, ticket) = place.split();
         if realm != self.realm {

@@ -103,7 +103,7 @@ pub(crate) fn grant_first_in<T: Tables>(
 ) -> Ticket {
     match slot {
         Some(heap) => {
-            match heap.allocate(size) {
+            match heap.allocate_aligned(size, 1) {
                 Some(ticket) => {
                     heap.raise_step(align);
                     ticket
@@ -246,6 +246,14 @@ fn common_divisor(first: u32, second: u32) -> u32 {
         rest = next;
     }
     divisor
+}
+
+// What the offset of the range of a ticket, where it is live, and the step of its heap have in common, or `None` where
+// the heap has no step.
+fn alignment_in<T: Tables>(heap: &GuardedOf<T>, ticket: Ticket) -> Option<u32> {
+    let step = heap.step()?;
+    let offset = heap.offset_of(ticket)?;
+    Some(common_divisor(offset, step))
 }
 
 // Whether a heap with `full` live units may take a range of `size` units of the heap `own`, which has `live`.
@@ -496,8 +504,7 @@ impl<T: Tables> Slots<T> {
         }
     }
 
-    /// What the offset of the range of a ticket, where it is live, and the step of its heap have in common, or `None`
-    /// where the heap has no step.
+    /// The same of the heap of a number.
     pub(crate) fn alignment_at(
         &self,
         number: u32,
@@ -506,11 +513,7 @@ impl<T: Tables> Slots<T> {
     ) -> Option<u32> {
         match self.at(number, count) {
             None => None,
-            Some(heap) => {
-                let step = heap.step()?;
-                let offset = heap.offset_of(ticket)?;
-                Some(common_divisor(offset, step))
-            }
+            Some(heap) => alignment_in(heap, ticket),
         }
     }
 
