@@ -148,7 +148,7 @@ int main() {
     Place gap = stepped.allocate(100).place, texture = stepped.allocateAligned(50, 64).place, rest = stepped.allocate(300).place;
     CHECK(stepped.step(0) == 64 && stepped.step(1) == 0 && stepped.offsetOf(texture) == 128 && stepped.free(gap) && stepped.free(rest));
     CHECK(stepped.makeRoomAligned(0, 300, 64, [&](Move it) { CHECK(it.from == 128 && it.to == 0); }).units == 50 && stepped.offsetOf(texture) == 0);
-    CHECK(stepped.compact([](uint32, Move) {}) && stepped.allocate(450).place.heap == 0 && stepped.makeRoomAligned(0, 1, 0, [](Move) {}).possible == false);
+    CHECK(stepped.compact([](uint32, Move) {}) && stepped.allocate(448).place.heap == 0 && stepped.makeRoomAligned(0, 1, 0, [](Move) {}).possible == false);
     Place odd64 = stepped.allocateAligned(10, 64).place;
     CHECK(odd64.heap == 1 && stepped.step(1) == 64);
 
