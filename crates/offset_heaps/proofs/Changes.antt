@@ -143,9 +143,9 @@ noted_in R size align f c f' g h m = elim (cases_lt 0 g.step) [
   | inl some ↦
       let n = noted R g.step (value (up (units_needed size align))) (names_short (blocks_needed align) g.space) g.space f c h.space f' (m.step some) in
       (n.0, record { cost = m.cost; step = λ _. n.1; none = λ e. absurd (omega (arith, some, e)); granted = m.granted; serials = m.serials; sizes = m.sizes; aligned = m.aligned; accesses = m.accesses })
-  | inr no ↦
-      let e = m.none (omega (arith, no)) in
-      ([], record { cost = m.cost; step = λ some. absurd (omega (arith, some, no)); none = λ _. (e.0, e.1, refl); granted = m.granted; serials = m.serials; sizes = m.sizes; aligned = m.aligned; accesses = m.accesses })
+  | inr lack ↦
+      let e = m.none (omega (arith, lack)) in
+      ([], record { cost = m.cost; step = λ some. absurd (omega (arith, some, lack)); none = λ _. (e.0, e.1, refl); granted = m.granted; serials = m.serials; sizes = m.sizes; aligned = m.aligned; accesses = m.accesses })
 ]
 
 pub noted_room : {F : Type 0} (R : F → Move → F → Type 0) (k size align : ℕ) (hs : Heaps) (f : F) (c : Option RoomCost) (ks : Heaps) (g : F) → MakesRoomAt R k size align hs f c ks g

@@ -39,8 +39,8 @@ slides_is s v w true (inr e) = elim e.0 [
 slides_is s v w false e =
     let full : v.max_allocs ≤ length v.blocks + 1 = elim (cases_lt (length v.blocks + 1) v.max_allocs) [ inl l ↦ absurd (e.1 (inl l)) | inr past ↦ past ] in
     let none : length (used_up s (run_by s v.blocks)) ≤ 0 =
-    elim (cases_lt 0 (length (used_up s (run_by s v.blocks)))) [ inl l ↦ absurd (e.1 (inr (λ no. omega (arith, l, ap length no)))) | inr past ↦ past ] in
-    rw (ne_eqb (length (run_by s v.blocks)) 0 (λ no. e.0 (no_length (run_by s v.blocks) no)), le-ltb (length v.blocks + 1) v.max_allocs full, le-ltb 0 (length (used_up s (run_by s v.blocks))) none) refl
+    elim (cases_lt 0 (length (used_up s (run_by s v.blocks)))) [ inl l ↦ absurd (e.1 (inr (λ e. omega (arith, l, ap length e)))) | inr past ↦ past ] in
+    rw (ne_eqb (length (run_by s v.blocks)) 0 (λ z. e.0 (no_length (run_by s v.blocks) z)), le-ltb (length v.blocks + 1) v.max_allocs full, le-ltb 0 (length (used_up s (run_by s v.blocks))) none) refl
 
 pub done_is : (g h : Guard) (done : Bool) → (1 ≤ g.step → CompactsBy g.step g.space h.space done) → (g.step ≡ 0 → (done ≡ false) × (h ≡ g)) → done ≡ can_compact g
 done_is g h done step none = elim (cases_eq g.step 0) [
@@ -76,10 +76,10 @@ compacted_limits g h c = elim (cases_eq g.step 0) [
 
 -- where it is refused, every later call returns the same
 pub refused_twin : (g h : Guard) → CompactsIn g h → can_compact g ≡ false → IsTwin g h
-refused_twin g h c no = elim (cases_eq g.step 0) [
+refused_twin g h c refused = elim (cases_eq g.step 0) [
   | inl e ↦ subst (IsTwin g) (sym (c.none e)) (own_twin g)
   | inr d ↦
-      let by : CompactsBy g.step g.space h.space false = subst (CompactsBy g.step g.space h.space) no (c.step (omega (arith, d))) in
+      let by : CompactsBy g.step g.space h.space false = subst (CompactsBy g.step g.space h.space) refused (c.step (omega (arith, d))) in
       record {
         space = by.2;
         serials = λ x live. ap (λ (z : Guard). serial_of x z) c.serials;

@@ -177,7 +177,7 @@ compact_twins g g' h h' twin f f' = elim (cases_lt 0 g.step) [
       let some' : 1 ≤ g'.step = omega (arith, some, twin.step) in
       let k : CompactsBy g.step g'.space h'.space (can_compact g') = subst (λ n. CompactsBy n g'.space h'.space (can_compact g')) twin.step (f'.step some') in
       slid_twins g g' h h' twin f.serials f'.serials f.sizes (compacts_by_decided g.step g.space g'.space h.space h'.space twin.space (can_compact g) (can_compact g') (f.step some) k).1
-  | inr no ↦ subst₂ IsTwin (sym (f.none (omega (arith, no)))) (sym (f'.none (omega (arith, no, twin.step)))) twin
+  | inr lack ↦ subst₂ IsTwin (sym (f.none (omega (arith, lack)))) (sym (f'.none (omega (arith, lack, twin.step)))) twin
 ]
 
 can_twin : (g h : Guard) → IsTwin g h → can_compact h ≡ can_compact g
@@ -250,9 +250,9 @@ room_decided k size align hs hs' ks ks' is t r r' x y = go (heap_at k hs) refl
           (subst (λ s. IsLeastCostBy s want (names_short blocks g'.space) g'.space.blocks r') twin.step (n.cost some')) (m.step some)
           (subst (λ s. MakesRoomBy Notes s want (names_short blocks g'.space) g'.space [] r' h'.space xs') twin.step (n.step some')) in
           (one.0, slid_twins g g' h h' twin m.serials n.serials m.sizes one.2)
-      | inr no ↦
-          let e = m.none (omega (arith, no)) in
-          let f = n.none (omega (arith, no, twin.step)) in
+      | inr lack ↦
+          let e = m.none (omega (arith, lack)) in
+          let f = n.none (omega (arith, lack, twin.step)) in
           (e.0 ∙ sym f.0, subst₂ IsTwin (sym e.1) (sym f.1) twin)
     ]
 
@@ -312,7 +312,7 @@ own_twins p align hs hs' t own = subst₂ (λ (n s : ℕ). IsGcd n s align) (ap 
 
 pub relocates_own_decided : (p : Place) (hs hs' ks ks' : Heaps) → state.IsWellFormed hs → AreTwins hs hs' → (r r' : Option Granted) → RelocatesOwn p hs ks r → RelocatesOwn p hs' ks' r' → (r ≡ r') × AreTwins ks ks'
 relocates_own_decided p hs hs' ks ks' is t r r' x y = elim (cases_lt 0 (step_at p.heap hs)) [
-  | inr no ↦ stays (x.none (omega (arith, no))) (y.none (omega (arith, no, step_twins p.heap hs hs' t)))
+  | inr lack ↦ stays (x.none (omega (arith, lack))) (y.none (omega (arith, lack, step_twins p.heap hs hs' t)))
   | inl some ↦ elim (cases_Bool (is_some (range_of p hs))) [
     | inr dead ↦
         stays (x.not_live (λ live. absurd (let e : true ≡ false = sym live ∙ dead in cc)))
