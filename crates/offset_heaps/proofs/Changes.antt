@@ -4,7 +4,8 @@ use Rattle.std.proofs.Common.{zero, suc, ◌+◌, ◌≤◌, IfSome, if◌then�
 use Rattle.std.proofs.lemmas.Bool.{cases_eq, cases_lt}
 use Rattle.std.proofs.lemmas.List.{append_assoc, append-nil}
 use Rattle.std.specs.List.{FoldsTo}
-use Rattle.offset_allocator.specs.{Classes.up, Classes.value, Moving.Compacting.Move, Moving.Compacting.moves, Moving.Room.MakesRoom, View.Block, View.units}
+use Rattle.offset_allocator.specs.{Classes.up, Classes.value, Moving.BySteps.moves_by, Moving.Compacting.Move, Moving.RoomBySteps.MakesRoomBy, Moving.RoomBySteps.names_short, View.Block, View.units}
+use Rattle.offset_allocator.specs.Requests.{blocks_needed, units_needed}
 use Rattle.offset_allocator.specs.Ranges.{Range}
 use Rattle.offset_allocator.specs.declared.moves.room.RoomCost.{RoomCost}
 use Rattle.offset_allocator.specs.View.{View}
@@ -87,6 +88,7 @@ undone_twin how t g h r = record {
   serials = λ x live. r.serials.cells x;
   given = r.serials.given;
   realm = r.serials.realm;
+  step = r.serials.step;
 }
 
 -- a range in place changes no size and no node limit of the space
@@ -104,16 +106,19 @@ others_kept p P hs ks there a own kept = put_keeps hs ks p.heap (Some a.after) (
     (λ u apart. kept u apart ∙ sym (ap (range_in u) a.heap))
 
 -- room that is made changes neither
-pub room_limits : {F : Type 0} (R : F → Move → F → Type 0) (size : ℕ) (f : F) (c : Option RoomCost) (f' : F) (g h : Guard) → MakesRoomIn R size f c f' g h
+pub room_limits : {F : Type 0} (R : F → Move → F → Type 0) (size align : ℕ) (f : F) (c : Option RoomCost) (f' : F) (g h : Guard) → MakesRoomIn R size align f c f' g h
     → (h.space.size ≡ g.space.size) × (h.space.max_allocs ≡ g.space.max_allocs)
-room_limits R size f c f' g h m = made R (value (up size)) g.space f c h.space f' m.step
+room_limits R size align f c f' g h m = elim (cases_lt 0 g.step) [
+  | inl some ↦ made R g.step (value (up (units_needed size align))) (names_short (blocks_needed align) g.space) g.space f c h.space f' (m.step some)
+  | inr none ↦ let e = (m.none (omega (arith, none))).1 in (ap (λ (z : Guard). z.space.size) e, ap (λ (z : Guard). z.space.max_allocs) e)
+]
   where
-    made : {F : Type 0} (R : F → Move → F → Type 0) (want : ℕ) (v : View) (f : F) (c : Option RoomCost) (w : View) (f' : F) → MakesRoom R want v f c w f'
+    made : {F : Type 0} (R : F → Move → F → Type 0) (s want short : ℕ) (v : View) (f : F) (c : Option RoomCost) (w : View) (f' : F) → MakesRoomBy R s want short v f c w f'
         → (w.size ≡ v.size) × (w.max_allocs ≡ v.max_allocs)
-    made R want v f None w f' s = (ap (λ (z : View). z.size) s.0, ap (λ (z : View). z.max_allocs) s.0)
-    made R want v f (Some c) w f' s = elim (cases_lt 0 c.ranges) [
-      | inl l ↦ let e = (s.1 l).0.view in (ap (λ (z : View). z.size) e, ap (λ (z : View). z.max_allocs) e)
-      | inr l ↦ let e = (s.0 (omega (arith, l))).0 in (ap (λ (z : View). z.size) e, ap (λ (z : View). z.max_allocs) e)
+    made R s want short v f None w f' m = (ap (λ (z : View). z.size) m.0, ap (λ (z : View). z.max_allocs) m.0)
+    made R s want short v f (Some c) w f' m = elim (cases_lt 0 c.ranges) [
+      | inl l ↦ let e = (m.1 l).0.view in (ap (λ (z : View). z.size) e, ap (λ (z : View). z.max_allocs) e)
+      | inr l ↦ let e = (m.0 (omega (arith, l))).0 in (ap (λ (z : View). z.size) e, ap (λ (z : View). z.max_allocs) e)
     ]
 
 -- whatever a closure does, there are the moves that it is called with
@@ -121,30 +126,33 @@ notes_all : (ys xs : List Move) → FoldsTo Notes ys xs (ys ++ xs)
 notes_all ys [] = sym (append-nil ys)
 notes_all ys (x ∷ xs) = (ys ++ x ∷ [], refl, subst (λ z. FoldsTo Notes (ys ++ x ∷ []) xs z) (append_assoc ys (x ∷ []) xs) (notes_all (ys ++ x ∷ []) xs))
 
-noted : {F : Type 0} (R : F → Move → F → Type 0) (want : ℕ) (v : View) (f : F) (c : Option RoomCost) (w : View) (g : F) → MakesRoom R want v f c w g → (xs : List Move) × MakesRoom Notes want v [] c w xs
-noted R want v f None w g s = ([], (s.0, refl))
-noted R want v f (Some c) w g s = elim (cases_lt 0 c.ranges) [
+noted : {F : Type 0} (R : F → Move → F → Type 0) (s want short : ℕ) (v : View) (f : F) (c : Option RoomCost) (w : View) (g : F) → MakesRoomBy R s want short v f c w g
+    → (xs : List Move) × MakesRoomBy Notes s want short v [] c w xs
+noted R s want short v f None w g m = ([], (m.0, refl))
+noted R s want short v f (Some c) w g m = elim (cases_lt 0 c.ranges) [
   | inl l ↦
-      let e = s.1 l in
-      let xs = moves (units e.0.front) (units e.0.front) e.0.run in
+      let e = m.1 l in
+      let xs = moves_by s (units e.0.front) (units e.0.front) e.0.run in
       (xs, (λ z. absurd (omega (arith, l, z)), λ _. (e.0, e.1, notes_all [] xs)))
-  | inr l ↦ let e = s.0 (omega (arith, l)) in ([], (λ _. (e.0, refl), λ m. absurd (omega (arith, l, m))))
+  | inr l ↦ let e = m.0 (omega (arith, l)) in ([], (λ _. (e.0, refl), λ n. absurd (omega (arith, l, n))))
 ]
 
-pub noted_room : {F : Type 0} (R : F → Move → F → Type 0) (k size : ℕ) (hs : Heaps) (f : F) (c : Option RoomCost) (ks : Heaps) (g : F) → MakesRoomAt R k size hs f c ks g
-    → (xs : List Move) × MakesRoomAt Notes k size hs [] c ks xs
-noted_room R k size hs f c ks g a =
-    let m = a.by in
-    let n = noted R (value (up size)) a.before.space f c a.after.space g m.step in (
-      n.0,
-      record {
-        before = a.before;
-        after = a.after;
-        heap = a.heap;
-        by = record { cost = m.cost; step = n.1; granted = m.granted; serials = m.serials; sizes = m.sizes; accesses = m.accesses };
-        heaps = a.heaps;
-      },
-    )
+noted_in : {F : Type 0} (R : F → Move → F → Type 0) (size align : ℕ) (f : F) (c : Option RoomCost) (f' : F) (g h : Guard) → MakesRoomIn R size align f c f' g h
+    → (xs : List Move) × MakesRoomIn Notes size align [] c xs g h
+noted_in R size align f c f' g h m = elim (cases_lt 0 g.step) [
+  | inl some ↦
+      let n = noted R g.step (value (up (units_needed size align))) (names_short (blocks_needed align) g.space) g.space f c h.space f' (m.step some) in
+      (n.0, record { cost = m.cost; step = λ _. n.1; none = λ e. absurd (omega (arith, some, e)); granted = m.granted; serials = m.serials; sizes = m.sizes; aligned = m.aligned; accesses = m.accesses })
+  | inr lack ↦
+      let e = m.none (omega (arith, lack)) in
+      ([], record { cost = m.cost; step = λ some. absurd (omega (arith, some, lack)); none = λ _. (e.0, e.1, refl); granted = m.granted; serials = m.serials; sizes = m.sizes; aligned = m.aligned; accesses = m.accesses })
+]
+
+pub noted_room : {F : Type 0} (R : F → Move → F → Type 0) (k size align : ℕ) (hs : Heaps) (f : F) (c : Option RoomCost) (ks : Heaps) (g : F) → MakesRoomAt R k size align hs f c ks g
+    → (xs : List Move) × MakesRoomAt Notes k size align hs [] c ks xs
+noted_room R k size align hs f c ks g a =
+    let n = noted_in R size align f c g a.before a.after a.by in
+    (n.0, record { before = a.before; after = a.after; heap = a.heap; by = n.1; heaps = a.heaps })
 
 -- ---- a range that becomes smaller or larger
 part_few : (x n : ℕ) → length (free_part x n) ≤ 1

@@ -1,16 +1,95 @@
 -- What compacting all heaps leaves, and the moves that a closure is called with.
-use Rattle.std.proofs.Common.{◌≡◌, ℕ, suc, ◌+◌, ◌<◌, ◌≤◌, Bool, true, false, List, [], ◌∷◌, ◌++◌, Option, Some, None, IfSome, length, drop, nat_eq, option_map, if◌then◌else◌, refl, sym, ap, subst, ◌∙◌, arith}
+use Rattle.std.proofs.Common.{◌≡◌, ℕ, suc, ◌+◌, ◌*◌, ◌<◌, ◌≤◌, Bool, true, false, not, ◌&&◌, ◌||◌, nat_lt, inl, inr, eq-eqb, ne_eqb, List, [], ◌∷◌, ◌++◌, Option, Some, None, IfSome, length, drop, nat_eq, option_map, if◌then◌else◌, refl, sym, ap, subst, ◌∙◌, arith}
 use Rattle.std.proofs.Math.Seq.{drop-cons}
 use Rattle.std.specs.List.{FoldsTo}
 use Rattle.offset_allocator.specs.{Moving.Compacting.Move, Ranges.Range, View.View}
-use Rattle.offset_guarded.specs.Guard.{Guard, Ticket}
+use Rattle.offset_guarded.specs.Guard.{Guard, Ticket, serial_of}
+use Rattle.offset_guarded.specs.Guard as guarded
 use Rattle.offset_heaps.specs.declared.limits.Limits.{Limits}
-use Rattle.offset_heaps.specs.Changing.{CompactsAll, CompactsSlot, KeepsSizes, moves_from, moves_in, numbered}
+use Rattle.std.proofs.lemmas.Bool.{cases_eq, cases_lt, le-ltb, lt-ltb}
+use Rattle.offset_allocator.specs.Moving.BySteps.{CompactsBy, run_by, used_up}
+use Rattle.offset_heaps.specs.Changing.{CompactsAll, CompactsIn, CompactsSlot, KeepsSizes, can_compact, can_slide, moves_from, moves_in, numbered}
+use Rattle.offset_heaps.specs.Twins.{IsTwin}
+use Rattle.offset_heaps.proofs.Twins.{own_twin}
 use Rattle.offset_heaps.specs.Places.{ticket_of}
 use Rattle.offset_heaps.specs.Heaps.{Heaps, IsOfKind, heap_at, range_in, slot}
 use Rattle.offset_heaps.proofs.Sound.{kind_kept}
 
--- what is compacted has its realm
+-- ---- whether a heap can be compacted
+or_true : (b : Bool) → (b || true) ≡ true
+or_true true = refl
+or_true false = refl
+
+some_length : {A : Type 0} (xs : List A) → (xs ≡ [] → ⊥) → 0 < length xs
+some_length [] some = absurd (some refl)
+some_length (x ∷ xs) some = omega arith
+
+no_length : {A : Type 0} (xs : List A) → length xs ≡ 0 → xs ≡ []
+no_length [] e = refl
+no_length (x ∷ xs) e = absurd (omega (arith, e))
+
+slides_is : (s : ℕ) (v w : View) (done : Bool) → CompactsBy s v w done → done ≡ can_slide s v (run_by s v.blocks)
+slides_is s v w true (inl e) = sym (ap (can_slide s v) e.0)
+slides_is s v w true (inr e) = elim e.0 [
+  | inl l ↦ rw (lt-ltb (length v.blocks + 1) v.max_allocs l) (sym (or_true (nat_eq (length (run_by s v.blocks)) 0)))
+  | inr used ↦
+      rw (lt-ltb 0 (length (used_up s (run_by s v.blocks))) (some_length (used_up s (run_by s v.blocks)) used))
+      (sym (ap (λ (b : Bool). nat_eq (length (run_by s v.blocks)) 0 || b) (or_true (nat_lt (length v.blocks + 1) v.max_allocs)) ∙ or_true (nat_eq (length (run_by s v.blocks)) 0)))
+]
+slides_is s v w false e =
+    let full : v.max_allocs ≤ length v.blocks + 1 = elim (cases_lt (length v.blocks + 1) v.max_allocs) [ inl l ↦ absurd (e.1 (inl l)) | inr past ↦ past ] in
+    let none : length (used_up s (run_by s v.blocks)) ≤ 0 =
+    elim (cases_lt 0 (length (used_up s (run_by s v.blocks)))) [ inl l ↦ absurd (e.1 (inr (λ e. omega (arith, l, ap length e)))) | inr past ↦ past ] in
+    rw (ne_eqb (length (run_by s v.blocks)) 0 (λ z. e.0 (no_length (run_by s v.blocks) z)), le-ltb (length v.blocks + 1) v.max_allocs full, le-ltb 0 (length (used_up s (run_by s v.blocks))) none) refl
+
+pub done_is : (g h : Guard) (done : Bool) → (1 ≤ g.step → CompactsBy g.step g.space h.space done) → (g.step ≡ 0 → (done ≡ false) × (h ≡ g)) → done ≡ can_compact g
+done_is g h done step none = elim (cases_eq g.step 0) [
+  | inl e ↦ (none e).0 ∙ sym (ap (λ (b : Bool). not b && can_slide g.step g.space (run_by g.step g.space.blocks)) (eq-eqb g.step 0 e))
+  | inr d ↦
+      slides_is g.step g.space h.space done (step (omega (arith, d)))
+      ∙ sym (ap (λ (b : Bool). not b && can_slide g.step g.space (run_by g.step g.space.blocks)) (ne_eqb g.step 0 d))
+]
+
+pub compacts : (g h : Guard) (done : Bool) → done ≡ can_compact g → (1 ≤ g.step → CompactsBy g.step g.space h.space done) → (g.step ≡ 0 → (done ≡ false) × (h ≡ g)) → h ≡ record g { space = h.space }
+    → guarded.KeepsSizes g h → guarded.KeepsAlignments g h → h.space.accesses ≤ g.space.accesses + 21 * length g.space.blocks + 40 → CompactsIn g h
+compacts g h done is step none serials sizes aligned few = record {
+  step = λ some. subst (CompactsBy g.step g.space h.space) is (step some);
+  none = λ e. (none e).1;
+  serials = serials;
+  sizes = sizes;
+  aligned = aligned;
+  accesses = few;
+}
+
+-- ---- what is compacted
+-- has its size and node limit
+pub compacted_limits : (g h : Guard) → CompactsIn g h → (h.space.size ≡ g.space.size) × (h.space.max_allocs ≡ g.space.max_allocs)
+compacted_limits g h c = elim (cases_eq g.step 0) [
+  | inl e ↦ let same = c.none e in (ap (λ (z : Guard). z.space.size) same, ap (λ (z : Guard). z.space.max_allocs) same)
+  | inr d ↦ go (can_compact g) (c.step (omega (arith, d)))
+]
+  where
+    go : (b : Bool) → CompactsBy g.step g.space h.space b → (h.space.size ≡ g.space.size) × (h.space.max_allocs ≡ g.space.max_allocs)
+    go true (inl e) = (ap (λ (v : View). v.size) e.1, ap (λ (v : View). v.max_allocs) e.1)
+    go true (inr e) = (ap (λ (v : View). v.size) e.1.view, ap (λ (v : View). v.max_allocs) e.1.view)
+    go false e = (ap (λ (v : View). v.size) e.2, ap (λ (v : View). v.max_allocs) e.2)
+
+-- where it is refused, every later call returns the same
+pub refused_twin : (g h : Guard) → CompactsIn g h → can_compact g ≡ false → IsTwin g h
+refused_twin g h c refused = elim (cases_eq g.step 0) [
+  | inl e ↦ subst (IsTwin g) (sym (c.none e)) (own_twin g)
+  | inr d ↦
+      let by : CompactsBy g.step g.space h.space false = subst (CompactsBy g.step g.space h.space) refused (c.step (omega (arith, d))) in
+      record {
+        space = by.2;
+        serials = λ x live. ap (λ (z : Guard). serial_of x z) c.serials;
+        given = ap (λ (z : Guard). z.given) c.serials;
+        realm = ap (λ (z : Guard). z.realm) c.serials;
+        step = ap (λ (z : Guard). z.step) c.serials;
+      }
+]
+
+-- has its realm
 pub realm_compacted : (made : ℕ) (old new : Option Guard) → CompactsSlot old new → IfSome old (λ g. g.realm ≤ made) → IfSome new (λ g. g.realm ≤ made)
 realm_compacted made None new e h = rw e tt
 realm_compacted made (Some before) new r h = rw r.1 (let same : r.0.realm ≡ before.realm = ap (λ (g : Guard). g.realm) r.2.serials in omega (arith, same, h))
@@ -19,7 +98,8 @@ realm_compacted made (Some before) new r h = rw r.1 (let same : r.0.realm ≡ be
 pub kind_compacted : (limits : Limits) (k : ℕ) (old new : Option Guard) → CompactsSlot old new → IfSome old (IsOfKind limits k) → IfSome new (IsOfKind limits k)
 kind_compacted limits k None new e h = rw e tt
 kind_compacted limits k (Some before) new r h =
-    kind_kept limits k (Some before) new before r.0 refl r.1 (ap (λ (v : View). v.size) r.2.step.view) (ap (λ (v : View). v.max_allocs) r.2.step.view) h
+    let same = compacted_limits before r.0 r.2 in
+    kind_kept limits k (Some before) new before r.0 refl r.1 same.0 same.1 h
 
 -- every place has as many units as it had
 abbrev units_in : Option Range → Option ℕ

@@ -68,6 +68,7 @@ raised_twin limit limit' g h same t = record {
   serials = t.serials;
   given = t.given;
   realm = t.realm;
+  step = t.step;
 }
 
 pub where_twins : (Must : Guard → Type 0) (limits : Limits) → ((g h : Guard) → IsTwin g h → Must g → Must h) → (g g' h h' : Guard) → IsTwin g g' → IsTwin g' g
@@ -238,7 +239,7 @@ module _ (size align : ℕ) (hs hs' ks ks' : Heaps) (grant grant' : Granted) (sm
   ticket = same_ticket size s.before s'.before s.after s'.after (ticket_in grant) (ticket_in grant') before.0 s.grants s'.grants step
 
   after : IsTwin s.after s'.after
-  after = grant_twins size s.before s'.before s.after s'.after (ticket_in grant) (ticket_in grant') before.0 s.grants s'.grants step
+  after = grant_twins size s.before s'.before s.after s'.after (ticket_in grant) (ticket_in grant') before.0 s.grants s'.grants step align s.joined s'.joined
 
   there : grant.place.heap < length hs'.slots
   there = subst (λ k. k < length hs'.slots) (sym number) s'.number

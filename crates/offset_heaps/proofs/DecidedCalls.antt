@@ -1,26 +1,29 @@
 -- Each call on twins has the same result, and leaves twins.
 use Rattle.std.proofs.Common.{[], ◌∷◌, map, suc}
-use Rattle.std.proofs.Common.{◌≡◌, ℕ, ◌+◌, ◌<◌, ◌≤◌, Bool, true, false, List, Option, Some, None, MatchOption, Result, Ok, Err, IsSome, is_some, if◌then◌else◌, nat_eq, refl, sym, ap, ap₂, subst, subst₂, ◌∙◌, inl, inr, arith}
+use Rattle.std.proofs.Common.{◌≡◌, ℕ, ◌+◌, ◌<◌, ◌≤◌, Bool, true, false, List, Option, Some, None, MatchOption, Result, Ok, Err, IsSome, is_some, if◌then◌else◌, nat_eq, refl, sym, ap, ap₂, subst, subst₂, ◌∙◌, inl, inr, arith, IsTrue, ◌↔◌}
 use Rattle.std.proofs.lemmas.Bool.{cases_Bool, cases_eq, cases_lt}
 use Rattle.offset_allocator.specs.{Classes.up, Classes.value, Relations.SameState, Requests.blocks_needed, Requests.units_needed, View.IsWellFormed, View.View, View.count_used}
 use Rattle.offset_allocator.specs.declared.moves.room.RoomCost.{RoomCost}
-use Rattle.offset_allocator.proofs.{DecidedChanges.compacts_decided, DecidedChanges.extends_decided, DecidedChanges.grows_decided, DecidedChanges.shrinks_decided, Moving.DecidedRooms.noted_decided}
+use Rattle.offset_allocator.proofs.{DecidedChanges.extends_decided, DecidedChanges.grows_decided, DecidedChanges.shrinks_decided, Moving.DecidedRoomsBySteps.noted_by_decided, Moving.DecidedSteps.compacts_by_decided}
+use Rattle.offset_allocator.specs.{Moving.BySteps.CompactsBy, Moving.Compacting.Move, Moving.RoomBySteps.IsLeastCostBy, Moving.RoomBySteps.MakesRoomBy, Moving.RoomBySteps.names_short}
+use Rattle.std.specs.Int.{IsGcd}
+use Rattle.std.proofs.lemmas.Nat.Gcd.{same_from_IsGcd}
 use Rattle.offset_guarded.specs.Guard.{Guard, serial_of}
 use Rattle.std.specs.declared.alloc.AllocError.{AllocError}
 use Rattle.offset_heaps.specs.declared.limits.Limits.{Limits}
 use Rattle.offset_heaps.specs.declared.place.Granted.{Granted}
 use Rattle.offset_heaps.specs.declared.refusal.Refusal.{Refusal}
 use Rattle.offset_heaps.specs.declared.refusal.Refusal.TheVariants.{Memory}
-use Rattle.offset_heaps.specs.Changing.{CanResizeAt, CanResizeIn, ResizesAt, NewSize, Shrunk, Grown, Alters, CompactsAll, CompactsIn, CompactsSlot, MakesRoomIn, Resizes, ResizesSpace}
+use Rattle.offset_heaps.specs.Changing.{CanResizeAt, CanResizeIn, ResizesAt, NewSize, Shrunk, Grown, Alters, CompactsAll, CompactsIn, CompactsSlot, IsCompactible, MakesRoomIn, Resizes, ResizesSpace, can_compact, can_compact_in}
 use Rattle.offset_heaps.specs.Extending.{CanExtendIn, ExtendsIf, MustExtend}
-use Rattle.offset_heaps.specs.Heaps.{Heaps, Grants, IsFirstFit, IsRaisedWhere, IsNext, IsWhy, NoneFits, Puts, heap_at, is_empty, empties, live_units_of, numbers, part, slot, AreTotals, free_of, largest_room}
-use Rattle.offset_heaps.specs.{Heaps.room_of, Heaps.total, Heaps.units_of_heap, Histories.ResetsAll, State.quiet, Twins.AreTwins, Twins.IsTwin, Twins.IsTwinIn}
+use Rattle.offset_heaps.specs.Heaps.{Heaps, Grants, IsFirstFit, IsRaisedWhere, IsNext, IsWhy, NoneFits, Puts, heap_at, is_empty, empties, live_units_of, numbers, part, slot, step_at, step_of, AreTotals, free_of, largest_room}
+use Rattle.offset_heaps.specs.{Heaps.range_of, Heaps.room_of, Heaps.total, Heaps.units_of_heap, Histories.ResetsAll, State.quiet, Twins.AreTwins, Twins.IsTwin, Twins.IsTwinIn}
 use Rattle.offset_heaps.specs.declared.totals.Totals.{Totals}
 use Rattle.offset_heaps.specs.Places.{Place, ticket_of}
-use Rattle.offset_heaps.specs.Relocating.{HasLive, IsEmptiest, NoneLive, TakesRange, live_units_at, units_in, size_of}
+use Rattle.offset_heaps.specs.Relocating.{HasLive, IsEmptiest, NoneLive, TakesRange, live_units_at, units_in, size_of, IsOwnAlign, offset_in, offset_of}
 use Rattle.offset_heaps.specs.State as state
 use Rattle.offset_heaps.proofs.{States.slot_quiet, Empties.empty_there, Grants.memory_alone, Grants.none_found, Grants.one_reason, Numbers.slot_there}
-use Rattle.offset_heaps.specs.Calls.{Allocates, TakesAll, Call, Allocate, Allocate_tight, Free, Relocate, Drop_empty, Drop_heap, Give_up, Reset, Resize, Extend_heap, Compact_heap, Compact_all, Make_room, Drops, DropsEmpty, Frees, GivesUp, IsStarved, ExtendsOne, Relocates, Reply, Requested, Second, Dropped, Was_done, Resized, Extended, Room_made, Takes, MakesRoomOne, TakesSize, CompactsOne, Notes}
+use Rattle.offset_heaps.specs.Calls.{Allocates, TakesAll, Call, Allocate, Allocate_tight, Free, Relocate, Drop_empty, Drop_heap, Give_up, Reset, Resize, Extend_heap, Compact_heap, Compact_all, Make_room, Drops, DropsEmpty, Frees, GivesUp, IsStarved, ExtendsOne, Relocates, Reply, Requested, Second, Dropped, Was_done, Resized, Extended, Room_made, Takes, MakesRoomOne, TakesSize, CompactsOne, Notes, CompactsEach, RelocatesOwn, Relocate_aligned}
 use Rattle.offset_heaps.proofs.Decided.{first_twins, grants_decided, known, known_at, must_in_twins, next_twins, none_fit_twins, one_first, one_fit, one_next, puts_twins, same_twins, where_twins, why_twins}
 use Rattle.offset_heaps.proofs.DecidedTight.{tights_decided}
 use Rattle.offset_heaps.proofs.Raising.{where_formed}
@@ -167,16 +170,30 @@ lengthens_decided k more hs hs' ks ks' is t (Ok true) (Ok true) x y m n =
     let one = extends_decided more a.by.between.space b.by.between.space a.after.space b.after.space (where_formed (MustExtend hs.limits k more) hs.limits k (λ g must. (must.2.0, must.2.1)) a.before a.by.between a.by.raised well) between.space true true a.by.step b.by.step in
     (refl, alters_twins k P Q hs hs' ks ks' t a b (kept_twins a.before b.before a.after b.after before a.by.serials b.by.serials (λ u. ap is_some (a.by.kept u)) one.1))
 
+-- what compacting leaves of two twins
+compact_twins : (g g' h h' : Guard) → IsTwin g g' → CompactsIn g h → CompactsIn g' h' → IsTwin h h'
+compact_twins g g' h h' twin f f' = elim (cases_lt 0 g.step) [
+  | inl some ↦
+      let some' : 1 ≤ g'.step = omega (arith, some, twin.step) in
+      let k : CompactsBy g.step g'.space h'.space (can_compact g') = subst (λ n. CompactsBy n g'.space h'.space (can_compact g')) twin.step (f'.step some') in
+      slid_twins g g' h h' twin f.serials f'.serials f.sizes (compacts_by_decided g.step g.space g'.space h.space h'.space twin.space (can_compact g) (can_compact g') (f.step some) k).1
+  | inr lack ↦ subst₂ IsTwin (sym (f.none (omega (arith, lack)))) (sym (f'.none (omega (arith, lack, twin.step)))) twin
+]
+
+can_twin : (g h : Guard) → IsTwin g h → can_compact h ≡ can_compact g
+can_twin g h t = ap can_compact (as_twin g h t)
+
 pub compacts_one_decided : (k : ℕ) (hs hs' ks ks' : Heaps) → AreTwins hs hs' → (r r' : Bool) → CompactsOne k hs ks r → CompactsOne k hs' ks' r' → (r ≡ r') × AreTwins ks ks'
-compacts_one_decided k hs hs' ks ks' t false false x y = (refl, same_twins hs hs' ks ks' t (x.same refl) (y.same refl))
-compacts_one_decided k hs hs' ks ks' t true false x y = absurd (let e : false ≡ true = y.done.1 (some_twins hs hs' t k ∙ x.done.0 refl) in cc)
-compacts_one_decided k hs hs' ks ks' t false true x y = absurd (let e : false ≡ true = x.done.1 (sym (some_twins hs hs' t k) ∙ y.done.0 refl) in cc)
-compacts_one_decided k hs hs' ks ks' t true true x y =
-    let a = x.step refl in
-    let b = y.step refl in
-    let before = before_twins k CompactsIn CompactsIn hs hs' ks ks' t a b in
-    let after = compacts_decided a.before.space b.before.space a.after.space b.after.space before.space a.by.step b.by.step in
-    (refl, alters_twins k CompactsIn CompactsIn hs hs' ks ks' t a b (slid_twins a.before b.before a.after b.after before a.by.serials b.by.serials a.by.sizes after))
+compacts_one_decided k hs hs' ks ks' t r r' x y =
+    (x.done ∙ sym (option_twin can_compact_in (heap_at k hs) (heap_at k hs') can_twin (t.heaps k)) ∙ sym y.done, go (heap_at k hs) refl)
+  where
+    go : (o : Option Guard) → heap_at k hs ≡ o → AreTwins ks ks'
+    go None e = same_twins hs hs' ks ks' t (x.none e) (y.none (none_twins hs hs' t k e))
+    go (Some g) e =
+        let a = x.step (ap is_some e) in
+        let b = y.step (some_twins hs hs' t k ∙ ap is_some e) in
+        let before = before_twins k CompactsIn CompactsIn hs hs' ks ks' t a b in
+        alters_twins k CompactsIn CompactsIn hs hs' ks ks' t a b (compact_twins a.before b.before a.after b.after before a.by b.by)
 
 compacted_twins : (o o' p p' : Option Guard) → IsTwinIn o o' → CompactsSlot o p → CompactsSlot o' p' → IsTwinIn p p'
 compacted_twins None o' p p' twin f f' =
@@ -184,20 +201,61 @@ compacted_twins None o' p p' twin f f' =
     subst (λ p. IsTwinIn p p') (sym f) none
 compacted_twins (Some g) o' p p' twin f f' =
     let k : CompactsSlot (Some twin.0) p' = subst (λ o. CompactsSlot o p') twin.1 f' in
-    let after = compacts_decided g.space twin.0.space f.0.space k.0.space twin.2.space f.2.step k.2.step in
-    twin_some f.0 k.0 p p' f.1 k.1 (slid_twins g twin.0 f.0 k.0 twin.2 f.2.serials k.2.serials f.2.sizes after)
+    twin_some f.0 k.0 p p' f.1 k.1 (compact_twins g twin.0 f.0 k.0 twin.2 f.2 k.2)
 
-pub compacts_all_decided : (hs hs' ks ks' : Heaps) → AreTwins hs hs' → CompactsAll hs ks → CompactsAll hs' ks' → AreTwins ks ks'
-compacts_all_decided hs hs' ks ks' t x y = record {
+compacts_all_twins : (hs hs' ks ks' : Heaps) → AreTwins hs hs' → CompactsAll hs ks → CompactsAll hs' ks' → AreTwins ks ks'
+compacts_all_twins hs hs' ks ks' t x y = record {
   limits = ap (λ (h : Heaps). h.limits) y.rest ∙ t.limits ∙ sym (ap (λ (h : Heaps). h.limits) x.rest);
   made = ap (λ (h : Heaps). h.made) y.rest ∙ t.made ∙ sym (ap (λ (h : Heaps). h.made) x.rest);
   realm = ap (λ (h : Heaps). h.realm) y.rest ∙ t.realm ∙ sym (ap (λ (h : Heaps). h.realm) x.rest);
   heaps = λ k. compacted_twins (heap_at k hs) (heap_at k hs') (heap_at k ks) (heap_at k ks') (t.heaps k) (x.heaps k) (y.heaps k);
 }
 
-pub room_decided : (k size : ℕ) (hs hs' ks ks' : Heaps) → state.IsWellFormed hs → AreTwins hs hs' → (r r' : Option RoomCost) → MakesRoomOne k size hs ks r → MakesRoomOne k size hs' ks' r' → (r ≡ r') × AreTwins ks ks'
-room_decided k size hs hs' ks ks' is t r r' x y = go (heap_at k hs) refl
+compactible_twin : (o p : Option Guard) → IsTwinIn o p → IsCompactible o → IsCompactible p
+compactible_twin None p t c = subst IsCompactible (sym t) tt
+compactible_twin (Some g) p t c = subst IsCompactible (sym t.1) (can_twin g t.0 t.2 ∙ c)
+
+pub compacts_all_decided : (hs hs' ks ks' : Heaps) → AreTwins hs hs' → (r r' : Bool) → CompactsEach hs ks r → CompactsEach hs' ks' r' → (r ≡ r') × AreTwins ks ks'
+compacts_all_decided hs hs' ks ks' t r r' x y = (one r r' x.done y.done, compacts_all_twins hs hs' ks ks' t x.step y.step)
   where
+    All : Heaps → Type 0
+    All h = (k : ℕ) → IsCompactible (heap_at k h)
+
+    there : All hs → All hs'
+    there all k = compactible_twin (heap_at k hs) (heap_at k hs') (t.heaps k) (all k)
+
+    back : All hs' → All hs
+    back all k = compactible_twin (heap_at k hs') (heap_at k hs) ((twins_sym hs hs' t).heaps k) (all k)
+
+    one : (r r' : Bool) → IsTrue r ↔ All hs → IsTrue r' ↔ All hs' → r ≡ r'
+    one true true f k = refl
+    one false false f k = refl
+    one true false f k = absurd (let e : false ≡ true = k.1 (there (f.0 refl)) in cc)
+    one false true f k = absurd (let e : false ≡ true = f.1 (back (k.0 refl)) in cc)
+
+pub room_decided : (k size align : ℕ) (hs hs' ks ks' : Heaps) → state.IsWellFormed hs → AreTwins hs hs' → (r r' : Option RoomCost) → MakesRoomOne k size align hs ks r → MakesRoomOne k size align hs' ks' r' → (r ≡ r') × AreTwins ks ks'
+room_decided k size align hs hs' ks ks' is t r r' x y = go (heap_at k hs) refl
+  where
+    want : ℕ
+    want = value (up (units_needed size align))
+
+    blocks : ℕ
+    blocks = blocks_needed align
+
+    made : (g g' h h' : Guard) (xs xs' : List Move) → IsWellFormed g.space → IsTwin g g' → MakesRoomIn Notes size align [] r xs g h → MakesRoomIn Notes size align [] r' xs' g' h' → (r ≡ r') × IsTwin h h'
+    made g g' h h' xs xs' known twin m n = elim (cases_lt 0 g.step) [
+      | inl some ↦
+          let some' : 1 ≤ g'.step = omega (arith, some, twin.step) in
+          let one = noted_by_decided g.step want blocks g.space g'.space h.space h'.space known twin.space r r' xs xs' (m.cost some)
+          (subst (λ s. IsLeastCostBy s want (names_short blocks g'.space) g'.space.blocks r') twin.step (n.cost some')) (m.step some)
+          (subst (λ s. MakesRoomBy Notes s want (names_short blocks g'.space) g'.space [] r' h'.space xs') twin.step (n.step some')) in
+          (one.0, slid_twins g g' h h' twin m.serials n.serials m.sizes one.2)
+      | inr lack ↦
+          let e = m.none (omega (arith, lack)) in
+          let f = n.none (omega (arith, lack, twin.step)) in
+          (e.0 ∙ sym f.0, subst₂ IsTwin (sym e.1) (sym f.1) twin)
+    ]
+
     go : (o : Option Guard) → heap_at k hs ≡ o → (r ≡ r') × AreTwins ks ks'
     go None e =
         let a = x.none e in
@@ -206,13 +264,13 @@ room_decided k size hs hs' ks ks' is t r r' x y = go (heap_at k hs) refl
     go (Some g) e =
         let m = x.step (ap is_some e) in
         let n = y.step (some_twins hs hs' t k ∙ ap is_some e) in
-        let P = MakesRoomIn Notes size [] r m.0 in
-        let Q = MakesRoomIn Notes size [] r' n.0 in
+        let P = MakesRoomIn Notes size align [] r m.0 in
+        let Q = MakesRoomIn Notes size align [] r' n.0 in
         let a = m.1 in
         let b = n.1 in
         let before = before_twins k P Q hs hs' ks ks' t a b in
-        let one = noted_decided (value (up size)) a.before.space b.before.space a.after.space b.after.space (known_at hs (known hs is) k a.before a.heap) before.space r r' m.0 n.0 a.by.cost b.by.cost a.by.step b.by.step in
-        (one.0, alters_twins k P Q hs hs' ks ks' t a b (slid_twins a.before b.before a.after b.after before a.by.serials b.by.serials a.by.sizes one.2))
+        let one = made a.before b.before a.after b.after m.0 n.0 (known_at hs (known hs is) k a.before a.heap) before a.by b.by in
+        (one.0, alters_twins k P Q hs hs' ks ks' t a b one.1)
 
 -- ---- second ranges
 module _ (p : Place) (hs ks : Heaps) (t : AreTwins hs ks) where
@@ -244,6 +302,31 @@ relocates_decided p align hs hs' ks ks' is t (Some g) (Some h) x y =
     let all = grants_decided (size_of p hs) align hs hs' ks ks' g h (λ e. absurd (let new : false ≡ true = sym x.found ∙ e in cc)) (known hs is) t number (x.found ∙ sym y.found) x.grants
     (subst (λ n. Grants n align hs' ks' h) (size_twins p hs hs' t) y.grants) in
     (ap Some all.0, all.1)
+
+-- at what the range has in common with the step of its heap
+step_twins : (k : ℕ) (hs hs' : Heaps) → AreTwins hs hs' → step_at k hs' ≡ step_at k hs
+step_twins k hs hs' t = option_twin (part step_of) (heap_at k hs) (heap_at k hs') (λ g h u. u.step) (t.heaps k)
+
+own_twins : (p : Place) (align : ℕ) (hs hs' : Heaps) → AreTwins hs hs' → IsOwnAlign p hs' align → IsOwnAlign p hs align
+own_twins p align hs hs' t own = subst₂ (λ (n s : ℕ). IsGcd n s align) (ap offset_in (range_twins hs hs' t p)) (step_twins p.heap hs hs' t) own
+
+pub relocates_own_decided : (p : Place) (hs hs' ks ks' : Heaps) → state.IsWellFormed hs → AreTwins hs hs' → (r r' : Option Granted) → RelocatesOwn p hs ks r → RelocatesOwn p hs' ks' r' → (r ≡ r') × AreTwins ks ks'
+relocates_own_decided p hs hs' ks ks' is t r r' x y = elim (cases_lt 0 (step_at p.heap hs)) [
+  | inr lack ↦ stays (x.none (omega (arith, lack))) (y.none (omega (arith, lack, step_twins p.heap hs hs' t)))
+  | inl some ↦ elim (cases_Bool (is_some (range_of p hs))) [
+    | inr dead ↦
+        stays (x.not_live (λ live. absurd (let e : true ≡ false = sym live ∙ dead in cc)))
+        (y.not_live (λ live. absurd (let e : true ≡ false = sym live ∙ ap is_some (range_twins hs hs' t p) ∙ dead in cc)))
+    | inl live ↦
+        let a = x.step live some in
+        let b = y.step (ap is_some (range_twins hs hs' t p) ∙ live) (omega (arith, some, step_twins p.heap hs hs' t)) in
+        let one : b.0 ≡ a.0 = same_from_IsGcd (offset_of p hs) (step_at p.heap hs) b.0 a.0 (own_twins p b.0 hs hs' t b.1) a.1 in
+        relocates_decided p a.0 hs hs' ks ks' is t r r' a.2 (subst (λ n. Relocates p n hs' ks' r') one b.2)
+  ]
+]
+  where
+    stays : r ≡ None → r' ≡ None → (r ≡ r') × AreTwins ks ks'
+    stays e f = (e ∙ sym f, same_twins hs hs' ks ks' t (x.same e) (y.same f))
 
 -- ---- heaps that are dropped
 empty_twins : (hs ks : Heaps) → AreTwins hs ks → (k : ℕ) → is_empty (heap_at k ks) ≡ is_empty (heap_at k hs)
@@ -374,7 +457,8 @@ takes_decided (Allocate_tight size align) hs hs' ks ks' is t r r' x y m n =
     let e = tights_decided size align hs hs' ks ks' x.2 is t x.0 y.0 x.3 y.3 (λ q. m (inl (x.1 ∙ ap Requested q))) (λ q. n (inl (y.1 ∙ ap Requested q))) in
     (x.1 ∙ ap Requested e.0 ∙ sym y.1, e.1)
 takes_decided (Free p) hs hs' ks ks' is t r r' x y m n = let e = free_decided p hs hs' ks ks' is t x.0 y.0 x.2 y.2 in (x.1 ∙ ap Was_done e.0 ∙ sym y.1, e.1)
-takes_decided (Relocate p align) hs hs' ks ks' is t r r' x y m n = let e = relocates_decided p align hs hs' ks ks' is t x.0 y.0 x.2 y.2 in (x.1 ∙ ap Second e.0 ∙ sym y.1, e.1)
+takes_decided (Relocate p) hs hs' ks ks' is t r r' x y m n = let e = relocates_own_decided p hs hs' ks ks' is t x.0 y.0 x.2 y.2 in (x.1 ∙ ap Second e.0 ∙ sym y.1, e.1)
+takes_decided (Relocate_aligned p align) hs hs' ks ks' is t r r' x y m n = let e = relocates_decided p align hs hs' ks ks' is t x.0 y.0 x.2 y.2 in (x.1 ∙ ap Second e.0 ∙ sym y.1, e.1)
 takes_decided (Drop_empty keep) hs hs' ks ks' is t r r' x y m n = let e = drops_empty_decided keep hs hs' ks ks' t x.0 y.0 x.2 y.2 in (x.1 ∙ ap Dropped e.0 ∙ sym y.1, e.1)
 takes_decided (Drop_heap k) hs hs' ks ks' is t r r' x y m n = let e = drops_decided k hs hs' ks ks' t x.0 y.0 x.2 y.2 in (x.1 ∙ ap Was_done e.0 ∙ sym y.1, e.1)
 takes_decided (Give_up k) hs hs' ks ks' is t r r' x y m n = let e = gives_up_decided k hs hs' ks ks' t x.0 y.0 x.2 y.2 in (x.1 ∙ ap Was_done e.0 ∙ sym y.1, e.1)
@@ -384,8 +468,8 @@ takes_decided (Extend_heap k more) hs hs' ks ks' is t r r' x y m n =
     let e = lengthens_decided k more hs hs' ks ks' is t x.0 y.0 x.2 y.2 (λ e q. m (inr (e, x.1 ∙ ap Extended q))) (λ e q. n (inr (e, y.1 ∙ ap Extended q))) in
     (x.1 ∙ ap Extended e.0 ∙ sym y.1, e.1)
 takes_decided (Compact_heap k) hs hs' ks ks' is t r r' x y m n = let e = compacts_one_decided k hs hs' ks ks' t x.0 y.0 x.2 y.2 in (x.1 ∙ ap Was_done e.0 ∙ sym y.1, e.1)
-takes_decided Compact_all hs hs' ks ks' is t r r' x y m n = (x.0 ∙ sym y.0, compacts_all_decided hs hs' ks ks' t x.1 y.1)
-takes_decided (Make_room k size) hs hs' ks ks' is t r r' x y m n = let e = room_decided k size hs hs' ks ks' is t x.0 y.0 x.2 y.2 in (x.1 ∙ ap Room_made e.0 ∙ sym y.1, e.1)
+takes_decided Compact_all hs hs' ks ks' is t r r' x y m n = let e = compacts_all_decided hs hs' ks ks' t x.0 y.0 x.2 y.2 in (x.1 ∙ ap Was_done e.0 ∙ sym y.1, e.1)
+takes_decided (Make_room k size align) hs hs' ks ks' is t r r' x y m n = let e = room_decided k size align hs hs' ks ks' is t x.0 y.0 x.2 y.2 in (x.1 ∙ ap Room_made e.0 ∙ sym y.1, e.1)
 
 pub taken_decided : (cs : List Call) (hs hs' ks ks' : Heaps) → state.IsWellFormed hs → AreTwins hs hs' → (rs rs' : List Reply) → TakesAll hs cs rs ks → TakesAll hs' cs rs' ks' → (rs ≡ rs') × AreTwins ks ks'
 taken_decided [] hs hs' ks ks' is t [] [] x y = (refl, subst₂ AreTwins (sym x) (sym y) t)
@@ -405,6 +489,7 @@ quiet_twin g h e = record {
   serials = λ x l. ap (λ (z : Guard). serial_of x z) e;
   given = ap (λ (z : Guard). z.given) e;
   realm = ap (λ (z : Guard). z.realm) e;
+  step = ap (λ (z : Guard). z.step) e;
 }
 
 quiet_twins : (o p : Option Guard) → quiet p ≡ quiet o → IsTwinIn o p

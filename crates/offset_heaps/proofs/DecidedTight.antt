@@ -74,7 +74,7 @@ module _ (size align : ℕ) (hs hs' ks ks' : Heaps) (grant grant' : Granted) (is
   ticket = same_ticket size s.before s'.before s.after s'.after (ticket_in grant) (ticket_in grant') before s.grants s'.grants step
 
   after : IsTwin s.after s'.after
-  after = grant_twins size s.before s'.before s.after s'.after (ticket_in grant) (ticket_in grant') before s.grants s'.grants step
+  after = grant_twins size s.before s'.before s.after s'.after (ticket_in grant) (ticket_in grant') before s.grants s'.grants step align s.joined s'.joined
 
   filled_decided : (grant ≡ grant') × AreTwins ks ks'
   filled_decided = (

@@ -5,6 +5,8 @@ use Rattle.std.proofs.lemmas.Bool.{cases_Bool, cases_lt}
 use Rattle.offset_allocator.specs.Requests.{blocks_needed, units_needed}
 use Rattle.offset_guarded.specs.Guard.{Guard, Ticket}
 use Rattle.offset_guarded.specs.Guard as guarded
+use Rattle.offset_guarded.specs.Step.{IsJoined}
+use Rattle.std.proofs.Math.Nat.{dvd_trans, one-dvd}
 use Rattle.offset_heaps.specs.declared.limits.Limits.{Limits}
 use Rattle.offset_heaps.specs.declared.place.Granted.{Granted}
 use Rattle.offset_heaps.specs.declared.refusal.Refusal.{Refusal}
@@ -20,7 +22,7 @@ abbrev pub grant_at : ℕ → ℕ → Ticket → Granted
 grant_at number realm ticket = record { place = place_of number realm ticket; offset = ticket.offset; is_new = false }
 
 pub granted_at : (slots now : List (Option Guard)) (limits : Limits) (made realm before after number size align : ℕ) (ticket : Ticket) → number < length slots
-    → (MustRaiseIn limits number (blocks_needed align) (slot number slots) → ⊥) → Changes number (λ o p. GrantsIn size align o p ticket) slots now
+    → (MustRaiseIn limits number (blocks_needed align) (slot number slots) → ⊥) → Changes number (λ o p. GrantsIn size align align o p ticket) slots now
     → Grants size align (shown slots limits made realm before) (shown now limits made realm after) (grant_at number realm ticket)
 granted_at slots now limits made realm before after number size align ticket there stays change =
     let by = change.by in
@@ -30,6 +32,7 @@ granted_at slots now limits made realm before after number size align ticket the
       heap = inl (refl, (by.before, by.was, inr (λ must. stays (must_in limits number (blocks_needed align) (slot number slots) by.before by.was must), refl)));
       step = inl (λ new. absurd (cc), by.step, by.accesses);
       grants = by.grants;
+      joined = by.joined;
       realm = refl;
       number = there;
       heaps = ap (λ s. shown s limits made realm after) (change.slots ∙ ap (slice_set slots number) by.is);
@@ -41,7 +44,7 @@ module _ (hs ks : Heaps) (number size align : ℕ) (o : Option Guard) (ticket : 
   grant = record { place = place_of number hs.realm ticket; offset = ticket.offset; is_new = true }
 
   pub granted_usual : (g : Guard) → IsSpareUsual size number hs → IsUsual size hs → IsNew (usual_size hs.limits number) hs.limits.first_allocs (hs.made + 1) g
-      → GrantsIn size 1 (Some g) o ticket → Grants size align hs ks grant
+      → GrantsIn size 1 align (Some g) o ticket → Grants size align hs ks grant
   granted_usual g spare usual new by =
       record {
         before = by.before;
@@ -49,13 +52,14 @@ module _ (hs ks : Heaps) (number size align : ℕ) (o : Option Guard) (ticket : 
         heap = inr (refl, spare.1, inl (usual, subst (IsNew (usual_size hs.limits number) hs.limits.first_allocs (hs.made + 1)) (some_same g by.before by.was) new));
         step = inl (λ new. usual, by.step, by.accesses);
         grants = by.grants;
+        joined = by.joined;
         realm = refl;
         number = there;
         heaps = subst (λ o. Adds number o hs ks) by.is adds;
       }
 
   pub granted_larger : (g : Guard) → IsSpareLarger number hs → (IsUsual size hs → ⊥) → IsNew size larger_limit (hs.made + 1) g
-      → GrantsTightIn size (Some g) o ticket → Grants size align hs ks grant
+      → GrantsTightIn size align (Some g) o ticket → Grants size align hs ks grant
   granted_larger g spare unusual new by =
       record {
         before = by.before;
@@ -63,6 +67,7 @@ module _ (hs ks : Heaps) (number size align : ℕ) (o : Option Guard) (ticket : 
         heap = inr (refl, spare.2, inr (unusual, subst (IsNew size larger_limit (hs.made + 1)) (some_same g by.before by.was) new));
         step = inr (refl, unusual, by.step, by.accesses);
         grants = by.grants;
+        joined = by.joined;
         realm = refl;
         number = there;
         heaps = subst (λ o. Adds number o hs ks) by.is adds;
@@ -93,6 +98,7 @@ module _ (hs between ks : Heaps) (size align number : ℕ) (grant : Granted) (th
         heap = heap g;
         step = g.step;
         grants = g.grants;
+        joined = g.joined;
         realm = g.realm;
         number = subst (λ k. k < length hs.slots) (sym at) there;
         heaps = g.heaps ∙ ap (λ (s : List (Option Guard)). record hs { slots = s; made = (if grant.is_new then hs.made + 1 else hs.made); accesses = ks.accesses }) (again g.after);
@@ -117,7 +123,7 @@ module _ (hs between ks : Heaps) (size align number : ℕ) (grant : Granted) (th
 pub granted_since : (size align : ℕ) (hs ks ls : Heaps) (grant : Granted) → IsSame hs ks → Grants size align ks ls grant → Grants size align hs ls grant
 granted_since size align hs ks ls grant same g =
     let h : Grants size align (record hs { accesses = ks.accesses }) ls grant = subst (λ (k : Heaps). Grants size align k ls grant) same g in
-    record { before = h.before; after = h.after; heap = h.heap; step = h.step; grants = h.grants; realm = h.realm; number = h.number; heaps = h.heaps }
+    record { before = h.before; after = h.after; heap = h.heap; step = h.step; grants = h.grants; joined = h.joined; realm = h.realm; number = h.number; heaps = h.heaps }
 
 pub granted_if_since : (size align : ℕ) (hs ks ls : Heaps) (r : Result Granted Refusal) → IsSame hs ks → IfOk r (Grants size align ks ls) → IfOk r (Grants size align hs ls)
 granted_if_since size align hs ks ls (Ok grant) same g = granted_since size align hs ks ls grant same g
@@ -269,3 +275,18 @@ plain size = omega arith
 pub others_if : (size align : ℕ) (hs ks : Heaps) (r : Result Granted Refusal) → IfOk r (Grants size align hs ks) → IfOk r (λ g. KeepsOthers g.place hs ks)
 others_if size align hs ks (Ok grant) g = others_kept size align hs ks grant g
 others_if size align hs ks (Err why) g = tt
+
+-- ---- the first grant of a heap
+-- an alignment is taken in after 1
+pub joined_one : (s m align n : ℕ) → IsJoined s 1 m → IsJoined m align n → IsJoined s align n
+joined_one s m align n p q = record {
+  fits = q.fits;
+  first = dvd_trans s p.first q.first;
+  second = q.second;
+  least = λ k few a b. q.least k few (p.least k few a (one-dvd k)) b;
+}
+
+-- a grant is one with another step too
+pub restepped : (n : ℕ) (g m h : Guard) (t : Ticket) → guarded.Grants n g m t → h ≡ record m { step = h.step } → guarded.Grants n g h t
+restepped n g m h t s e = subst (λ (z : Guard). guarded.Grants n g z t) (sym e)
+    (record { serial = s.serial; given = s.given; realm = s.realm; serials = s.serials; not_live = s.not_live; range = s.range; space = s.space; others = s.others })

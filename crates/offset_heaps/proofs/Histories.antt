@@ -9,6 +9,7 @@ use Rattle.offset_heaps.specs.declared.place.Granted.{Granted}
 use Rattle.offset_heaps.specs.Places.{Place, ticket_of}
 use Rattle.offset_heaps.specs.Heaps.{Heaps, FreesIn, Grants, IsBefore, IsLive, IsSame, Puts, heap_at, range_in, range_of, slot}
 use Rattle.offset_heaps.specs.{Changing.CompactsAll, Changing.CompactsSlot, Histories.AreSteps, Histories.IsGone, Histories.IsStep, Histories.Keeps, Histories.ResetsAll, Slots.ResetsIn}
+use Rattle.offset_heaps.specs.Tight.{GrantsTight}
 use Rattle.offset_heaps.proofs.Raising.{raised_realm}
 use Rattle.offset_heaps.proofs.{Numbers.slot_other, Numbers.slot_past, Numbers.slot_same, Numbers.slot_set, Places.none_if}
 
@@ -70,8 +71,19 @@ alter_keeps p k hs ks f gone = record {
   made = subst (λ n. p.heap_realm ≤ n) (sym (ap (λ (h : Heaps). h.made) f.heaps)) gone.made;
   other = subst (λ s. Lacks p.heap_realm (slot p.heap s)) (sym (ap (λ (h : Heaps). h.slots) f.heaps)) (elim (cases_lt k (length hs.slots)) [
     | inl there ↦ put_lacks p.heap_realm k p.heap hs.slots (Some f.after) there gone.other
-        (λ e. same_realm p.heap_realm (heap_at p.heap hs) f.before f.after (ap (λ k. heap_at k hs) e ∙ f.heap) f.by gone.other)
+        (λ e. same_realm p.heap_realm (heap_at p.heap hs) f.before f.after (ap (λ k. heap_at k hs) e ∙ f.heap) f.by.realm gone.other)
     | inr past ↦ absurd (let none : slot k hs.slots ≡ None = slot_past hs.slots k past in let some = f.heap in cc)
+  ]);
+}
+
+tight_keeps : (p : Place) (size align : ℕ) (hs ks : Heaps) (grant : Granted) → GrantsTight size align hs ks grant → IsGone p hs → IsGone p ks
+tight_keeps p size align hs ks grant f gone = record {
+  made = subst (λ n. p.heap_realm ≤ n) (sym (ap (λ (h : Heaps). h.made) f.heaps)) gone.made;
+  other = subst (λ s. Lacks p.heap_realm (slot p.heap s)) (sym (ap (λ (h : Heaps). h.slots) f.heaps)) (elim (cases_lt grant.place.heap (length hs.slots)) [
+    | inl there ↦ put_lacks p.heap_realm grant.place.heap p.heap hs.slots (Some f.after) there gone.other
+        (λ e. same_realm p.heap_realm (heap_at p.heap hs) f.was f.after (ap (λ k. heap_at k hs) e ∙ f.heap)
+        (f.grants.realm.1 ∙ raised_realm hs.limits grant.place.heap (blocks_needed align) f.was f.before f.raised) gone.other)
+    | inr past ↦ absurd (let none : slot grant.place.heap hs.slots ≡ None = slot_past hs.slots grant.place.heap past in let some = f.heap in cc)
   ]);
 }
 
@@ -116,7 +128,8 @@ stays_gone p hs ks gone (inr (inr (inl free))) = free_keeps p free.0 hs ks free.
 stays_gone p hs ks gone (inr (inr (inr (inl drop)))) = drop_keeps p drop.0 hs ks drop.1 gone
 stays_gone p hs ks gone (inr (inr (inr (inr (inl reset))))) = reset_keeps p hs ks reset gone
 stays_gone p hs ks gone (inr (inr (inr (inr (inr (inl alter)))))) = alter_keeps p alter.0 hs ks alter.1 gone
-stays_gone p hs ks gone (inr (inr (inr (inr (inr (inr compacts)))))) = compact_keeps p hs ks compacts gone
+stays_gone p hs ks gone (inr (inr (inr (inr (inr (inr (inl compacts))))))) = compact_keeps p hs ks compacts gone
+stays_gone p hs ks gone (inr (inr (inr (inr (inr (inr (inr tight))))))) = tight_keeps p tight.0 tight.1 hs ks tight.2 tight.3 gone
 
 -- no place of it is live
 gone_range : (p : Place) (o : Option Guard) → Lacks p.heap_realm o → range_in (ticket_of p) o ≡ None

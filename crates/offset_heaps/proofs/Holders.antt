@@ -51,6 +51,7 @@ filled_at slots now limits made realm before after number size align ticket ther
       raised = inr (λ must. stays (must_in limits number (blocks_needed align) (slot number slots) by.before by.was must), refl);
       step = by.step;
       grants = by.grants;
+      joined = by.joined;
       accesses = by.accesses;
       realm = refl;
       heaps = ap (λ s. shown s limits made realm after) (change.slots ∙ ap (slice_set slots number) by.is);
@@ -74,6 +75,7 @@ filled_raised hs between ks size align number grant there change rest none at gi
       raised = subst (λ k. IsRaisedAsNeeded hs.limits k (blocks_needed align) w.0 g.before) (sym at) w.2;
       step = g.step;
       grants = g.grants;
+      joined = g.joined;
       accesses = g.accesses;
       realm = g.realm;
       heaps = g.heaps ∙ ap (λ (s : List (Option Guard)). record hs { slots = s; accesses = ks.accesses })
@@ -85,7 +87,7 @@ filled_raised hs between ks size align number grant there change rest none at gi
 pub filled_since : (size align : ℕ) (hs ks ls : Heaps) (grant : Granted) → IsSame hs ks → GrantsTight size align ks ls grant → GrantsTight size align hs ls grant
 filled_since size align hs ks ls grant same g =
     let h : GrantsTight size align (record hs { accesses = ks.accesses }) ls grant = subst (λ (k : Heaps). GrantsTight size align k ls grant) same g in
-    record { was = h.was; before = h.before; after = h.after; heap = h.heap; raised = h.raised; step = h.step; grants = h.grants; accesses = h.accesses; realm = h.realm; heaps = h.heaps }
+    record { was = h.was; before = h.before; after = h.after; heap = h.heap; raised = h.raised; step = h.step; grants = h.grants; joined = h.joined; accesses = h.accesses; realm = h.realm; heaps = h.heaps }
 
 pub filled_if_since : (size align : ℕ) (hs ks ls : Heaps) (r : Result Granted Refusal) → IsSame hs ks → IfOk r (GrantsTight size align ks ls)
     → IfOk r (λ g. g.is_new ≡ false → GrantsTight size align hs ls g)

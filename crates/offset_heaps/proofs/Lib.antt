@@ -1,3 +1,4 @@
+pub mod Alignments
 pub mod Along
 pub mod Changes
 pub mod Compacted

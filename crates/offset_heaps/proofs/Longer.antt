@@ -166,7 +166,7 @@ realm_longer limits k more false g h e = e.1.realm
 
 -- every ticket keeps its range, and where it is not done, every later call returns the same for both heaps
 pub twin_same : (g h : Guard) → guarded.IsSame g h → IsTwin g h
-twin_same g h s = record { space = s.0; serials = λ x live. s.1.cells x; given = s.1.given; realm = s.1.realm }
+twin_same g h s = record { space = s.0; serials = λ x live. s.1.cells x; given = s.1.given; realm = s.1.realm; step = s.1.step }
 
 pub range_longer : (limits : Limits) (k more : ℕ) (done : Bool) (g h : Guard) → ExtendsIf limits k more done g h → guarded.KeepsAll g h
 range_longer limits k more true g h e = e.kept

@@ -85,6 +85,8 @@ module _ (p : Place) (hs ks : Heaps) (l : p.heap < length hs.slots) (change : Ch
     after = by.after;
     heap = by.was;
     step = by.step;
+    gone = by.gone;
+    others = by.others;
     serials = by.serials;
     accesses = by.accesses;
     heaps = subst (λ o. Puts p.heap o hs ks) by.is puts;

@@ -1,13 +1,18 @@
 -- The first heap that takes a range of another one.
-use Rattle.std.proofs.Common.{◌≡◌, ℕ, ◌<◌, ◌≤◌, length, List, max, Option, Some, None, IfSome, IsSome, MatchOption, sym, ap, ◌∙◌, subst, inl, inr, arith}
+use Rattle.std.proofs.Common.{◌≡◌, ℕ, ◌%◌, ◌<◌, ◌≤◌, length, List, max, Option, Some, None, IfSome, IsSome, MatchOption, refl, sym, ap, ◌∙◌, subst, inl, inr, arith}
 use Rattle.std.proofs.lemmas.Bool.{cases_lt}
 use Rattle.offset_allocator.specs.Requests.{blocks_needed, units_needed}
 use Rattle.offset_guarded.specs.Guard.{Guard}
 use Rattle.offset_heaps.specs.declared.limits.Limits.{Limits}
 use Rattle.offset_heaps.specs.Places.{Place, ticket_of}
-use Rattle.offset_heaps.specs.Heaps.{Heaps, heap_at, live_units_of, part, range_in, room_of, slot}
-use Rattle.offset_heaps.specs.Relocating.{TakesUnits, TakesRange, live_units_at, units_in, size_of}
-use Rattle.offset_heaps.proofs.{Numbers.room_there, Places.same_realm}
+use Rattle.offset_heaps.specs.Heaps.{Heaps, Grants, IsSame, heap_at, live_units_of, part, range_in, room_of, slot, step_at, step_of}
+use Rattle.offset_heaps.specs.declared.place.Granted.{Granted}
+use Rattle.offset_heaps.specs.Calls.{Relocates}
+use Rattle.offset_allocator.specs.Ranges.{Range}
+use Rattle.std.proofs.Math.Nat.{dvd_of_mod-eq-zero, dvd_trans}
+use Rattle.std.specs.Int.{◌∣◌, IsGcd}
+use Rattle.offset_heaps.specs.Relocating.{IsOwnAlign, TakesUnits, TakesRange, live_units_at, offset_in, offset_of, units_in, size_of}
+use Rattle.offset_heaps.proofs.{Grants.granted_since, Numbers.room_there, Numbers.slot_same, Places.same_realm}
 
 -- before the first heap that has room, and behind the last number, none takes a range
 pub all_takers : (limits : Limits) (own size align live from count : ℕ) (slots : List (Option Guard)) (r : Option ℕ) → length slots ≡ count
@@ -46,3 +51,32 @@ module _ (p : Place) (align : ℕ) (hs : Heaps) (size live : ℕ) (here : p.real
 
   pub takes_units : (k : ℕ) → TakesRange p align hs k → TakesUnits hs.limits p.heap size align live hs.slots k
   takes_units k t = subst (λ n. TakesUnits hs.limits p.heap n align live hs.slots k) (sym size_here) (subst (λ n. TakesUnits hs.limits p.heap (size_of p hs) align n hs.slots k) (sym l) t.1)
+
+-- ---- at the alignment that the range has
+pub own_here : (p : Place) (hs : Heaps) (d : Option ℕ) → p.realm ≡ hs.realm → IfSome d (IsGcd (offset_in (range_in (ticket_of p) (heap_at p.heap hs))) (part step_of (heap_at p.heap hs))) → IfSome d (IsOwnAlign p hs)
+own_here p hs d here own = subst (λ (o : Option Range). IfSome d (IsGcd (offset_in o) (step_at p.heap hs))) (sym (same_realm p hs here)) own
+
+grants_since : (n align : ℕ) (hs ks ls : Heaps) (r : Option Granted) → IsSame hs ks → IfSome r (Grants n align ks ls) → IfSome r (Grants n align hs ls)
+grants_since n align hs ks ls None same g = tt
+grants_since n align hs ks ls (Some grant) same g = granted_since n align hs ks ls grant same g
+
+-- a count of accesses changes nothing of it
+pub relocates_since : (p : Place) (align : ℕ) (hs ks ls : Heaps) (r : Option Granted) → IsSame hs ks → Relocates p align ks ls r → Relocates p align hs ls r
+relocates_since p align hs ks ls r same f =
+    let g : Relocates p align (record hs { accesses = ks.accesses }) ls r = subst (λ (k : Heaps). Relocates p align k ls r) same f in
+    record {
+      none = g.none;
+      same = g.same;
+      first = g.first;
+      found = g.found;
+      grants = grants_since (size_of p hs) align hs (record hs { accesses = ks.accesses }) ls r refl g.grants;
+    }
+
+-- each alignment of the first range that divides the step of its heap is one of the second
+pub relocated_aligned : (p : Place) (align : ℕ) (hs ls : Heaps) (n : ℕ) (r : Option Granted) → IsOwnAlign p hs align → IfSome r (λ g. g.offset % align ≡ 0) → IfSome r (Grants n align hs ls)
+    → IfSome r (λ g. (a : ℕ) → a ∣ step_at p.heap hs → a ∣ offset_of p hs → (a ∣ g.offset) × (a ∣ step_at g.place.heap ls))
+relocated_aligned p align hs ls n None own begins g = tt
+relocated_aligned p align hs ls n (Some grant) own begins g = λ a d o.
+    let divides : a ∣ align = own.2 a o d in
+    let now : heap_at grant.place.heap ls ≡ Some g.after = ap (λ (h : Heaps). slot grant.place.heap h.slots) g.heaps ∙ slot_same hs.slots grant.place.heap (Some g.after) g.number in
+    (dvd_trans a divides (dvd_of_mod-eq-zero align begins), subst (λ o. a ∣ part step_of o) (sym now) (dvd_trans a divides g.joined.second))

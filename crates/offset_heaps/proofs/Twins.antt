@@ -8,7 +8,8 @@ use Rattle.offset_allocator.specs.Relations as space
 use Rattle.offset_allocator.proofs.{DecidedChanges.frees_decided, DecidedChanges.resets_decided, Ranges.frees_gone, Ranges.frees_others, Views.ViewTaken.well_frees}
 use Rattle.offset_guarded.specs.Guard.{Guard, Ticket, handle_in, serial_of}
 use Rattle.offset_guarded.specs.Guard as guarded
-use Rattle.offset_guarded.proofs.Guards.{live_fits}
+use Rattle.offset_guarded.specs.Step.{IsJoined}
+use Rattle.offset_guarded.proofs.{Divisors.one_joined, Guards.live_fits}
 use Rattle.offset_heaps.specs.Places.{Place, ticket_of}
 use Rattle.offset_heaps.specs.Heaps.{Heaps, heap_at, part, range_in, range_of, room, room_of, slot, total}
 use Rattle.offset_heaps.specs.{Slots.ResetsIn, Twins.AreTwins, Twins.IsTwin, Twins.IsTwinIn}
@@ -26,13 +27,14 @@ some_or None = inl refl
 some_or (Some r) = inr refl
 
 -- ---- one heap
-pub as_twin : (g h : Guard) → IsTwin g h → h ≡ record g { space = record g.space { accesses = h.space.accesses }; serials = h.serials; step = h.step }
+pub as_twin : (g h : Guard) → IsTwin g h → h ≡ record g { space = record g.space { accesses = h.space.accesses }; serials = h.serials }
 as_twin g h t =
     ap (λ (v : View). record h { space = v }) t.space
     ∙ ap₂ (λ (n r : ℕ). record h { space = record g.space { accesses = h.space.accesses }; given = n; realm = r }) t.given t.realm
+    ∙ ap (λ (s : ℕ). record g { space = record g.space { accesses = h.space.accesses }; serials = h.serials; step = s }) t.step
 
 pub own_twin : (g : Guard) → IsTwin g g
-own_twin g = record { space = refl; serials = λ x l. refl; given = refl; realm = refl }
+own_twin g = record { space = refl; serials = λ x l. refl; given = refl; realm = refl; step = refl }
 
 -- the ticket that a name has now
 abbrev ticket_now : ℕ → Guard → Ticket
@@ -50,6 +52,7 @@ twin_sym g h t = record {
   serials = λ x l. sym (t.serials x (live_state x g.space h.space t.space l));
   given = sym t.given;
   realm = sym t.realm;
+  step = sym t.step;
 }
 
 pub range_twin : (u : Ticket) (g h : Guard) → IsTwin g h → guarded.range_of u h ≡ guarded.range_of u g
@@ -102,12 +105,14 @@ module _ (n : ℕ) (g g' h h' : Guard) (t t' : Ticket) (twin : IsTwin g g') (s :
             ∙ sym (serial_kept n g h t s x d live)
       ]
 
-  pub grant_twins : IsTwin h h'
-  grant_twins = record {
+  -- both steps take one alignment in
+  pub grant_twins : (align : ℕ) → IsJoined g.step align h.step → IsJoined g'.step align h'.step → IsTwin h h'
+  grant_twins align j j' = record {
     space = same.1;
     serials = serials;
     given = s'.given ∙ sym serial ∙ sym s.given;
     realm = s'.realm.1 ∙ twin.realm ∙ sym s.realm.1;
+    step = one_joined g.step align h'.step h.step (subst (λ (n : ℕ). IsJoined n align h'.step) twin.step j') j;
   }
 
 -- ---- a release, and a reset
@@ -125,6 +130,7 @@ free_twins x g g' h h' known twin f f' e e' =
       ];
       given = ap (λ (z : Guard). z.given) e' ∙ twin.given ∙ sym (ap (λ (z : Guard). z.given) e);
       realm = ap (λ (z : Guard). z.realm) e' ∙ twin.realm ∙ sym (ap (λ (z : Guard). z.realm) e);
+      step = ap (λ (z : Guard). z.step) e' ∙ twin.step ∙ sym (ap (λ (z : Guard). z.step) e);
     }
 
 reset_one : (g g' h h' : Guard) → IsWellFormed g.space → IsTwin g g' → space.Resets g.space h.space → space.Resets g'.space h'.space → h ≡ record g { space = h.space; step = 1 }
@@ -134,6 +140,7 @@ reset_one g g' h h' known twin f f' e e' none = record {
   serials = λ y live. absurd (let o : Option Range = None in let gone : IsSome o = subst IsSome (sym (own_range y h) ∙ none (ticket_now y h)) live in cc);
   given = ap (λ (z : Guard). z.given) e' ∙ twin.given ∙ sym (ap (λ (z : Guard). z.given) e);
   realm = ap (λ (z : Guard). z.realm) e' ∙ twin.realm ∙ sym (ap (λ (z : Guard). z.realm) e);
+  step = ap (λ (z : Guard). z.step) e' ∙ sym (ap (λ (z : Guard). z.step) e);
 }
 
 -- ---- a change in place
@@ -144,6 +151,7 @@ kept_twins g g' h h' twin s s' kept same = record {
   serials = λ x live. s'.cells x ∙ twin.serials x (was x live) ∙ sym (s.cells x);
   given = s'.given ∙ twin.given ∙ sym s.given;
   realm = s'.realm ∙ twin.realm ∙ sym s.realm;
+  step = s'.step ∙ twin.step ∙ sym s.step;
 }
   where
     one_ticket : (x : ℕ) → ticket_now x h ≡ ticket_now x g
@@ -220,6 +228,7 @@ twin_trans g h i t u = record {
   serials = λ x live. u.serials x (subst IsSome (sym (ap (λ (z : View). named.range_of x z) t.space)) live) ∙ t.serials x live;
   given = u.given ∙ t.given;
   realm = u.realm ∙ t.realm;
+  step = u.step ∙ t.step;
 }
 
 twin_in_trans : (o p q : Option Guard) → IsTwinIn o p → IsTwinIn p q → IsTwinIn o q

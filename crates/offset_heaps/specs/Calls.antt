@@ -4,15 +4,15 @@ use Rattle.std.specs.declared.alloc.AllocError.{AllocError}
 use Rattle.offset_allocator.specs.Moving.Compacting.{Move}
 use Rattle.offset_allocator.specs.Requests.{blocks_needed, units_needed}
 use Rattle.offset_allocator.specs.declared.moves.room.RoomCost.{RoomCost}
-use Rattle.offset_heaps.specs.Changing.{CanResizeAt, CompactsAll, CompactsHeap, MakesRoomAt, ResizesAt, NewSize}
+use Rattle.offset_heaps.specs.Changing.{CanResizeAt, CompactsAll, CompactsHeap, IsCompactible, MakesRoomAt, ResizesAt, NewSize, can_compact_in}
 use Rattle.offset_heaps.specs.Extending.{CanExtendIn, ExtendsHeap}
 use Rattle.offset_heaps.specs.declared.place.Granted.{Granted}
 use Rattle.offset_heaps.specs.declared.refusal.Refusal.{Refusal}
 use Rattle.offset_heaps.specs.declared.refusal.Refusal.TheVariants.{Empty, Memory}
-use Rattle.offset_heaps.specs.Heaps.{Heaps, FreesIn, Grants, IsFirstFit, IsLive, IsNext, IsSame, IsWhy, NoneFits, Puts, empties, heap_at, is_empty}
+use Rattle.offset_heaps.specs.Heaps.{Heaps, FreesIn, Grants, IsFirstFit, IsLive, IsNext, IsSame, IsWhy, NoneFits, Puts, empties, heap_at, is_empty, step_at}
 use Rattle.offset_heaps.specs.Histories.{ResetsAll}
 use Rattle.offset_heaps.specs.Places.{Place}
-use Rattle.offset_heaps.specs.Relocating.{IsTaker, NoneTakes, size_of}
+use Rattle.offset_heaps.specs.Relocating.{IsOwnAlign, IsTaker, NoneTakes, size_of}
 use Rattle.offset_heaps.specs.State.{IsWellFormed}
 use Rattle.offset_heaps.specs.Tight.{GrantsTight, IsFirstHolding, IsWhyTight, NoneHolds}
 use Rattle.offset_heaps.specs.Twins.{AreTwins}
@@ -43,13 +43,20 @@ pub record Frees (p : Place) (hs ks : Heaps) (r : Bool) : Type 0 where
   pub same : r ≡ false → IsSame hs ks
   pub step : r ≡ true → FreesIn p hs ks
 
--- `relocate_aligned`, and with the alignment 1 `relocate`
+-- `relocate_aligned`
 pub record Relocates (p : Place) (align : ℕ) (hs ks : Heaps) (r : Option Granted) : Type 0 where
   pub none : r ≡ None ↔ NoneTakes p align hs
   pub same : r ≡ None → IsSame hs ks
   pub first : IfSome r (λ g. IsTaker p align hs g.place.heap)
   pub found : IfSome r (λ g. g.is_new ≡ false)
   pub grants : IfSome r (Grants (size_of p hs) align hs ks)
+
+-- `relocate`
+pub record RelocatesOwn (p : Place) (hs ks : Heaps) (r : Option Granted) : Type 0 where
+  pub not_live : (IsLive p hs → ⊥) → r ≡ None
+  pub none : step_at p.heap hs ≡ 0 → r ≡ None
+  pub same : r ≡ None → IsSame hs ks
+  pub step : IsLive p hs → 1 ≤ step_at p.heap hs → (align : ℕ) × IsOwnAlign p hs align × Relocates p align hs ks r
 
 -- a range goes to another heap: a second range is granted there, and the first one is freed
 pub record Goes (p q : Place) (hs ks : Heaps) : Type 0 where
@@ -102,18 +109,24 @@ pub record ExtendsOne (k more : ℕ) (hs ks : Heaps) (r : Result Bool AllocError
 
 -- `compact_heap`
 pub record CompactsOne (k : ℕ) (hs ks : Heaps) (r : Bool) : Type 0 where
-  pub done : IsTrue r ↔ IsSome (heap_at k hs)
-  pub same : r ≡ false → IsSame hs ks
-  pub step : r ≡ true → CompactsHeap k hs ks
+  pub done : r ≡ can_compact_in (heap_at k hs)
+  pub none : heap_at k hs ≡ None → IsSame hs ks
+  pub refused : r ≡ false → AreTwins hs ks
+  pub step : IsSome (heap_at k hs) → CompactsHeap k hs ks
+
+-- `compact`
+pub record CompactsEach (hs ks : Heaps) (r : Bool) : Type 0 where
+  pub done : IsTrue r ↔ ((k : ℕ) → IsCompactible (heap_at k hs))
+  pub step : CompactsAll hs ks
 
 -- moves in their order
 abbrev pub Notes : List Move → Move → List Move → Type 0
 Notes xs x ys = ys ≡ xs ++ x ∷ []
 
--- `make_room`, by the moves of some ranges
-pub record MakesRoomOne (k size : ℕ) (hs ks : Heaps) (r : Option RoomCost) : Type 0 where
+-- `make_room_aligned`, and with the alignment 1 `make_room`, by the moves of some ranges
+pub record MakesRoomOne (k size align : ℕ) (hs ks : Heaps) (r : Option RoomCost) : Type 0 where
   pub none : heap_at k hs ≡ None → IsSame hs ks × (r ≡ None)
-  pub step : IsSome (heap_at k hs) → (xs : List Move) × MakesRoomAt Notes k size hs [] r ks xs
+  pub step : IsSome (heap_at k hs) → (xs : List Move) × MakesRoomAt Notes k size align hs [] r ks xs
 
 -- a call that may change heaps
 pub data Call : Type 0 where
@@ -121,7 +134,8 @@ pub data Call : Type 0 where
   Allocate : ℕ → ℕ → Call
   Allocate_tight : ℕ → ℕ → Call
   Free : Place → Call
-  Relocate : Place → ℕ → Call
+  Relocate : Place → Call
+  Relocate_aligned : Place → ℕ → Call
   Drop_empty : ℕ → Call
   Drop_heap : ℕ → Call
   Give_up : ℕ → Call
@@ -131,8 +145,8 @@ pub data Call : Type 0 where
   Extend_heap : ℕ → ℕ → Call
   Compact_heap : ℕ → Call
   Compact_all : Call
-  -- room for so many units in the heap of a number
-  Make_room : ℕ → ℕ → Call
+  -- room for a request, by its size and alignment, in the heap of a number
+  Make_room : ℕ → ℕ → ℕ → Call
 
 -- the result of a call
 pub data Reply : Type 0 where
@@ -150,7 +164,8 @@ abbrev pub Takes : Call → Heaps → Heaps → Reply → Type 0
 Takes (Allocate size align) hs ks reply = (r : Result Granted Refusal) × (reply ≡ Requested r) × (size ≤ 4294967295) × Allocates size align hs ks r
 Takes (Allocate_tight size align) hs ks reply = (r : Result Granted Refusal) × (reply ≡ Requested r) × (size ≤ 4294967295) × AllocatesTight size align hs ks r
 Takes (Free p) hs ks reply = (r : Bool) × (reply ≡ Was_done r) × Frees p hs ks r
-Takes (Relocate p align) hs ks reply = (r : Option Granted) × (reply ≡ Second r) × Relocates p align hs ks r
+Takes (Relocate p) hs ks reply = (r : Option Granted) × (reply ≡ Second r) × RelocatesOwn p hs ks r
+Takes (Relocate_aligned p align) hs ks reply = (r : Option Granted) × (reply ≡ Second r) × Relocates p align hs ks r
 Takes (Drop_empty keep) hs ks reply = (r : Option ℕ) × (reply ≡ Dropped r) × DropsEmpty keep hs ks r
 Takes (Drop_heap k) hs ks reply = (r : Bool) × (reply ≡ Was_done r) × Drops k hs ks r
 Takes (Give_up k) hs ks reply = (r : Bool) × (reply ≡ Was_done r) × GivesUp k hs ks r
@@ -158,8 +173,8 @@ Takes Reset hs ks reply = (reply ≡ Nothing) × ResetsAll hs ks
 Takes (Resize how p) hs ks reply = (r : Option Bool) × (reply ≡ Resized r) × TakesSize how p hs ks r
 Takes (Extend_heap k more) hs ks reply = (r : Result Bool AllocError) × (reply ≡ Extended r) × ExtendsOne k more hs ks r
 Takes (Compact_heap k) hs ks reply = (r : Bool) × (reply ≡ Was_done r) × CompactsOne k hs ks r
-Takes Compact_all hs ks reply = (reply ≡ Nothing) × CompactsAll hs ks
-Takes (Make_room k size) hs ks reply = (r : Option RoomCost) × (reply ≡ Room_made r) × MakesRoomOne k size hs ks r
+Takes Compact_all hs ks reply = (r : Bool) × (reply ≡ Was_done r) × CompactsEach hs ks r
+Takes (Make_room k size align) hs ks reply = (r : Option RoomCost) × (reply ≡ Room_made r) × MakesRoomOne k size align hs ks r
 
 -- a request, or more units for a heap, were refused for want of memory
 abbrev pub IsStarved : Reply → Type 0

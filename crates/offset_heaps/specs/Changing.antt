@@ -1,15 +1,17 @@
 -- What a call changes of one heap alone, in place: its ranges keep their places.
-use Rattle.std.specs.Prelude.{◌≡◌, ℕ, ◌+◌, ◌*◌, ◌≤◌, Bool, true, false, List, [], ◌∷◌, ◌++◌, Option, None, Some, IfSome, is_some, length, map, option_map}
+use Rattle.std.specs.Prelude.{◌≡◌, ℕ, ◌+◌, ◌*◌, ◌≤◌, Bool, true, false, not, ◌&&◌, ◌||◌, nat_eq, nat_lt, if◌then◌else◌, List, [], ◌∷◌, ◌++◌, Option, None, Some, IfSome, is_some, length, map, option_map}
 use Rattle.offset_allocator.specs.Classes.{up, value}
-use Rattle.offset_allocator.specs.Moving.Compacting.{Compacts, IsCalledWith, Move, moves}
+use Rattle.offset_allocator.specs.Moving.BySteps.{CompactsBy, moves_by, run_by, used_up}
+use Rattle.offset_allocator.specs.Moving.Compacting.{IsCalledWith, Move}
 use Rattle.offset_allocator.specs.declared.moves.one_move.Move.{Move as Moved}
-use Rattle.offset_allocator.specs.Moving.Room.{IsLeastCost, MakesRoom, ranges_of}
+use Rattle.offset_allocator.specs.Moving.Room.{ranges_of}
+use Rattle.offset_allocator.specs.Moving.RoomBySteps.{IsLeastCostBy, MakesRoomBy, names_short}
 use Rattle.offset_allocator.specs.Ranges.{Range}
-use Rattle.offset_allocator.specs.Requests.{CanGrant}
+use Rattle.offset_allocator.specs.Requests.{CanGrant, blocks_needed, units_needed}
 use Rattle.offset_allocator.specs.declared.moves.room.RoomCost.{RoomCost}
 use Rattle.offset_allocator.specs.Relations.{SameState}
 use Rattle.offset_allocator.specs.Resizing as space
-use Rattle.offset_allocator.specs.View.{View}
+use Rattle.offset_allocator.specs.View.{Block, View}
 use Rattle.offset_guarded.specs.Guard.{Guard, Ticket}
 use Rattle.offset_guarded.specs.Guard as guarded
 use Rattle.offset_heaps.specs.declared.resize.Resize.{Resize}
@@ -106,17 +108,38 @@ CanResizeAt how p hs = CanResizeIn how p.name (heap_at p.heap hs)
 abbrev pub KeepsSizes : Heaps → Heaps → Type 0
 KeepsSizes hs ks = (p : Place) → option_map (λ (r : Range). r.size) (range_of p ks) ≡ option_map (λ (r : Range). r.size) (range_of p hs)
 
+-- whether these blocks of a space can slide by a step: there is none, or a free block can follow them, since the node limit
+-- admits one more, or one of them is used up
+abbrev pub can_slide : ℕ → View → List Block → Bool
+can_slide s v run = nat_eq (length run) 0 || (nat_lt (length v.blocks + 1) v.max_allocs || nat_lt 0 (length (used_up s run)))
+
+-- whether a heap can be compacted by its step: it has one, and the blocks that slide by it can
+abbrev pub can_compact : Guard → Bool
+can_compact g = not (nat_eq g.step 0) && can_slide g.step g.space (run_by g.step g.space.blocks)
+
+-- the same of the heap of a number, which has to be there
+abbrev pub can_compact_in : Option Guard → Bool
+can_compact_in None = false
+can_compact_in (Some g) = can_compact g
+
+-- the heap of a number can be compacted, where there is one
+abbrev pub IsCompactible : Option Guard → Type 0
+IsCompactible None = Unit {0}
+IsCompactible (Some g) = can_compact g ≡ true
+
 -- the moves of a heap that is compacted
 abbrev pub moves_in : Option Guard → List Move
 moves_in None = []
-moves_in (Some g) = moves 0 0 g.space.blocks
+moves_in (Some g) = if can_compact g then moves_by g.step 0 0 g.space.blocks else []
 
--- all live ranges of a heap slide to the front
+-- live ranges of a heap slide to the front by its step, where it has one, and else it stays
 pub record CompactsIn (g h : Guard) : Type 0 where
-  pub step : Compacts g.space h.space
+  pub step : 1 ≤ g.step → CompactsBy g.step g.space h.space (can_compact g)
+  pub none : g.step ≡ 0 → h ≡ g
   pub serials : h ≡ record g { space = h.space }
   pub sizes : guarded.KeepsSizes g h
-  pub accesses : h.space.accesses ≤ g.space.accesses + 10 * length g.space.blocks + 384
+  pub aligned : guarded.KeepsAlignments g h
+  pub accesses : h.space.accesses ≤ g.space.accesses + 21 * length g.space.blocks + 40
 
 -- the same of the heap of a number; all other heaps stay as they are
 abbrev pub CompactsHeap : ℕ → Heaps → Heaps → Type 0
@@ -145,16 +168,18 @@ pub record CompactsAll (hs ks : Heaps) : Type 0 where
   pub heaps : (k : ℕ) → CompactsSlot (heap_at k hs) (heap_at k ks)
   pub rest : ks ≡ record hs { slots = ks.slots; accesses = ks.accesses }
 
--- room for a request is made in a heap, at a cost: a closure is called with the moves
-pub record MakesRoomIn {F : Type 0} (R : F → Move → F → Type 0) (size : ℕ) (f : F) (c : Option RoomCost) (f' : F) (g h : Guard) : Type 0 where
-  pub cost : IsLeastCost (value (up size)) g.space.blocks c
-  pub step : MakesRoom R (value (up size)) g.space f c h.space f'
-  -- where ranges had to move, the space can grant the request then
-  pub granted : IfSome c (λ c. 1 ≤ c.ranges → CanGrant 1 size h.space)
+-- room for a request is made in a heap by its step, where it has one, at a cost: a closure is called with the moves
+pub record MakesRoomIn {F : Type 0} (R : F → Move → F → Type 0) (size align : ℕ) (f : F) (c : Option RoomCost) (f' : F) (g h : Guard) : Type 0 where
+  pub cost : 1 ≤ g.step → IsLeastCostBy g.step (value (up (units_needed size align))) (names_short (blocks_needed align) g.space) g.space.blocks c
+  pub step : 1 ≤ g.step → MakesRoomBy R g.step (value (up (units_needed size align))) (names_short (blocks_needed align) g.space) g.space f c h.space f'
+  pub none : g.step ≡ 0 → (c ≡ None) × (h ≡ g) × (f' ≡ f)
+  -- the space can grant the request then
+  pub granted : IfSome c (λ c. CanGrant (blocks_needed align) (units_needed size align) h.space)
   pub serials : h ≡ record g { space = h.space }
   pub sizes : guarded.KeepsSizes g h
-  pub accesses : h.space.accesses ≤ g.space.accesses + 6 * length g.space.blocks + 40 * ranges_of c + 20
+  pub aligned : guarded.KeepsAlignments g h
+  pub accesses : h.space.accesses ≤ g.space.accesses + 7 * length g.space.blocks + 36 * ranges_of c + 60
 
 -- the same of the heap of a number; all other heaps stay as they are
-abbrev pub MakesRoomAt : {F : Type 0} → (F → Move → F → Type 0) → ℕ → ℕ → Heaps → F → Option RoomCost → Heaps → F → Type 0
-MakesRoomAt R k size hs f c ks f' = Alters k (MakesRoomIn R size f c f') hs ks
+abbrev pub MakesRoomAt : {F : Type 0} → (F → Move → F → Type 0) → ℕ → ℕ → ℕ → Heaps → F → Option RoomCost → Heaps → F → Type 0
+MakesRoomAt R k size align hs f c ks f' = Alters k (MakesRoomIn R size align f c f') hs ks

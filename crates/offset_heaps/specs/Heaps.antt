@@ -1,5 +1,6 @@
 -- What contracts see of many heaps, and what each call leaves of them.
 use Rattle.std.specs.Prelude.{codes, ◌≡◌, ℕ, ◌+◌, ◌-◌, ◌*◌, ◌^◌, ◌<◌, ◌≤◌, ◌⊎◌, Bool, true, false, ◌&&◌, List, [], ◌∷◌, Option, Some, None, IsSome, Result, Err, length, nat_eq, nat_lt}
+use Rattle.std.specs.Int.{◌∣◌}
 use Rattle.std.specs.Prelude.{slice_index_or, slice_set, max, min, sum, if◌then◌else◌}
 use Rattle.offset_allocator.specs.Classes.{value, down}
 use Rattle.offset_allocator.specs.Ranges.{Range}
@@ -9,6 +10,7 @@ use Rattle.offset_allocator.specs.Requests.{blocks_needed, units_needed}
 use Rattle.offset_allocator.specs.Tight.{AlignsTight}
 use Rattle.offset_allocator.specs.View.{bin_at, free_sizes, count_used, used_units}
 use Rattle.offset_guarded.specs.Guard.{Guard, Ticket, handle_in, last_serial}
+use Rattle.offset_guarded.specs.Step.{IsJoined}
 use Rattle.offset_guarded.specs.Guard as guarded
 use Rattle.offset_heaps.specs.declared.place.Granted.{Granted}
 use Rattle.offset_heaps.specs.declared.limits.Limits.{Limits}
@@ -204,6 +206,8 @@ pub record Grants (size align : ℕ) (hs ks : Heaps) (grant : Granted) : Type 0 
       × AlignsTight size 1 before.space after.space (Some (handle_in (ticket_in grant)))
       × (after.space.accesses ≤ before.space.accesses + 140 + 6 * length (bin_at before.space.bins (down size))))
   pub grants : guarded.Grants size before after (ticket_in grant)
+  -- the step of the heap takes the alignment in, of a new one too
+  pub joined : IsJoined before.step align after.step
   pub realm : grant.place.realm ≡ hs.realm
   pub number : grant.place.heap < length hs.slots
   pub heaps : ks ≡ record hs {
@@ -266,6 +270,8 @@ pub record FreesIn (p : Place) (hs ks : Heaps) : Type 0 where
   pub after : Guard
   pub heap : heap_at p.heap hs ≡ Some before
   pub step : Frees p.name before.space after.space
+  pub gone : guarded.range_of (ticket_of p) after ≡ None
+  pub others : guarded.KeepsOthers (ticket_of p) before after
   pub serials : after ≡ record before { space = after.space }
   pub accesses : after.space.accesses ≤ before.space.accesses + 128
   pub heaps : Puts p.heap (Some after) hs ks
@@ -295,6 +301,20 @@ free_of g = sum (free_sizes g.space.blocks)
 abbrev pub part : (Guard → ℕ) → Option Guard → ℕ
 part f None = 0
 part f (Some g) = f g
+
+-- the step of a heap, 0 where it has none
+abbrev pub step_of : Guard → ℕ
+step_of g = g.step
+
+-- the step of the heap of a number, 0 where it has none or there is no heap
+abbrev pub step_at : ℕ → Heaps → ℕ
+step_at k hs = part step_of (heap_at k hs)
+
+-- a place that is live before and after keeps each alignment of its range that divides the step of its heap, and that
+-- divides the step of its heap after it too
+abbrev pub KeepsAlignments : Heaps → Heaps → Type 0
+KeepsAlignments hs ks = (p : Place) (r q : Range) (a : ℕ) → range_of p hs ≡ Some r → range_of p ks ≡ Some q → a ∣ step_at p.heap hs → a ∣ r.offset
+    → (a ∣ step_at p.heap ks) × (a ∣ q.offset)
 
 -- a number of each heap, added up
 abbrev pub total : (Guard → ℕ) → List (Option Guard) → ℕ

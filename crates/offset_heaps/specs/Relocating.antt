@@ -1,12 +1,13 @@
 -- Which heap takes a range of another one, which one is the emptiest, and the places of the live ranges of a heap.
 use Rattle.std.specs.Prelude.{◌≡◌, ◌≢◌, ℕ, ◌+◌, ◌-◌, ◌*◌, ◌^◌, ◌<◌, ◌≤◌, ◌⊎◌, List, [], ◌∷◌, Option, Some, None, false, max, option_map, unwrap_or}
+use Rattle.std.specs.Int.{IsGcd}
 use Rattle.offset_allocator.specs.Reporting.Walking.{last_live, live_before}
 use Rattle.offset_allocator.specs.Ranges.{Range}
 use Rattle.offset_allocator.specs.Requests.{blocks_needed, units_needed}
 use Rattle.offset_allocator.specs.View.{Handle, count_used}
 use Rattle.offset_guarded.specs.Guard.{Guard, Ticket, ticket_at}
 use Rattle.offset_heaps.specs.declared.limits.Limits.{Limits}
-use Rattle.offset_heaps.specs.Heaps.{Heaps, IsLive, MustRaiseIn, heap_at, live_units_of, numbers, part, range_of, room_of, slot, total}
+use Rattle.offset_heaps.specs.Heaps.{Heaps, IsLive, MustRaiseIn, heap_at, live_units_of, numbers, part, range_of, room_of, slot, step_at, total}
 use Rattle.offset_heaps.specs.Places.{Place, place_of}
 
 -- the units of a range, or 0 where there is none
@@ -16,6 +17,19 @@ units_in r = unwrap_or (option_map (λ (r : Range). r.size) r) 0
 -- the units of the range of a place, or 0 where it is not live
 abbrev pub size_of : Place → Heaps → ℕ
 size_of p hs = units_in (range_of p hs)
+
+-- where a range begins, or 0 where there is none
+abbrev pub offset_in : Option Range → ℕ
+offset_in r = unwrap_or (option_map (λ (r : Range). r.offset) r) 0
+
+-- where the range of a place begins, or 0 where it is not live
+abbrev pub offset_of : Place → Heaps → ℕ
+offset_of p hs = offset_in (range_of p hs)
+
+-- what the offset of the range of a place and the step of its heap have in common: each alignment that the range has, and
+-- that was asked for, divides it
+abbrev pub IsOwnAlign : Place → Heaps → ℕ → Type 0
+IsOwnAlign p hs align = IsGcd (offset_of p hs) (step_at p.heap hs) align
 
 -- the live units of the heap of a number
 abbrev pub live_units_at : ℕ → Heaps → ℕ

@@ -8,17 +8,19 @@ use Rattle.offset_allocator.specs.Tight.{AlignsTight, CanHold, HasBlockFor, list
 use Rattle.offset_allocator.specs.View.{bin_at, free_sizes}
 use Rattle.offset_guarded.specs.Guard.{Guard, HasSerialLeft, Ticket, handle_in}
 use Rattle.offset_guarded.specs.Guard as guarded
+use Rattle.offset_guarded.specs.Step.{IsJoined}
 use Rattle.offset_heaps.specs.declared.limits.Limits.{Limits}
 use Rattle.offset_heaps.specs.Heaps.{IsRaisedAsNeeded, slot, range_in, top_limit}
 
--- a heap grants a request
-pub record GrantsIn (size align : ℕ) (old new : Option Guard) (t : Ticket) : Type 0 where
+-- a heap grants a request, and its step takes an alignment in
+pub record GrantsIn (size align taken : ℕ) (old new : Option Guard) (t : Ticket) : Type 0 where
   pub before : Guard
   pub after : Guard
   pub was : old ≡ Some before
   pub is : new ≡ Some after
   pub step : Aligns size align before.space after.space (Some (handle_in t))
   pub grants : guarded.Grants size before after t
+  pub joined : IsJoined before.step taken after.step
   pub accesses : after.space.accesses ≤ before.space.accesses + 128
   pub aligned : t.offset % align ≡ 0
 
@@ -43,14 +45,15 @@ abbrev pub CanHoldNow : ℕ → ℕ → Option Guard → Type 0
 CanHoldNow size align None = ⊥
 CanHoldNow size align (Some g) = HasSerialLeft g × CanHold size align g.space
 
--- such a block is granted
-pub record GrantsTightIn (size : ℕ) (old new : Option Guard) (t : Ticket) : Type 0 where
+-- such a block is granted, and the step takes an alignment in
+pub record GrantsTightIn (size taken : ℕ) (old new : Option Guard) (t : Ticket) : Type 0 where
   pub before : Guard
   pub after : Guard
   pub was : old ≡ Some before
   pub is : new ≡ Some after
   pub step : AlignsTight size 1 before.space after.space (Some (handle_in t))
   pub grants : guarded.Grants size before after t
+  pub joined : IsJoined before.step taken after.step
   pub accesses : after.space.accesses ≤ before.space.accesses + 140 + 6 * length (bin_at before.space.bins (down size))
 
 -- such a block is granted at a multiple of align
@@ -61,6 +64,7 @@ pub record GrantsTightAlignedIn (size align : ℕ) (old new : Option Guard) (t :
   pub is : new ≡ Some after
   pub step : AlignsTight size align before.space after.space (Some (handle_in t))
   pub grants : guarded.Grants size before after t
+  pub joined : IsJoined before.step align after.step
   pub accesses : after.space.accesses ≤ before.space.accesses + 140 + 6 * length (listed_from (down size) before.space.bins)
   pub aligned : t.offset % align ≡ 0
 
@@ -75,6 +79,8 @@ pub record FreesSlot (t : Ticket) (old new : Option Guard) : Type 0 where
   pub was : old ≡ Some before
   pub is : new ≡ Some after
   pub step : Frees t.name before.space after.space
+  pub gone : guarded.range_of t after ≡ None
+  pub others : guarded.KeepsOthers t before after
   pub serials : after ≡ record before { space = after.space }
   pub accesses : after.space.accesses ≤ before.space.accesses + 128
 

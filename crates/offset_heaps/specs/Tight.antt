@@ -5,6 +5,7 @@ use Rattle.offset_allocator.specs.Requests.{blocks_needed}
 use Rattle.offset_allocator.specs.Tight.{AlignsTight, listed_from}
 use Rattle.offset_guarded.specs.Guard.{Guard, handle_in}
 use Rattle.offset_guarded.specs.Guard as guarded
+use Rattle.offset_guarded.specs.Step.{IsJoined}
 use Rattle.offset_heaps.specs.declared.place.Granted.{Granted}
 use Rattle.offset_heaps.specs.declared.refusal.Refusal.{Refusal}
 use Rattle.offset_heaps.specs.declared.refusal.Refusal.TheVariants.{Empty, TooLarge, Full, Memory}
@@ -28,6 +29,7 @@ pub record GrantsTight (size align : ℕ) (hs ks : Heaps) (grant : Granted) : Ty
   pub raised : IsRaisedAsNeeded hs.limits grant.place.heap (blocks_needed align) was before
   pub step : AlignsTight size align before.space after.space (Some (handle_in (ticket_in grant)))
   pub grants : guarded.Grants size before after (ticket_in grant)
+  pub joined : IsJoined before.step align after.step
   pub accesses : after.space.accesses ≤ before.space.accesses + 140 + 6 * length (listed_from (down size) before.space.bins)
   pub realm : grant.place.realm ≡ hs.realm
   pub heaps : Puts grant.place.heap (Some after) hs ks

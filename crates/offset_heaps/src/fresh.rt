@@ -1,4 +1,5 @@
-//! Heaps that are made for a request, which they grant at once. It touches nothing else.
+//! Heaps that are made for a request, which they grant at once, and whose alignment their step takes in. It touches
+//! nothing else.
 ghost use Rattle.std.specs.Prelude.{◌≡◌, ◌+◌, ◌<◌, ◌≤◌, IfOk, Some};
 ghost use Rattle.offset_guarded.specs.Guard.{Guard};
 ghost use Rattle.offset_heaps.specs.Heaps.{IsNew, larger_limit, usual_room, usual_size};
@@ -20,13 +21,15 @@ pub(crate) fn usual<T: Tables>(
     number: u32,
     realm: u32,
     size: u32,
+    align: u32,
 ) -> Result<(Option<GuardedOf<T>>, Ticket), AllocError>
+    requires alignment { 1 ≤ align }
     requires limit_min { 4 ≤ limits.first_allocs }
     requires limit_max { limits.first_allocs + 1 < T.Index.MAX }
     requires some { 1 ≤ size }
     requires fits { size ≤ usual_room limits number }
     ensures grants { IfOk result (λ r. (g : Guard)
-        × IsNew (usual_size limits number) limits.first_allocs realm g × GrantsIn size 1 (Some g) r.0 r.1) }
+        × IsNew (usual_size limits number) limits.first_allocs realm g × GrantsIn size 1 align (Some g) r.0 r.1) }
     ensures start { IfOk result (λ r. r.1.offset ≡ 0) }
 {
     let mut slot = Some(GuardedOf::with_realm(
@@ -35,7 +38,7 @@ pub(crate) fn usual<T: Tables>(
         limits.first_allocs,
         realm,
     )?);
-    let ticket = slots::grant_in(&mut slot, size, 1);
+    let ticket = slots::grant_first_in(&mut slot, size, align);
     Ok((slot, ticket))
 }
 
@@ -44,13 +47,15 @@ pub(crate) fn larger<T: Tables>(
     alloc: Global,
     realm: u32,
     size: u32,
+    align: u32,
 ) -> Result<(Option<GuardedOf<T>>, Ticket), AllocError>
-    requires { 5 < T.Index.MAX }
+    requires alignment { 1 ≤ align }
+    requires limit { 5 < T.Index.MAX }
     ensures grants { IfOk result (λ r. (g : Guard) × IsNew size larger_limit realm g
-        × GrantsTightIn size (Some g) r.0 r.1) }
+        × GrantsTightIn size align (Some g) r.0 r.1) }
     ensures start { IfOk result (λ r. r.1.offset ≡ 0) }
 {
     let mut slot = Some(GuardedOf::with_realm(alloc, size, LARGER_LIMIT, realm)?);
-    let ticket = slots::grant_tight_in(&mut slot, size);
+    let ticket = slots::grant_tight_in(&mut slot, size, align);
     Ok((slot, ticket))
 }

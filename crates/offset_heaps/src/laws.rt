@@ -2,6 +2,7 @@
 //! that leave all heaps as they are, with a count of their accesses.
 ghost use Rattle.std.specs.Prelude.{ℕ, List, ◌≡◌, ◌↔◌, ◌+◌, ◌-◌, ◌*◌, ◌^◌, ◌<◌, ◌≤◌, ◌∷◌, None, Some, IfSome};
 ghost use Rattle.std.specs.Prelude.{Bool, Err, IfErr, MatchOption, Option, Result, length, min, option_map, true};
+ghost use Rattle.std.specs.Int.{◌∣◌};
 ghost use Rattle.std.specs.List.{AllByRecursion};
 ghost use Rattle.std.specs.declared.alloc.AllocError.{AllocError};
 ghost use Rattle.offset_allocator.specs.Ranges.{AreDisjoint, Range};
@@ -11,20 +12,21 @@ ghost use Rattle.offset_allocator.specs.declared.reports.StorageReport.{StorageR
 ghost use Rattle.offset_guarded.specs.Guard.{Guard, HasSerialLeft, IsRaised};
 ghost use Rattle.offset_heaps.specs.Heaps.{Heaps, room, AreAlike, AreTotals, heap_at, numbers, range_of, top_limit};
 ghost use Rattle.offset_heaps.specs.Heaps.{Grants, IsFirstFit, IsLive, IsNext, IsRaisedAsNeeded, IsUsual, IsWhy};
-ghost use Rattle.offset_heaps.specs.Heaps.{MustRaiseIn, Puts};
+ghost use Rattle.offset_heaps.specs.Heaps.{KeepsAlignments, MustRaiseIn, Puts, step_at};
 ghost use Rattle.offset_heaps.specs.Heaps.{IsFirstSize, total, units_of_heap, usual_room, usual_size};
-ghost use Rattle.offset_heaps.specs.Histories.{AreSteps, IsGone, IsStep, ResetsAll};
+ghost use Rattle.offset_heaps.specs.Histories.{AreSteps, BeginsAt, IsGone, IsStep, ResetsAll};
 ghost use Rattle.offset_heaps.specs.Numbering.{AreOfLive, MeetsPlaces, first_from, live_places, next_place};
 ghost use Rattle.offset_heaps.specs.Places.{Place, ticket_of};
 ghost use Rattle.offset_heaps.specs.State.{IsCopy, IsStateOf, IsWellFormed, SameHeaps};
-ghost use Rattle.offset_heaps.specs.Relocating.{IsEmptiest, NoneLive, last_live_in, live_before_in};
+ghost use Rattle.offset_heaps.specs.Relocating.{IsEmptiest, IsOwnAlign, NoneLive, offset_of, last_live_in, live_before_in};
 ghost use Rattle.offset_heaps.specs.Relocating.{live_units_at, most_ranks, ranks, squares, size_of};
-ghost use Rattle.offset_heaps.specs.Tight.{IsRefusedForTight, IsServedTight, IsWhyTight};
+ghost use Rattle.offset_heaps.specs.Tight.{GrantsTight, IsRefusedForTight, IsServedTight, IsWhyTight};
 ghost use Rattle.offset_heaps.specs.Twins.{AreTwins};
 ghost use Rattle.offset_heaps.specs.Calls.{Allocates, AllocatesTight, TakesAll, Call, Drops, DropsEmpty, Frees, GivesUp};
-ghost use Rattle.offset_heaps.specs.Calls.{CompactsOne, GoAll, Goes, ExtendsOne, Relocates, Reply, MakesRoomOne, TakesSize};
+ghost use Rattle.offset_heaps.specs.Calls.{CompactsEach, CompactsOne, RelocatesOwn};
+ghost use Rattle.offset_heaps.specs.Calls.{GoAll, Goes, ExtendsOne, Relocates, Reply, MakesRoomOne, TakesSize};
 ghost use Rattle.offset_heaps.specs.Asking.{IsRefusedFor, IsServed};
-ghost use Rattle.offset_heaps.specs.Changing.{CompactsAll, NewSize};
+ghost use Rattle.offset_heaps.specs.Changing.{NewSize};
 ghost use Rattle.offset_allocator.specs.declared.moves.room.RoomCost.{RoomCost};
 ghost use Rattle.offset_heaps.specs.declared.limits.Limits.{Limits};
 ghost use Rattle.offset_heaps.specs.declared.place.Granted.{Granted};
@@ -164,6 +166,23 @@ pub fn dropped_heaps_stay_dropped<T: Tables>(heaps: &HeapsOf<T>)
     let _ = &heaps.made;
 }
 
+/// Every alignment is kept, by each call and by one after the other. Where an aligned request, tight or not, granted a
+/// range at a multiple of a number, that range begins at a multiple of it as long as it lives, whatever calls follow. So
+/// does the second range that `relocate` grants, at what divides the step of the heap and the offset of the first one.
+///
+/// A step is what one call of heaps leaves: that each call is one is proved in `offset_heaps_tests`.
+pub fn alignments_are_kept()
+    ensures step { (hs ks : Heaps) → IsStep hs ks → KeepsAlignments hs ks }
+    ensures lasts { (size align a : ℕ) (grant : Granted) (hs ks : Heaps) (later : List Heaps) → IsWellFormed hs
+        → Grants size align hs ks grant → a ∣ align → a ∣ grant.offset → AreSteps ks later
+        → AllByRecursion (BeginsAt a grant.place) (ks ∷ later) }
+    ensures lasts_tight { (size align a : ℕ) (grant : Granted) (hs ks : Heaps) (later : List Heaps) → IsWellFormed hs
+        → GrantsTight size align hs ks grant → a ∣ align → a ∣ grant.offset → AreSteps ks later
+        → AllByRecursion (BeginsAt a grant.place) (ks ∷ later) }
+    ensures relocated { (p : Place) (align a : ℕ) → (hs : Heaps) → IsOwnAlign p hs align → a ∣ step_at p.heap hs
+        → a ∣ offset_of p hs → a ∣ align }
+{}
+
 /// Ranges that go from heap to heap, by `relocate` or `relocate_aligned`, each old range freed before the
 /// next goes, come to an end, in whatever order they go. Each that has units adds at least 2 to the sum of the
 /// squares of the heaps' live units, which is at most that of the squares of their units. One of no units leaves
@@ -240,7 +259,10 @@ pub fn a_state_decides_each_step()
         → (r ≡ r') × AreTwins ks ks' }
     ensures free { (p : Place) (hs hs' ks ks' : Heaps) → IsWellFormed hs → AreTwins hs hs' → (r r' : Bool)
         → Frees p hs ks r → Frees p hs' ks' r' → (r ≡ r') × AreTwins ks ks' }
-    ensures relocate { (p : Place) (align : ℕ) (hs hs' ks ks' : Heaps) → IsWellFormed hs → AreTwins hs hs'
+    ensures relocate { (p : Place) (hs hs' ks ks' : Heaps) → IsWellFormed hs → AreTwins hs hs'
+        → (r r' : Option Granted) → RelocatesOwn p hs ks r → RelocatesOwn p hs' ks' r'
+        → (r ≡ r') × AreTwins ks ks' }
+    ensures relocate_aligned { (p : Place) (align : ℕ) (hs hs' ks ks' : Heaps) → IsWellFormed hs → AreTwins hs hs'
         → (r r' : Option Granted) → Relocates p align hs ks r → Relocates p align hs' ks' r'
         → (r ≡ r') × AreTwins ks ks' }
     ensures drop_empty { (keep : ℕ) (hs hs' ks ks' : Heaps) → AreTwins hs hs' → (r r' : Option ℕ)
@@ -260,10 +282,10 @@ pub fn a_state_decides_each_step()
         → (r ≡ r') × AreTwins ks ks' }
     ensures compact_heap { (k : ℕ) (hs hs' ks ks' : Heaps) → AreTwins hs hs' → (r r' : Bool)
         → CompactsOne k hs ks r → CompactsOne k hs' ks' r' → (r ≡ r') × AreTwins ks ks' }
-    ensures compact { (hs hs' ks ks' : Heaps) → AreTwins hs hs' → CompactsAll hs ks → CompactsAll hs' ks'
-        → AreTwins ks ks' }
-    ensures make_room { (k size : ℕ) (hs hs' ks ks' : Heaps) → IsWellFormed hs → AreTwins hs hs'
-        → (r r' : Option RoomCost) → MakesRoomOne k size hs ks r → MakesRoomOne k size hs' ks' r'
+    ensures compact { (hs hs' ks ks' : Heaps) → AreTwins hs hs' → (r r' : Bool)
+        → CompactsEach hs ks r → CompactsEach hs' ks' r' → (r ≡ r') × AreTwins ks ks' }
+    ensures make_room { (k size align : ℕ) (hs hs' ks ks' : Heaps) → IsWellFormed hs → AreTwins hs hs'
+        → (r r' : Option RoomCost) → MakesRoomOne k size align hs ks r → MakesRoomOne k size align hs' ks' r'
         → (r ≡ r') × AreTwins ks ks' }
     ensures range { (hs hs' : Heaps) (p : Place) → AreTwins hs hs' → range_of p hs' ≡ range_of p hs }
     ensures emptiest { (hs hs' : Heaps) → AreTwins hs hs' → (r r' : Option ℕ)

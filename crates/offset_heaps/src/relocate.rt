@@ -1,7 +1,8 @@
 //! Second ranges in other heaps, so that a heap can be emptied; and which one is the emptiest. It changes one
 //! slot by a grant, and notes it in the index.
 ghost use Rattle.std.specs.Prelude.{ℕ, ◌≡◌, ◌↔◌, ◌+◌, ◌*◌, ◌%◌, ◌^◌, ◌<◌, ◌≤◌, None, Some, IfSome, MatchOption};
-ghost use Rattle.std.specs.Prelude.{false, length};
+ghost use Rattle.std.specs.Prelude.{IsSome, false, length};
+ghost use Rattle.std.specs.Int.{◌∣◌};
 ghost use Rattle.offset_heaps.specs.Heaps.{numbers};
 ghost use Rattle.offset_heaps.specs.Relocating.{IsEmptiest, NoneLive, TakesUnits};
 
@@ -23,8 +24,9 @@ pub fn emptiest_counted<T: Tables>(heaps: &HeapsOf<T>, count: &mut Accesses) -> 
 }
 
 impl<T: Tables> HeapsOf<T> {
-    ghost use Rattle.offset_heaps.specs.Heaps.{Grants, IsSame, KeepsOthers, range_of};
-    ghost use Rattle.offset_heaps.specs.Relocating.{IsTaker, NoneTakes, size_of};
+    ghost use Rattle.offset_heaps.specs.Calls.{Relocates};
+    ghost use Rattle.offset_heaps.specs.Heaps.{Grants, IsLive, IsSame, KeepsOthers, range_of, step_at};
+    ghost use Rattle.offset_heaps.specs.Relocating.{IsOwnAlign, IsTaker, NoneTakes, offset_of, size_of};
 
     // The first heap that takes a range of `size` units of the heap `own`, which has `live` live units.
     fn taker(&mut self, own: u32, size: u32, align: u32, live: u32) -> Option<u32>
@@ -54,10 +56,30 @@ impl<T: Tables> HeapsOf<T> {
         )
     }
 
-    /// Grants a second range of as many units as that of a live place, in another heap, and returns its place
-    /// and its offset; its heap is never a new one. The old range stays live until it is freed: so the units can
-    /// be copied while the old ones are still read, and the copies never overlap. Done for all live ranges of the
-    /// `emptiest` heap, by `last_live` and `live_before`, it empties that heap, which `drop_empty` then drops.
+    // The alignment that `relocate` asks for, or `None` where the place is not live, or its heap has no step.
+    fn alignment_of(&mut self, place: Place) -> Option<u32>
+        ensures live { IsSome result ↔ (IsLive place self.old × (1 ≤ step_at place.heap self.old)) }
+        ensures own { IfSome result (IsOwnAlign place self.old) }
+        ensures some { IfSome result (λ d. 1 ≤ d) }
+        ensures same { IsSame self.old self.new }
+        ensures accesses { self.new.accesses ≤ self.old.accesses + 1 }
+    {
+        let (own, realm, ticket) = place.split();
+        if realm != self.realm {
+            return None;
+        }
+        self.slots.alignment_at(own, ticket, &mut self.accesses)
+    }
+
+    /// Grants a second range of as many units as that of a live place, in another heap, **at every alignment that was
+    /// asked for**, and returns its place and its offset; its heap is never a new one. The old range stays live until
+    /// it is freed: so the units can be copied while the old ones are still read, and the copies never overlap. Done for
+    /// all live ranges of the `emptiest` heap, by `last_live` and `live_before`, it empties that heap, which `drop_empty`
+    /// then drops.
+    ///
+    /// It grants what `relocate_aligned(place, align)` grants, where `align` is what the offset of the range and the step
+    /// of its heap have in common, their greatest common divisor, as `GuardedOf::relocate` does; the step of the other
+    /// heap takes it in.
     ///
     /// The heap is the first one, by number, that has room, other than the place's own, and in which at least
     /// as many units are live. A range of no units, which `shrink` may leave, needs room for one; since it adds
@@ -68,46 +90,53 @@ impl<T: Tables> HeapsOf<T> {
     /// `laws::relocations_end`. With later releases a range may go to and fro: make one pass, free what it left,
     /// then begin the next. No heap is made, and no
     /// memory is taken: a heap whose node limit would have to be raised for it, as `Limits::first_allocs` says,
-    /// takes no range. The range is what `GuardedOf::allocate` grants there: for one at an alignment see
-    /// `relocate_aligned`.
+    /// takes no range.
     ///
-    /// `None` is returned where no heap takes the range, and where the place is not live; then nothing
-    /// changes. It looks for the first heap that has room as `allocate` does, and from there on reads each
-    /// slot once, up to the one that takes the range.
+    /// `None` is returned where no heap takes the range, where its heap has no step, and where the place is not
+    /// live; then nothing changes. It looks for the first heap that has room as `allocate_aligned` does, and from
+    /// there on reads each slot once, up to the one that takes the range.
     ///
     /// ```
     /// heaps.allocate(500).unwrap();
     /// let old = heaps.allocate(400).unwrap().place;
-    /// let mesh = heaps.allocate(300).unwrap().place;
+    /// let mesh = heaps.allocate_aligned(200, 256).unwrap().place;
     /// heaps.free(old);
     /// let moved = heaps.relocate(mesh).unwrap();
-    /// assert_eq!((mesh.heap, moved.place.heap, moved.offset), (1, 0, 500));
+    /// assert_eq!((mesh.heap, moved.place.heap, moved.offset), (1, 0, 512));
     /// ```
     pub fn relocate(&mut self, place: Place) -> Option<Granted>
-        // It is refused exactly where no heap takes the range, and then all is as it was.
-        ensures none { result ≡ None ↔ NoneTakes place 1 self.old }
+        // Where the place is not live, or its heap has no step, nothing changes.
+        ensures not_live { (IsLive place self.old → ⊥) → result ≡ None }
+        ensures none { step_at place.heap self.old ≡ 0 → result ≡ None }
         ensures same { result ≡ None → IsSame self.old self.new }
-        // The heap is the first that takes it. None is made.
-        ensures first { IfSome result (λ g. IsTaker place 1 self.old g.place.heap) }
+        // Else it is what `relocate_aligned` does for what the offset of the range and the step of its heap have in
+        // common: refused exactly where no heap takes the range, else a grant of the first heap that does.
+        ensures step { IsLive place self.old → 1 ≤ step_at place.heap self.old → (align : ℕ)
+            × IsOwnAlign place self.old align × Relocates place align self.old self.new result }
+        // None is made.
         ensures found { IfSome result (λ g. g.is_new ≡ false) }
+        // The second range begins at a multiple of each number that divides the step and the offset of the first one,
+        // and the step of its heap is one.
+        ensures aligned { IfSome result (λ g. (a : ℕ) → a ∣ step_at place.heap self.old
+            → a ∣ offset_of place self.old → (a ∣ g.offset) × (a ∣ step_at g.place.heap self.new)) }
         // The new place was not live. It has as many units, and every other place keeps its range, if it has
         // one: so the old one does.
-        ensures not_live { IfSome result (λ g. range_of g.place self.old ≡ None) }
+        ensures was_free { IfSome result (λ g. range_of g.place self.old ≡ None) }
         ensures range { IfSome result (λ g. range_of g.place self.new
             ≡ Some (record { offset = g.offset; size = size_of place self.old })) }
         ensures others { IfSome result (λ g. KeepsOthers g.place self.old self.new) }
         ensures stays { range_of place self.new ≡ range_of place self.old }
-        // The step of its heap: a grant of these units. All other heaps are as they were.
-        ensures grants { IfSome result (Grants (size_of place self.old) 1 self.old self.new) }
         ensures accesses { (bits : ℕ) → numbers self.old ≤ 2 ^ bits
             → self.new.accesses ≤ self.old.accesses + numbers self.old + 16 * bits + 32 }
     {
-        self.relocate_aligned(place, 1)
+        let align = self.alignment_of(place)?;
+        self.relocate_aligned(place, align)
     }
 
-    /// As `relocate`, and the second range begins at a multiple of `align`, from 1 on, in its heap: the
-    /// first other one that has room for an aligned request as `allocate_aligned` has it, for
-    /// `size + align - 1` units, or one where that is none, and that may take it as `relocate` says.
+    /// As `relocate`, and the second range begins at a multiple of `align`, from 1 on, whatever alignment the first
+    /// one has: with 1 at any. Its heap is the first other one that has room for an aligned request as
+    /// `allocate_aligned` has it, for `size + align - 1` units, or one where that is none, and that may take it as
+    /// `relocate` says. It is for a range in a heap that has no step, and for one that needs less.
     ///
     /// ```
     /// heaps.allocate(500).unwrap();
@@ -136,7 +165,7 @@ impl<T: Tables> HeapsOf<T> {
         // The step of its heap: a grant of these units. All other heaps are as they were.
         ensures grants { IfSome result (Grants (size_of place self.old) align self.old self.new) }
         ensures accesses { (bits : ℕ) → numbers self.old ≤ 2 ^ bits
-            → self.new.accesses ≤ self.old.accesses + numbers self.old + 16 * bits + 32 }
+            → self.new.accesses ≤ self.old.accesses + numbers self.old + 16 * bits + 31 }
     {
         let (own, realm, ticket) = place.split();
         if realm != self.realm {

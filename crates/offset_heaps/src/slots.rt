@@ -3,23 +3,25 @@
 ghost use Rattle.std.specs.Prelude.{◌≡◌, ◌↔◌, ◌+◌, ◌<◌, ◌≤◌, IsTrue, IsSome, None, Some, false, length};
 ghost use Rattle.std.specs.Prelude.{IfOk, IfSome, IsErr, MatchOption, is_some, option_copied, replicate};
 ghost use Rattle.std.specs.Prelude.{ℕ, ◌⊎◌, max, slice_set, true};
+ghost use Rattle.std.specs.Int.{IsGcd};
 ghost use Rattle.std.specs.List.{FoldsTo};
 ghost use Rattle.offset_allocator.specs.Requests.{blocks_needed, units_needed};
 ghost use Rattle.offset_allocator.specs.View.{IsWellFormed};
-ghost use Rattle.offset_guarded.specs.Guard.{Guard, IsLive, IsRaised};
+ghost use Rattle.offset_guarded.specs.Guard.{Guard, IsLive, IsRaised, range_of};
 ghost use Rattle.offset_allocator.specs.Moving.Compacting.{IsCalledWith};
 ghost use Rattle.offset_heaps.specs.Changing.{AltersIn, CanResize, CanResizeIn, CompactsIn, MakesRoomIn, Resizes};
-ghost use Rattle.offset_heaps.specs.Changing.{CompactsSlot, IsCalledAt, moves_in, numbered, new_size};
+ghost use Rattle.offset_heaps.specs.Changing.{CompactsSlot, IsCalledAt, IsCompactible, can_compact_in, moves_in, numbered};
+ghost use Rattle.offset_heaps.specs.Changing.{new_size};
 ghost use Rattle.offset_heaps.specs.Extending.{CanExtendIn, ExtendsIf, MustExtendIn};
 ghost use Rattle.offset_heaps.specs.Heaps.{IsOfKind, IsRaisedAsNeeded, MustRaise, MustRaiseIn, is_empty};
-ghost use Rattle.offset_heaps.specs.Heaps.{live_units_of, part, raised_limit};
+ghost use Rattle.offset_heaps.specs.Heaps.{live_units_of, part, raised_limit, step_of};
 ghost use Rattle.offset_heaps.specs.Heaps.{range_in, room, room_of, slot};
 ghost use Rattle.offset_heaps.specs.Numbering.{IsHeapFrom, NoHeapFrom};
-ghost use Rattle.offset_heaps.specs.Relocating.{HasLive, IsEmptiest, NoneLive, TakesUnits, units_in};
+ghost use Rattle.offset_heaps.specs.Relocating.{HasLive, IsEmptiest, NoneLive, TakesUnits, offset_in, units_in};
 ghost use Rattle.offset_heaps.specs.Slots.{CanHoldIn, CanHoldNow, Changes, GrantsTightAlignedIn, FreesSlot, KeepsOthersIn};
 ghost use Rattle.offset_heaps.specs.Slots.{GrantsIn, GrantsTightIn, HasRoomNow, IsEmptier, RaisesIn, ResetsIn};
 
-use crate::compact::compact_numbered;
+use crate::compact::{compact_numbered, compact_one};
 use crate::extend::extend_in;
 use crate::index::{has_serial_left, is_empty_heap, nodes_left, rooms};
 use crate::limits::Limits;
@@ -134,7 +136,7 @@ fn raise_in<T: Tables>(
 pub(crate) fn grant_in<T: Tables>(slot: &mut Option<GuardedOf<T>>, size: u32, align: u32) -> Ticket
     requires alignment { 1 ≤ align }
     requires room { HasRoomNow (blocks_needed align) (max 1 (units_needed size align)) slot.old }
-    ensures { GrantsIn size align slot.old slot.new result }
+    ensures { GrantsIn size align align slot.old slot.new result }
 {
     match slot {
         Some(heap) => {
@@ -148,14 +150,48 @@ pub(crate) fn grant_in<T: Tables>(slot: &mut Option<GuardedOf<T>>, size: u32, al
     }
 }
 
-/// Grants a request in a heap that has a free block for it.
-pub(crate) fn grant_tight_in<T: Tables>(slot: &mut Option<GuardedOf<T>>, size: u32) -> Ticket
-    requires { CanHoldNow size 1 slot.old }
-    ensures { GrantsTightIn size slot.old slot.new result }
+/// Grants the first request of a heap, which has room for it, where it begins at 0: a multiple of `align`, which the
+/// step takes in.
+pub(crate) fn grant_first_in<T: Tables>(
+    slot: &mut Option<GuardedOf<T>>,
+    size: u32,
+    align: u32,
+) -> Ticket
+    requires alignment { 1 ≤ align }
+    requires room { HasRoomNow 1 (max 1 (units_needed size 1)) slot.old }
+    ensures { GrantsIn size 1 align slot.old slot.new result }
+{
+    match slot {
+        Some(heap) => {
+            is_well_formed(heap.allocator());
+            match heap.allocate_aligned(size, 1) {
+                Some(ticket) => {
+                    heap.raise_step(align);
+                    ticket
+                }
+                None => unreachable!(),
+            }
+        }
+        None => unreachable!(),
+    }
+}
+
+/// The same of a heap that has a free block for it.
+pub(crate) fn grant_tight_in<T: Tables>(
+    slot: &mut Option<GuardedOf<T>>,
+    size: u32,
+    align: u32,
+) -> Ticket
+    requires alignment { 1 ≤ align }
+    requires holds { CanHoldNow size 1 slot.old }
+    ensures { GrantsTightIn size align slot.old slot.new result }
 {
     match slot {
         Some(heap) => match heap.allocate_tight(size) {
-            Some(ticket) => ticket,
+            Some(ticket) => {
+                heap.raise_step(align);
+                ticket
+            }
             None => unreachable!(),
         },
         None => unreachable!(),
@@ -244,52 +280,58 @@ fn resize_in<T: Tables>(
     }
 }
 
-// Slides every live range of a heap to the front of its space.
-fn compact_in<T: Tables, F: FnMut(Move<T::Index>)>(slot: &mut Option<GuardedOf<T>>, moved: &mut F)
+// Slides live ranges of a heap to the front of its space by its step, and returns whether it was done.
+fn compact_in<T: Tables, F: FnMut(Move<T::Index>)>(
+    slot: &mut Option<GuardedOf<T>>,
+    moved: &mut F,
+) -> bool
     requires there { IsSome slot.old }
     requires callable { F.IsAlwaysCallable moved.old }
+    ensures done { result ≡ can_compact_in slot.old }
     ensures change { AltersIn CompactsIn slot.old slot.new }
     ensures moved { FoldsTo (IsCalledWith T.Index.NonMax.number (λ f range g. F.step f range tt g))
         moved.old (moves_in slot.old) moved.new }
 {
     match slot {
-        Some(heap) => heap.compact_unaligned(moved),
+        Some(heap) => compact_one(heap, moved),
         None => unreachable!(),
     }
 }
 
-// Slides every live range of a heap to the front of its space, where there is one, and calls the closure with its
-// number too.
+// The same where there is one, and calls the closure with its number too.
 fn compact_numbered_in<T: Tables, F: FnMut(u32, Move<T::Index>)>(
     slot: &mut Option<GuardedOf<T>>,
     number: u32,
     moved: &mut F,
-)
+) -> bool
     requires callable { F.IsAlwaysCallable moved.old }
     ensures callable { F.IsAlwaysCallable moved.new }
+    ensures done { IsTrue result ↔ IsCompactible slot.old }
     ensures change { CompactsSlot slot.old slot.new }
     ensures moved { FoldsTo (IsCalledAt T.Index.NonMax.number (λ f k range g. F.step f k range tt g)) moved.old
         (numbered number (moves_in slot.old)) moved.new }
 {
-    if let Some(heap) = slot {
-        compact_numbered(heap, number, moved);
+    match slot {
+        Some(heap) => compact_numbered(heap, number, moved),
+        None => true,
     }
 }
 
-// Makes room for a request in a heap.
+// Makes room for a request in a heap by its step.
 fn make_room_in<T: Tables, F: FnMut(Move<T::Index>)>(
     slot: &mut Option<GuardedOf<T>>,
     size: u32,
+    align: u32,
     moved: &mut F,
 ) -> Option<RoomCost>
     requires there { IsSome slot.old }
+    requires alignment { 1 ≤ align }
     requires callable { F.IsAlwaysCallable moved.old }
-    ensures { AltersIn (MakesRoomIn
-        (IsCalledWith T.Index.NonMax.number (λ f range g. F.step f range tt g)) size moved.old result moved.new)
-        slot.old slot.new }
+    ensures { AltersIn (MakesRoomIn (IsCalledWith T.Index.NonMax.number (λ f range g. F.step f range tt g))
+        size align moved.old result moved.new) slot.old slot.new }
 {
     match slot {
-        Some(heap) => heap.make_room_unaligned(size, moved),
+        Some(heap) => heap.make_room_aligned(size, align, moved),
         None => unreachable!(),
     }
 }
@@ -312,6 +354,32 @@ pub(crate) fn units_for(size: u32, align: u32) -> u64
 {
     let units = size as u64 + align as u64 - 1;
     if units == 0 { 1 } else { units }
+}
+
+// The greatest common divisor, by Euclid.
+fn common_divisor(first: u32, second: u32) -> u32
+    ensures { IsGcd first second result }
+{
+    let mut divisor = first;
+    let mut rest = second;
+    while rest != 0 {
+        let next = divisor % rest;
+        divisor = rest;
+        rest = next;
+    }
+    divisor
+}
+
+// What the offset of the range of a ticket, where it is live, and the step of its heap have in common, or `None` where
+// the heap has no step.
+fn alignment_in<T: Tables>(heap: &GuardedOf<T>, ticket: Ticket) -> Option<u32>
+    ensures live { IsSome result ↔ (IsLive ticket heap.now × (1 ≤ heap.now.step)) }
+    ensures own { IfSome result (IsGcd (offset_in (range_of ticket heap.now)) heap.now.step) }
+    ensures some { IfSome result (λ d. 1 ≤ d) }
+{
+    let step = heap.step()?;
+    let offset = heap.offset_of(ticket)?;
+    Some(common_divisor(offset, step))
 }
 
 // Whether a heap with `full` live units may take a range of `size` units of the heap `own`, which has `live`.
@@ -425,7 +493,7 @@ impl<T: Tables> Slots<T> {
         requires alignment { 1 ≤ align }
         requires room { HasRoomNow (blocks_needed align) (max 1 (units_needed size align))
             (slot number self.old) }
-        ensures grants { Changes number (λ o p. GrantsIn size align o p result) self.old self.new }
+        ensures grants { Changes number (λ o p. GrantsIn size align align o p result) self.old self.new }
         ensures accesses { count.new ≡ count.old + 1 }
     {
         count.tick();
@@ -574,61 +642,65 @@ impl<T: Tables> Slots<T> {
         )
     }
 
-    /// Slides every live range of the heap of a number to the front of its space.
+    /// Slides live ranges of the heap of a number to the front of its space by its step, and returns whether it was
+    /// done.
     pub(crate) fn compact<F: FnMut(Move<T::Index>)>(
         &mut self,
         number: u32,
         moved: &mut F,
         count: &mut Accesses,
-    )
+    ) -> bool
         requires there { IsSome (slot number self.old) }
         requires callable { F.IsAlwaysCallable moved.old }
+        ensures done { result ≡ can_compact_in (slot number self.old) }
         ensures change { Changes number (AltersIn CompactsIn) self.old self.new }
         ensures moved { FoldsTo (IsCalledWith T.Index.NonMax.number (λ f range g. F.step f range tt g))
             moved.old (moves_in (slot number self.old)) moved.new }
         ensures accesses { count.new ≡ count.old + 1 }
     {
         count.tick();
-        compact_in(&mut self.heaps[number as usize], moved);
+        compact_in(&mut self.heaps[number as usize], moved)
     }
 
-    /// Slides every live range of the heap of a number to the front of its space, where it has one, and calls the
-    /// closure with the number too.
+    /// The same where it has one, and calls the closure with the number too. It is done where there is no heap.
     pub(crate) fn compact_numbered<F: FnMut(u32, Move<T::Index>)>(
         &mut self,
         number: u32,
         moved: &mut F,
         count: &mut Accesses,
-    )
+    ) -> bool
         requires there { number < length self.old }
         requires callable { F.IsAlwaysCallable moved.old }
         ensures callable { F.IsAlwaysCallable moved.new }
+        ensures done { IsTrue result ↔ IsCompactible (slot number self.old) }
         ensures change { Changes number CompactsSlot self.old self.new }
         ensures moved { FoldsTo (IsCalledAt T.Index.NonMax.number (λ f k range g. F.step f k range tt g)) moved.old
             (numbered number (moves_in (slot number self.old))) moved.new }
         ensures accesses { count.new ≡ count.old + 1 }
     {
         count.tick();
-        compact_numbered_in(&mut self.heaps[number as usize], number, moved);
+        compact_numbered_in(&mut self.heaps[number as usize], number, moved)
     }
 
-    /// Makes room for a request in the heap of a number.
+    /// Makes room for a request in the heap of a number by its step.
     pub(crate) fn make_room<F: FnMut(Move<T::Index>)>(
         &mut self,
         number: u32,
         size: u32,
+        align: u32,
         moved: &mut F,
         count: &mut Accesses,
     ) -> Option<RoomCost>
         requires there { IsSome (slot number self.old) }
+        requires alignment { 1 ≤ align }
         requires callable { F.IsAlwaysCallable moved.old }
         ensures change { Changes number (AltersIn (MakesRoomIn
-            (IsCalledWith T.Index.NonMax.number (λ f range g. F.step f range tt g)) size
+            (IsCalledWith T.Index.NonMax.number (λ f range g. F.step f range tt g)) size align
             moved.old result moved.new)) self.old self.new }
         ensures accesses { count.new ≡ count.old + 1 }
     {
         count.tick();
-        make_room_in(&mut self.heaps[number as usize], size, moved)
+        make_room_in(&mut self.heaps[number as usize], size, align, moved)
     }
 
     /// Makes the space of the heap of a number one free block again.
@@ -684,6 +756,26 @@ impl<T: Tables> Slots<T> {
                 None => None,
                 Some(size) => Some((size, heap.allocator().live_units())),
             },
+        }
+    }
+
+    /// The same of the heap of a number.
+    pub(crate) fn alignment_at(
+        &self,
+        number: u32,
+        ticket: Ticket,
+        count: &mut Accesses,
+    ) -> Option<u32>
+        ensures live { IsSome result
+            ↔ (IsSome (range_in ticket (slot number self.now)) × (1 ≤ part step_of (slot number self.now))) }
+        ensures own { IfSome result (IsGcd (offset_in (range_in ticket (slot number self.now)))
+            (part step_of (slot number self.now))) }
+        ensures some { IfSome result (λ d. 1 ≤ d) }
+        ensures accesses { count.new ≡ count.old + 1 }
+    {
+        match self.at(number, count) {
+            None => None,
+            Some(heap) => alignment_in(heap, ticket),
         }
     }
 

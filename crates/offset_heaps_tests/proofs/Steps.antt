@@ -1,21 +1,93 @@
 -- What each call leaves is a step of a history.
-use Rattle.std.proofs.Common.{◌≡◌, ℕ, Bool, true, false, Result, Ok, Err, IfOk, Option, Some, None, IfSome, IsSome, is_some, ap, refl, inl, inr, ◌∙◌}
-use Rattle.std.proofs.lemmas.Bool.{cases_Bool}
+use Rattle.std.proofs.Common.{◌≡◌, ℕ, Bool, true, false, Result, Ok, Err, IfOk, Option, Some, None, IfSome, IsSome, is_some, option_map, nat_eq, ◌&&◌, if◌then◌else◌, ap, ap₂, sym, subst, refl, inl, inr, arith, ◌≤◌, ◌∙◌}
+use Rattle.std.proofs.lemmas.Bool.{cases_Bool, cases_eq}
+use Rattle.std.proofs.Math.Nat.{dvd_refl}
+use Rattle.std.specs.Int.{◌∣◌}
 use Rattle.std.specs.Prelude.{OnErr}
 use Rattle.std.specs.declared.alloc.AllocError.{AllocError}
 use Rattle.offset_heaps.specs.declared.place.Granted.{Granted}
 use Rattle.offset_heaps.specs.declared.refusal.Refusal.{Refusal}
-use Rattle.offset_heaps.specs.Heaps.{Heaps, FreesIn, Grants, IsSame, Puts, heap_at}
+use Rattle.offset_heaps.specs.Heaps.{Heaps, FreesIn, Grants, IsLive, IsSame, Puts, heap_at, range_of, step_at}
+use Rattle.offset_heaps.specs.Calls.{Relocates}
+use Rattle.offset_heaps.specs.Relocating.{IsOwnAlign, size_of}
 use Rattle.offset_allocator.specs.Moving.Compacting.{Move}
-use Rattle.offset_allocator.specs.Requests.{blocks_needed}
 use Rattle.offset_allocator.specs.declared.moves.room.RoomCost.{RoomCost}
-use Rattle.offset_guarded.specs.Guard.{Guard}
-use Rattle.offset_heaps.specs.Changing.{CompactsHeap, MakesRoomAt, ResizesAt, NewSize}
-use Rattle.offset_heaps.specs.Extending.{ExtendsHeap}
-use Rattle.offset_heaps.specs.Histories.{IsStep}
-use Rattle.offset_heaps.specs.Places.{Place}
+use Rattle.offset_allocator.specs.Ranges.{Range}
+use Rattle.offset_allocator.specs.Ranges as named
+use Rattle.offset_guarded.specs.Guard.{Guard, Ticket}
+use Rattle.offset_guarded.specs.Guard as guarded
+use Rattle.offset_guarded.proofs.{Guards.live_fits, Offsets.stays_aligned}
+use Rattle.offset_heaps.specs.declared.limits.Limits.{Limits}
+use Rattle.offset_heaps.specs.Changing.{Alters, CompactsHeap, MakesRoomAt, Resizes, ResizesAt, NewSize, units_wanted}
+use Rattle.offset_heaps.specs.Extending.{ExtendsHeap, ExtendsIf}
+use Rattle.offset_heaps.specs.Histories.{IsStep, KeepsIn}
+use Rattle.offset_heaps.specs.Places.{Place, ticket_of}
 use Rattle.offset_heaps.specs.Tight.{GrantsTight}
-use Rattle.offset_heaps.proofs.{Longer.realm_longer, Raising.raised_realm}
+use Rattle.offset_heaps.proofs.{Changes.undone_twin, Longer.range_longer, Longer.realm_longer, Twins.range_twin}
+
+-- ---- a heap that is changed in place
+sized : (o q : Option Range) → option_map (λ (r : Range). r.size) o ≡ option_map (λ (r : Range). r.size) q → IsSome o → IsSome q
+sized None q e l = absurd (cc)
+sized (Some r) None e l = absurd (cc)
+sized (Some r) (Some s) e l = refl
+
+slid : (g h : Guard) → h ≡ record g { space = h.space } → guarded.KeepsSizes g h → guarded.KeepsAlignments g h → KeepsIn g h
+slid g h serials sizes aligned = record {
+  realm = ap (λ (z : Guard). z.realm) serials;
+  given = ap (λ (z : Guard). z.given) serials;
+  live = λ t live. sized (guarded.range_of t h) (guarded.range_of t g) (sizes t) live;
+  aligned = aligned;
+}
+
+-- each range begins where it did, and the step is as it was
+stayed : (g h : Guard) → h.step ≡ g.step → ((t : Ticket) (r q : Range) → guarded.range_of t g ≡ Some r → guarded.range_of t h ≡ Some q → q.offset ≡ r.offset) → guarded.KeepsAlignments g h
+stayed g h step same = stays_aligned g h (subst (λ (n : ℕ). g.step ∣ n) (sym step) (dvd_refl g.step)) same
+
+one_range : (o q : Option Range) (r s : Range) → q ≡ o → o ≡ Some r → q ≡ Some s → s.offset ≡ r.offset
+one_range o q r s e f k = let same : Some s ≡ Some r = sym k ∙ e ∙ f in ap (λ (z : Range). z.offset) (let one : s ≡ r = cc in one)
+
+resized : (how : NewSize) (t : Ticket) (d : Bool) (g h : Guard) → Resizes how t d g h → KeepsIn g h
+resized how t d g h r = record {
+  realm = r.serials.realm;
+  given = r.serials.given;
+  live = λ u live. sym (r.kept u) ∙ live;
+  aligned = stayed g h r.serials.step (λ u p q e f. go d r u p q e f);
+}
+  where
+    alike_range : (u t : Ticket) (z : Guard) → guarded.AreAlike u t → guarded.range_of u z ≡ guarded.range_of t z
+    alike_range u t z a = ap₂ (λ (x : ℕ) (b : Bool). if b then named.range_of x z.space else None) a.0
+        (ap₂ (λ (n : ℕ) (b : Bool). nat_eq n z.realm && b) a.2 (ap₂ nat_eq a.1 (ap (λ (x : ℕ). guarded.serial_of x z) a.0)))
+
+    go : (d : Bool) → Resizes how t d g h → (u : Ticket) (p q : Range) → guarded.range_of u g ≡ Some p → guarded.range_of u h ≡ Some q → q.offset ≡ p.offset
+    go false r u p q e f = one_range (guarded.range_of u g) (guarded.range_of u h) p q (range_twin u g h (undone_twin how t g h r)) e f
+    go true r u p q e f = elim (cases_eq u.name t.name) [
+      | inr n ↦ one_range (guarded.range_of u g) (guarded.range_of u h) p q (r.others u (λ a. n a.0)) e f
+      | inl name ↦
+          let fit = live_fits u g (subst IsSome (sym e) refl) in
+          elim (cases_eq u.serial t.serial) [
+            | inr n ↦ one_range (guarded.range_of u g) (guarded.range_of u h) p q (r.others u (λ a. n a.1)) e f
+            | inl serial ↦ elim (cases_eq u.realm t.realm) [
+              | inr n ↦ one_range (guarded.range_of u g) (guarded.range_of u h) p q (r.others u (λ a. n a.2)) e f
+              | inl realm ↦
+                  let was : guarded.range_of t g ≡ Some p = sym (alike_range u t g (name, serial, realm)) ∙ e in
+                  let now : guarded.range_of u h ≡ Some (record p { size = units_wanted how }) = alike_range u t h (name, serial, realm) ∙ r.range refl p was in
+                  let same : Some q ≡ Some (record p { size = units_wanted how }) = sym f ∙ now in
+                  ap (λ (z : Range). z.offset) (let one : q ≡ record p { size = units_wanted how } = cc in one)
+            ]
+          ]
+    ]
+
+extended : (limits : Limits) (k more : ℕ) (d : Bool) (g h : Guard) → ExtendsIf limits k more d g h → KeepsIn g h
+extended limits k more d g h e = record {
+  realm = realm_longer limits k more d g h e;
+  given = (serials d e).given;
+  live = λ u live. subst IsSome (range_longer limits k more d g h e u) live;
+  aligned = stayed g h (serials d e).step (λ u p q f s. one_range (guarded.range_of u g) (guarded.range_of u h) p q (range_longer limits k more d g h e u) f s);
+}
+  where
+    serials : (d : Bool) → ExtendsIf limits k more d g h → guarded.KeepsSerials g h
+    serials true e = e.serials
+    serials false e = e.1
 
 module _ (hs ks : Heaps) where
   pub grants : (size align : ℕ) (r : Result Granted Refusal) → OnErr r (IsSame hs ks) → IfOk r (Grants size align hs ks) → IsStep hs ks
@@ -25,6 +97,17 @@ module _ (hs ks : Heaps) where
   pub relocates : (n align : ℕ) (r : Option Granted) → (r ≡ None → IsSame hs ks) → IfSome r (Grants n align hs ks) → IsStep hs ks
   relocates n align None same step = inl (same refl)
   relocates n align (Some g) same step = inr (inl (n, align, g, step))
+
+  -- at the alignment that the range has
+  pub relocates_own : (p : Place) (r : Option Granted) → ((IsLive p hs → ⊥) → r ≡ None) → (step_at p.heap hs ≡ 0 → r ≡ None) → (r ≡ None → IsSame hs ks)
+      → (IsLive p hs → 1 ≤ step_at p.heap hs → (align : ℕ) × IsOwnAlign p hs align × Relocates p align hs ks r) → IsStep hs ks
+  relocates_own p r dead none same step = elim (cases_eq (step_at p.heap hs) 0) [
+    | inl e ↦ inl (same (none e))
+    | inr d ↦ elim (cases_Bool (is_some (range_of p hs))) [
+      | inl live ↦ let s = step live (omega (arith, d)) in relocates (size_of p hs) s.0 r same s.2.grants
+      | inr gone ↦ inl (same (dead (λ live. absurd (let e : true ≡ false = sym live ∙ gone in cc))))
+    ]
+  ]
 
   pub frees : (p : Place) (b : Bool) → (b ≡ false → IsSame hs ks) → (b ≡ true → FreesIn p hs ks) → IsStep hs ks
   frees p false same step = inl (same refl)
@@ -41,33 +124,35 @@ module _ (hs ks : Heaps) where
   pub resizes : (how : NewSize) (p : Place) (r : Option Bool) → (r ≡ None → IsSame hs ks) → IfSome r (ResizesAt how p hs ks) → IsStep hs ks
   resizes how p None same step = inl (same refl)
   resizes how p (Some d) same step =
-      inr (inr (inr (inr (inr (inl (p.heap, record { before = step.before; after = step.after; heap = step.heap; by = step.by.serials.realm; heaps = step.heaps }))))))
+      inr (inr (inr (inr (inr (inl (p.heap, record { before = step.before; after = step.after; heap = step.heap; by = resized how (ticket_of p) d step.before step.after step.by; heaps = step.heaps }))))))
 
-  pub compacts : (k : ℕ) (b : Bool) → (b ≡ false → IsSame hs ks) → (b ≡ true → CompactsHeap k hs ks) → IsStep hs ks
-  compacts k false same step = inl (same refl)
-  compacts k true same step =
-      let s = step refl in
-      inr (inr (inr (inr (inr (inl (k, record { before = s.before; after = s.after; heap = s.heap; by = ap (λ (g : Guard). g.realm) s.by.serials; heaps = s.heaps }))))))
+  -- what slides keeps each alignment, and no other ticket is live
+  slides : (k : ℕ) (P : Guard → Guard → Type 0) → (a : Alters k P hs ks) → a.after ≡ record a.before { space = a.after.space } → guarded.KeepsSizes a.before a.after
+      → guarded.KeepsAlignments a.before a.after → IsStep hs ks
+  slides k P a serials sizes aligned =
+      inr (inr (inr (inr (inr (inl (k, record { before = a.before; after = a.after; heap = a.heap; by = slid a.before a.after serials sizes aligned; heaps = a.heaps }))))))
 
-  pub rooms : {F : Type 0} (R : F → Move → F → Type 0) (k size : ℕ) (f : F) (c : Option RoomCost) (g : F) → (heap_at k hs ≡ None → IsSame hs ks)
-      → (IsSome (heap_at k hs) → MakesRoomAt R k size hs f c ks g) → IsStep hs ks
-  rooms R k size f c g none step = go (heap_at k hs) refl
+  pub compacts : (k : ℕ) → (heap_at k hs ≡ None → IsSame hs ks) → (IsSome (heap_at k hs) → CompactsHeap k hs ks) → IsStep hs ks
+  compacts k none step = go (heap_at k hs) refl
     where
       go : (o : Option Guard) → heap_at k hs ≡ o → IsStep hs ks
       go None e = inl (none e)
-      go (Some b) e =
-          let s = step (ap is_some e) in
-          inr (inr (inr (inr (inr (inl (k, record { before = s.before; after = s.after; heap = s.heap; by = ap (λ (g : Guard). g.realm) s.by.serials; heaps = s.heaps }))))))
+      go (Some b) e = let s = step (ap is_some e) in slides k _ s s.by.serials s.by.sizes s.by.aligned
+
+  pub rooms : {F : Type 0} (R : F → Move → F → Type 0) (k size align : ℕ) (f : F) (c : Option RoomCost) (g : F) → (heap_at k hs ≡ None → IsSame hs ks)
+      → (IsSome (heap_at k hs) → MakesRoomAt R k size align hs f c ks g) → IsStep hs ks
+  rooms R k size align f c g none step = go (heap_at k hs) refl
+    where
+      go : (o : Option Guard) → heap_at k hs ≡ o → IsStep hs ks
+      go None e = inl (none e)
+      go (Some b) e = let s = step (ap is_some e) in slides k _ s s.by.serials s.by.sizes s.by.aligned
 
   pub fills : (size align : ℕ) (r : Result Granted Refusal) → OnErr r (IsSame hs ks) → IfOk r (λ g. g.is_new ≡ false → GrantsTight size align hs ks g)
       → IfOk r (λ g. g.is_new ≡ true → Grants size align hs ks g) → IsStep hs ks
   fills size align (Err e) same old new = inl same
   fills size align (Ok g) same old new = elim (cases_Bool g.is_new) [
     | inl e ↦ inr (inl (size, align, g, new e))
-    | inr e ↦
-        let s = old e in
-        let realm : s.after.realm ≡ s.was.realm = s.grants.realm.1 ∙ raised_realm hs.limits g.place.heap (blocks_needed align) s.was s.before s.raised in
-        inr (inr (inr (inr (inr (inl (g.place.heap, record { before = s.was; after = s.after; heap = s.heap; by = realm; heaps = s.heaps }))))))
+    | inr e ↦ inr (inr (inr (inr (inr (inr (inr (size, align, g, old e)))))))
   ]
 
   pub extends : (k more : ℕ) (r : Result Bool AllocError) → OnErr r (IsSame hs ks) → (heap_at k hs ≡ None → IsSame hs ks) → IfOk r (λ d. IsSome (heap_at k hs) → ExtendsHeap k more d hs ks)
@@ -79,4 +164,4 @@ module _ (hs ks : Heaps) where
       go None e = inl (none e)
       go (Some b) e =
           let s = step (ap is_some e) in
-          inr (inr (inr (inr (inr (inl (k, record { before = s.before; after = s.after; heap = s.heap; by = realm_longer hs.limits k more d s.before s.after s.by; heaps = s.heaps }))))))
+          inr (inr (inr (inr (inr (inl (k, record { before = s.before; after = s.after; heap = s.heap; by = extended hs.limits k more d s.before s.after s.by; heaps = s.heaps }))))))

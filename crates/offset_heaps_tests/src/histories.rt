@@ -28,6 +28,7 @@ pub enum Change {
     CompactHeap(u32),
     Compact,
     MakeRoom(u32, u32),
+    MakeRoomAligned(u32, u32),
 }
 
 fn allocate(heaps: &mut Heaps, size: u32)
@@ -117,7 +118,7 @@ fn extend_heap(heaps: &mut Heaps, number: u32, more: u32)
 fn compact(heaps: &mut Heaps)
     ensures { IsStep heaps.old heaps.new }
 {
-    heaps.compact(&mut |_number: u32, _range: Move<u32>| ());
+    let _ = heaps.compact(&mut |_number: u32, _range: Move<u32>| ());
 }
 
 fn compact_heap(heaps: &mut Heaps, number: u32)
@@ -130,6 +131,12 @@ fn make_room(heaps: &mut Heaps, number: u32, size: u32)
     ensures { IsStep heaps.old heaps.new }
 {
     let _ = heaps.make_room(number, size, &mut |_range: Move<u32>| ());
+}
+
+fn make_room_aligned(heaps: &mut Heaps, number: u32, size: u32)
+    ensures { IsStep heaps.old heaps.new }
+{
+    let _ = heaps.make_room_aligned(number, size, 256, &mut |_range: Move<u32>| ());
 }
 
 /// Makes a call.
@@ -154,6 +161,7 @@ pub fn make(heaps: &mut Heaps, change: Change)
         Change::CompactHeap(number) => compact_heap(heaps, number),
         Change::Compact => compact(heaps),
         Change::MakeRoom(number, size) => make_room(heaps, number, size),
+        Change::MakeRoomAligned(number, size) => make_room_aligned(heaps, number, size),
     }
 }
 

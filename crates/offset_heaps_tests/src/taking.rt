@@ -3,7 +3,7 @@
 
 ghost use Rattle.std.specs.Prelude.{◌≤◌};
 ghost use Rattle.offset_heaps.specs.Calls.{Allocates, CompactsOne, Drops, DropsEmpty, Frees, GivesUp, Relocates};
-ghost use Rattle.offset_heaps.specs.Calls.{MakesRoomOne, TakesSize};
+ghost use Rattle.offset_heaps.specs.Calls.{CompactsEach, MakesRoomOne, RelocatesOwn, TakesSize};
 ghost use Rattle.offset_heaps.specs.Histories.{ResetsAll};
 ghost use Rattle.offset_heaps.specs.Changing.{Shrunk, Grown};
 
@@ -32,9 +32,9 @@ pub fn free(heaps: &mut Heaps, place: Place) -> bool
     heaps.free(place)
 }
 
-/// Grants a second range in another heap.
+/// Grants a second range in another heap, at each alignment that the first one has.
 pub fn relocate(heaps: &mut Heaps, place: Place) -> Option<Granted>
-    ensures { Relocates place 1 heaps.old heaps.new result }
+    ensures { RelocatesOwn place heaps.old heaps.new result }
 {
     heaps.relocate(place)
 }
@@ -96,9 +96,29 @@ pub fn compact_heap(heaps: &mut Heaps, number: u32) -> bool
     heaps.compact_heap(number, &mut |_range: Move<u32>| ())
 }
 
+/// Compacts all heaps.
+pub fn compact(heaps: &mut Heaps) -> bool
+    ensures { CompactsEach heaps.old heaps.new result }
+{
+    heaps.compact(&mut |_number: u32, _range: Move<u32>| ())
+}
+
 /// Makes room for a request in a heap.
 pub fn make_room(heaps: &mut Heaps, number: u32, size: u32) -> Option<RoomCost>
-    ensures { MakesRoomOne number size heaps.old heaps.new result }
+    ensures { MakesRoomOne number size 1 heaps.old heaps.new result }
 {
     heaps.make_room(number, size, &mut |_range: Move<u32>| ())
+}
+
+/// Makes room for a request with an alignment in a heap.
+pub fn make_room_aligned(
+    heaps: &mut Heaps,
+    number: u32,
+    size: u32,
+    align: u32,
+) -> Option<RoomCost>
+    requires { 1 ≤ align }
+    ensures { MakesRoomOne number size align heaps.old heaps.new result }
+{
+    heaps.make_room_aligned(number, size, align, &mut |_range: Move<u32>| ())
 }

@@ -120,7 +120,8 @@ public:
     uint32 offsetOf(const Place &place) const { return oah_offset_of(heaps, in(place)); }
 
     // The place of a second range in another heap in which at least as many units are live, whose serial is 0 where none
-    // takes it, also where align is 0; the old one stays live. It begins at any multiple, or at one of align.
+    // takes it, also where align is 0; the old one stays live. It keeps every alignment that was asked for, or begins at a
+    // multiple of align, whatever the first one has.
     Place relocate(const Place &place) { return of(oah_relocate(heaps, in(place))); }
     Place relocateAligned(const Place &place, uint32 align) { return of(oah_relocate_aligned(heaps, in(place), align)); }
 
@@ -158,14 +159,19 @@ public:
     // Adds units at the end of the heap of a number, whose buffer became larger in place: whether it did.
     bool extendHeap(uint32 number, uint32 more) { return oah_extend_heap(heaps, number, more); }
 
-    // As that of GuardedAllocator, of each heap, by number: calls moved(number, Move).
-    template <class F> void compact(F &&moved) {
+    // The step of the heap of a number, by which its ranges move; 0 where it has none.
+    uint32 step(uint32 number) const { return oah_step(heaps, number); }
+
+    // Slides the ranges of each heap to its front by its step, by number, so that each keeps every alignment that was asked
+    // for: calls moved(number, Move). Returns whether it was done in each.
+    template <class F> bool compact(F &&moved) {
         detail::Calling<F> each(moved);
-        oah_compact(heaps, detail::Calling<F>::movedIn, &each);
+        const bool done = oah_compact(heaps, detail::Calling<F>::movedIn, &each);
         each.finish();
+        return done;
     }
 
-    // As those of GuardedAllocator, in the heap of a number; the first says whether there is one.
+    // The same of the heap of a number, and room for a request in it.
     template <class F> bool compactHeap(uint32 number, F &&moved) {
         detail::Calling<F> each(moved);
         const bool done = oah_compact_heap(heaps, number, detail::Calling<F>::moved, &each);
@@ -175,6 +181,12 @@ public:
     template <class F> RoomCost makeRoom(uint32 number, uint32 size, F &&moved) {
         detail::Calling<F> each(moved);
         RoomCost cost = detail::of(oah_make_room(heaps, number, size, detail::Calling<F>::moved, &each));
+        each.finish();
+        return cost;
+    }
+    template <class F> RoomCost makeRoomAligned(uint32 number, uint32 size, uint32 align, F &&moved) {
+        detail::Calling<F> each(moved);
+        RoomCost cost = detail::of(oah_make_room_aligned(heaps, number, size, align, detail::Calling<F>::moved, &each));
         each.finish();
         return cost;
     }

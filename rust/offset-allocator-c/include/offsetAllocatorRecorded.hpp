@@ -669,7 +669,19 @@ public:
         return heaps.free(place);
     }
     // The second range is a request of the heap that takes it, with the name of the first, and where that was.
-    Place relocate(const Place &place) { return relocated(place, 1); }
+    // The first is at what the offset of the range and the step of its heap have in common; of a heap without a step none is taken, and
+    // nothing is written.
+    Place relocate(const Place &place) {
+        uint32 offset = heaps.offsetOf(place), step = heaps.step(place.heap);
+        if (!heaps.isLive(place)) return relocated(place, 1);
+        if (step == 0) return heaps.relocate(place);
+        while (offset != 0) {
+            const uint32 rest = step % offset;
+            step = offset;
+            offset = rest;
+        }
+        return relocated(place, step);
+    }
     Place relocateAligned(const Place &place, uint32 align) { return relocated(place, align); }
     // Written where it is done: who plays it has the most nodes that the heap may grow to.
     bool shrink(const Place &place, uint32 size) {
@@ -690,21 +702,28 @@ public:
         if (isDone) tape.write("heap %u extend %u\n", number, more);
         return isDone;
     }
-    // A line for each heap that there is.
-    template <class F> void compact(F &&moved) {
-        heaps.compact(std::forward<F>(moved));
-        each("compact");
+    // Each heap that there is, one after another.
+    template <class F> bool compact(F &&moved) {
+        bool all = true;
+        for (uint32 number = heaps.firstHeap(); number != Allocation::NO_SPACE; number = heaps.heapAfter(number))
+            if (!compactHeap(number, [&](Move range) { moved(number, range); })) all = false;
+        return all;
     }
-    // Of a number that has no heap nothing is written.
+    // By the step of the heap. Where it is not done nothing is written.
     template <class F> bool compactHeap(uint32 number, F &&moved) {
+        const uint32 step = heaps.step(number);
         bool isDone = heaps.compactHeap(number, std::forward<F>(moved));
-        if (isDone) tape.write("heap %u compact\n", number);
+        if (isDone) tape.write("heap %u compact %u\n", number, step);
         return isDone;
     }
     template <class F> RoomCost makeRoom(uint32 number, uint32 size, F &&moved) {
-        bool has = heaps.has(number);
-        RoomCost cost = heaps.makeRoom(number, size, std::forward<F>(moved));
-        if (has) tape.write("heap %u room %u\n", number, size);
+        return makeRoomAligned(number, size, 1, std::forward<F>(moved));
+    }
+    // Where none is made nothing is written.
+    template <class F> RoomCost makeRoomAligned(uint32 number, uint32 size, uint32 align, F &&moved) {
+        const uint32 step = heaps.step(number);
+        RoomCost cost = heaps.makeRoomAligned(number, size, align, std::forward<F>(moved));
+        if (cost.possible) tape.write("heap %u room %u %u %u\n", number, size, align, step);
         return cost;
     }
     template <class F> void dropEmpty(uint32 keep, F &&dropped) {

@@ -158,8 +158,9 @@ uint32_t oah_offset_of(const oah_heaps *heaps, oah_place place);
  * room for one, and goes to a heap with more live units or, of as many, with a lower number. Such calls, each followed by the
  * release of its old range before the next one, come to an end, since the sum of the squares of the heaps' live units grows
  * at each that has units; with later releases a range may go to and fro: make one pass, free what it left, then begin the
- * next. The range begins at any multiple: for one at an alignment see oah_relocate_aligned. Done for each live range of the
- * emptiest heap, it empties that heap, for oah_drop_empty:
+ * next. The second range keeps every alignment that was asked for: it begins at a multiple of what the offset of the first one
+ * and the step of its heap (oah_step) have in common. Of a heap that has no step no range is taken; see oah_relocate_aligned.
+ * Done for each live range of the emptiest heap, it empties that heap, for oah_drop_empty:
  *
  *     uint32_t from = oah_emptiest(heaps);
  *     for (oah_place old = oah_last_live(heaps, from), next; old.ticket.serial; old = next) {
@@ -168,11 +169,11 @@ uint32_t oah_offset_of(const oah_heaps *heaps, oah_place place);
  *         if (to.ticket.serial) ...      // copy the units, and oah_free(heaps, old) when no frame reads the old ones
  *     }
  *
- * Cost: that of oah_allocate, and at most one read of each number. */
+ * Cost: that of oah_allocate_aligned, and at most one read of each number. */
 oah_place oah_relocate(oah_heaps *heaps, oah_place place);
 
-/* The same at a multiple of align, which is at least 1, in the heap, which needs room for as many units and align - 1 more, or
- * for one. Its serial is 0 also where align is 0. */
+/* The same at a multiple of align, which is at least 1, whatever alignment the first range has: with 1 at any. The heap needs
+ * room for as many units and align - 1 more, or for one. Its serial is 0 also where align is 0. */
 oah_place oah_relocate_aligned(oah_heaps *heaps, oah_place place, uint32_t align);
 
 /* The number of the heap with the fewest live units, of those that have a live range, the last such; OA_NO_SPACE where
@@ -231,15 +232,28 @@ oah_reason oah_refusal_tight_aligned(const oah_heaps *heaps, uint32_t size, uint
  * the number has no heap, or the memory for these was refused. */
 bool oah_extend_heap(oah_heaps *heaps, uint32_t number, uint32_t more);
 
-/* As oag_compact, of the heap of a number: true if there is one. Every place stays live; a range that moves begins at
- * oah_offset_of from then on. The moves are within the buffer of that number. */
+/* The step of the heap of a number: the least common multiple of the alignments of its grants since it was made or reset. What
+ * moves goes by multiples of it. 0 where that would have more than 32 bits, or the number has no heap. */
+uint32_t oah_step(const oah_heaps *heaps, uint32_t number);
+
+/* Slides the live ranges of the heap of a number to its front by multiples of its step, as oag_compact_by does, so that each
+ * keeps every alignment that was asked for. True if done; false, and no range moves, where the number has no heap, or the heap
+ * no step, or oag_compact_by refuses it under the nodes that the heap has now. Every place stays live; a range that moves begins
+ * at oah_offset_of from then on. The moves are within the buffer of that number. */
 bool oah_compact_heap(oah_heaps *heaps, uint32_t number, void (*moved)(void *user, oa_move range), void *user);
 
-/* The same of each heap, by number: `moved` is called with the number of the heap and each move in it. */
-void oah_compact(oah_heaps *heaps, void (*moved)(void *user, uint32_t heap, oa_move range), void *user);
+/* The same of each heap, by number: `moved` is called with the number of the heap and each move in it. True if it was done in
+ * each; one that refuses it stays as it is. */
+bool oah_compact(oah_heaps *heaps, void (*moved)(void *user, uint32_t heap, oa_move range), void *user);
 
-/* As oag_make_room, in the heap of a number. oah_allocate takes the first heap that has room. */
+/* Makes room for oah_allocate(heaps, size) in the heap of a number, as oag_make_room_by does by its step: each range that moves
+ * keeps every alignment that was asked for. Not possible also where the heap has no step. oah_allocate takes the first heap that
+ * has room. */
 oa_room oah_make_room(oah_heaps *heaps, uint32_t number, uint32_t size, void (*moved)(void *user, oa_move range), void *user);
+
+/* The same for oah_allocate_aligned(heaps, size, align), where align is at least 1. Not possible also where it is 0. */
+oa_room oah_make_room_aligned(oah_heaps *heaps, uint32_t number, uint32_t size, uint32_t align, void (*moved)(void *user, oa_move range),
+                              void *user);
 
 /* Takes back the heap of a number, with all that it granted. True if there was one. No place of it is ever live again. */
 bool oah_give_up(oah_heaps *heaps, uint32_t number);

@@ -291,9 +291,9 @@ exports! {
         [heaps: &mut ManyHeaps],
         moved: Option<HeapCallback>,
         user: Option<NonNull<c_void>>
-    ) -> () {
+    ) -> bool {
         heaps.compact(calls_at(moved, user))
-    } else ();
+    } else false;
 
     fn oah_make_room(
         [heaps: &mut ManyHeaps],
@@ -304,6 +304,21 @@ exports! {
     ) -> Room {
         room(heaps.make_room(number, size, &mut calls(moved, user)))
     } else Room::default();
+
+    fn oah_make_room_aligned(
+        [heaps: &mut ManyHeaps],
+        number: u32,
+        size: u32,
+        align: u32,
+        moved: Option<Callback>,
+        user: Option<NonNull<c_void>>
+    ) -> Room {
+        if align != 0 { room(heaps.make_room_aligned(number, size, align, &mut calls(moved, user))) } else { Room::default() }
+    } else Room::default();
+
+    fn oah_step([heaps: &ManyHeaps], number: u32) -> u32 {
+        heaps.heap(number).and_then(|heap| heap.step()).unwrap_or(0)
+    } else 0;
 
     fn oah_give_up([heaps: &mut ManyHeaps], number: u32) -> bool { heaps.give_up(number) } else false;
 

@@ -260,6 +260,44 @@ static void note_move_in(void *user, uint32_t heap, oa_move range) {
     moved_in[heap] += range.size;
 }
 
+/* Ranges at 64 and 48 of two heaps keep their alignments wherever they go; with one more alignment a heap has no step. */
+static void steps(void) {
+    oah_limits limits = {.size = 512, .max_allocs = 16, .most = 2, .most_larger = 0};
+    oah_heaps *heaps = oah_with_realm(limits, 9);
+    oah_place hole = oah_allocate(heaps, 100).place, a = oah_allocate_aligned(heaps, 50, 64).place, b = oah_allocate_aligned(heaps, 50, 48).place;
+    CHECK(oah_offset_of(heaps, a) == 128 && oah_offset_of(heaps, b) == 192 && oah_step(heaps, 0) == 192 && oah_step(heaps, 1) == 0);
+    oah_place page = oah_allocate_aligned(heaps, 512, 512).place;
+    CHECK(page.heap == 1 && oah_step(heaps, 1) == 512 && oah_free(heaps, page) && oah_free(heaps, hole));
+    /* nothing moves by 192 units: 128 are free before the first, and 14 between them */
+    units_moved = 0;
+    CHECK(oah_compact_heap(heaps, 0, note_move, NULL) && oah_compact(heaps, NULL, NULL) && units_moved == 0);
+    /* once the first is freed, the second goes from 192 to 0 */
+    CHECK(oah_free(heaps, a) && !oah_make_room_aligned(heaps, 0, 300, 0, note_move, NULL).possible && units_moved == 0);
+    CHECK(oah_make_room_aligned(heaps, 0, 300, 32, note_move, NULL).units == 50 && units_moved == 50 && oah_offset_of(heaps, b) == 0);
+    CHECK(oah_allocate_aligned(heaps, 300, 32).place.heap == 0 && oah_step(heaps, 0) == 192);
+    /* a range of the other heap, at 96 with the step 96, goes to a multiple of 96, which the step takes in */
+    oah_drop(heaps);
+    heaps = oah_with_realm(limits, 9);
+    oah_place first = oah_allocate(heaps, 90).place, rest = oah_allocate(heaps, 400).place, second = oah_allocate(heaps, 30).place;
+    oah_place third = oah_allocate_aligned(heaps, 20, 96).place;
+    CHECK(first.heap == 0 && second.heap == 1 && third.heap == 1 && oah_offset_of(heaps, third) == 96 && oah_step(heaps, 0) == 1 && oah_free(heaps, rest));
+    oah_place to = oah_relocate(heaps, third);
+    CHECK(to.heap == 0 && oah_offset_of(heaps, to) == 96 && oah_step(heaps, 0) == 96 && oah_free(heaps, third));
+    /* 96 and 101 have 9696; a request that is refused leaves the step */
+    CHECK(oah_allocate_aligned(heaps, 1, 101).place.heap == 0 && oah_step(heaps, 0) == 9696);
+    CHECK(oah_allocate_aligned(heaps, 1, 4294967291u).refusal != OAH_GRANTED && oah_step(heaps, 0) == 9696);
+    oah_drop(heaps);
+    /* 4294967295 and 16 have no multiple of 32 bits: nothing moves, but where an alignment is given */
+    heaps = oah_with_realm(limits, 9);
+    oah_place whole = oah_allocate_aligned(heaps, 300, 4294967295u).place;
+    oah_place other = oah_allocate_aligned(heaps, 40, 16).place, lone = oah_allocate(heaps, 200).place;
+    CHECK(whole.heap == 0 && other.heap == 0 && lone.heap == 1 && oah_step(heaps, 0) == 0 && oah_step(heaps, 1) == 1);
+    CHECK(!oah_compact_heap(heaps, 0, NULL, NULL) && !oah_compact(heaps, NULL, NULL) && !oah_make_room(heaps, 0, 1, NULL, NULL).possible);
+    CHECK(oah_free(heaps, whole) && oah_offset_of(heaps, other) == 304 && !oah_relocate(heaps, other).ticket.serial);
+    CHECK(oah_relocate_aligned(heaps, other, 16).heap == 1);
+    oah_drop(heaps);
+}
+
 /* Heaps that become larger, tight requests, and all heaps compacted. */
 static void filled(void) {
     oah_limits limits = {.size = 100, .max_allocs = 8, .most = 2, .most_larger = 0};
@@ -275,15 +313,16 @@ static void filled(void) {
     CHECK(oah_extend_heap(heaps, 1, 30) && oah_units_of_heap(heaps, 1) == 130 && !oah_extend_heap(heaps, 2, 1) && !oah_extend_heap(heaps, 1, 4294967295u));
     CHECK(oah_refusal_tight_aligned(heaps, 1, 0) == OAH_BAD_CALL && oah_allocate_tight(heaps, 40).place.heap == 1);
     CHECK(oah_free(heaps, rest) && oah_free(heaps, other.place));
-    oah_compact(heaps, note_move_in, NULL);
-    CHECK(moved_in[0] == 4 && moved_in[1] == 40 && oah_offset_of(heaps, last) == 21);
-    /* 75 units from 25 on are free in the first heap, and 90 from 40 on in the second, of which 62 are from 68 on */
+    CHECK(oah_compact(heaps, note_move_in, NULL));
+    /* 4 units go from 96 to 32, since they were asked for at a multiple of 16 */
+    CHECK(moved_in[0] == 4 && moved_in[1] == 40 && oah_offset_of(heaps, last) == 32);
+    /* 64 units from 36 on are free in the first heap, and 90 from 40 on in the second, of which 62 are from 68 on */
     CHECK(oah_refusal_tight(heaps, 62) == OAH_GRANTED && oah_refusal_tight_aligned(heaps, 62, 17) == OAH_GRANTED);
     CHECK(oah_refusal_tight_aligned(heaps, 63, 68) == OAH_FULL && oah_refusal_tight_aligned(heaps, 62, 68) == OAH_GRANTED);
     /* a heap that is larger than the limits say is read again */
     oa_state *state = oah_write_state(heaps);
     oah_read read = oah_read_state(state, 2, 8);
-    CHECK(read.heaps && oah_units_of_heap(read.heaps, 1) == 130 && oah_offset_of(read.heaps, last) == 21);
+    CHECK(read.heaps && oah_units_of_heap(read.heaps, 1) == 130 && oah_offset_of(read.heaps, last) == 32 && oah_step(read.heaps, 0) == 16);
     oa_state_drop(state);
     oah_drop(read.heaps);
     /* once it is dropped, its number has the units of the limits again */
@@ -398,8 +437,9 @@ static void nulls(void) {
     CHECK(oah_refusal_aligned(NULL, 1, 1) == OAH_BAD_CALL && !oah_shrink(NULL, none.place, 0) && !oah_grow_in_place(NULL, none.place, 0));
     CHECK(oah_allocate_tight(NULL, 1).refusal == OAH_BAD_CALL && oah_allocate_tight_aligned(NULL, 1, 1).refusal == OAH_BAD_CALL);
     CHECK(oah_refusal_tight(NULL, 1) == OAH_BAD_CALL && oah_refusal_tight_aligned(NULL, 1, 1) == OAH_BAD_CALL && !oah_extend_heap(NULL, 0, 1));
-    oah_compact(NULL, NULL, NULL);
+    CHECK(!oah_compact(NULL, NULL, NULL) && oah_step(NULL, 0) == 0);
     CHECK(!oah_compact_heap(NULL, 0, NULL, NULL) && !oah_make_room(NULL, 0, 0, NULL, NULL).possible);
+    CHECK(!oah_make_room_aligned(NULL, 0, 1, 1, NULL, NULL).possible);
     oah_reset(NULL);
     oah_drop(NULL);
 }
@@ -413,6 +453,7 @@ int main(void) {
     realms();
     nulls();
     in_place();
+    steps();
     filled();
     heaps_grow();
     heaps_double();

@@ -86,8 +86,8 @@ int main() {
     Place behind = filled.allocateTightAligned(16, 8).place;
     CHECK(behind.heap == 0 && filled.offsetOf(behind) == 96 && filled.free(late));
     std::vector<std::pair<uint32, uint32>> slid;
-    filled.compact([&](uint32 number, Move it) { slid.push_back({number, it.size}); });
-    CHECK(slid.size() == 1 && slid[0].first == 0 && slid[0].second == 16 && filled.offsetOf(behind) == 21);
+    CHECK(filled.compact([&](uint32 number, Move it) { slid.push_back({number, it.size}); }));
+    CHECK(slid.size() == 1 && slid[0].first == 0 && slid[0].second == 16 && filled.offsetOf(behind) == 24);
     // each heap has its number: 30 units of the first slide by 60, and 20 of the second by 50
     Heaps sliding({100, 8, 2, 0});
     Place holes[] = {sliding.allocate(60).place, sliding.allocate(30).place, sliding.allocate(50).place, sliding.allocate(20).place};
@@ -143,6 +143,14 @@ int main() {
     uint32 units = 0;
     CHECK(changed.compactHeap(0, [&](const Move &move) { units += move.size; }) && units == 40 && changed.offsetOf(high) == 40);
     CHECK(changed.free(low) && changed.makeRoom(0, 56, [&](const Move &move) { units += move.size; }).possible && units == 80);
+    // a range at 128 goes to 0 by its step, and one in another heap to a multiple of 64
+    Heaps stepped({512, 16, 2, 0});
+    Place gap = stepped.allocate(100).place, texture = stepped.allocateAligned(50, 64).place, rest = stepped.allocate(300).place;
+    CHECK(stepped.step(0) == 64 && stepped.step(1) == 0 && stepped.offsetOf(texture) == 128 && stepped.free(gap) && stepped.free(rest));
+    CHECK(stepped.makeRoomAligned(0, 300, 64, [&](Move it) { CHECK(it.from == 128 && it.to == 0); }).units == 50 && stepped.offsetOf(texture) == 0);
+    CHECK(stepped.compact([](uint32, Move) {}) && stepped.allocate(448).place.heap == 0 && stepped.makeRoomAligned(0, 1, 0, [](Move) {}).possible == false);
+    Place odd64 = stepped.allocateAligned(10, 64).place;
+    CHECK(odd64.heap == 1 && stepped.step(1) == 64);
 
     Heaps dumped = Heaps::withRealm({100, 8, 3, 0}, 1);
     Place one = dumped.allocate(96).place, other = dumped.allocate(96).place, third = dumped.allocate(60).place;

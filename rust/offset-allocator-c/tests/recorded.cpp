@@ -346,7 +346,7 @@ static void manyHeaps(const std::string &path) {
           "#! frame\nnone alloc 0 empty\n# too large\nnone align 5001 8 full\nheap 0 align 24 64\nheap 1 space 1000 nodes 16 index 32\nheap 1 alloc 660\n"
           "none relocate 660 1\n# mesh: rock and moss (of grant 1, heap 0)\nheap 1 align 300 8\nheap 0 free 1\nnone free\nnone relocate\nheap 1 drop\n"
           "heap 2 free 1\nheap 2 drop\nheap 1 give up\nheap 1 space 1000 nodes 16 index 32\nheap 1 alloc 900\nheap 0 reset\nheap 1 reset\n# all of it\nheap 0 tight 1000\nheap 1 tight 8 16\n"
-          "heap 2 space 1001 nodes 4 index 32\nheap 2 tight 1001\nnone tight 5000 8 full\nheap 1 extend 24\nheap 0 compact\nheap 1 compact\nheap 2 compact\n#! unit 16\n#! mark end\n", "the lines");
+          "heap 2 space 1001 nodes 4 index 32\nheap 2 tight 1001\nnone tight 5000 8 full\nheap 1 extend 24\nheap 0 compact 1\nheap 1 compact 16\nheap 2 compact 1\n#! unit 16\n#! mark end\n", "the lines");
     RecordedHeaps none(nullptr, {1000, 16, 2, 1});
     check(none.isFailed() && none.allocate(10), "without a file calls go on");
 }

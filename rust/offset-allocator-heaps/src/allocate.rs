@@ -95,7 +95,7 @@ impl<T: Tables> HeapsOf<T> {
         if self.made == u32::MAX {
             return Err(Refusal::Full);
         }
-        match fresh::usual(self.alloc, self.limits, number, self.made + 1, size) {
+        match fresh::usual(self.alloc, self.limits, number, self.made + 1, size, align) {
             Err(_) => Err(Refusal::Memory),
             Ok((slot, ticket)) => Ok(self.add(number, slot, ticket)),
         }
@@ -106,7 +106,7 @@ impl<T: Tables> HeapsOf<T> {
         if self.made == u32::MAX {
             return Err(Refusal::Full);
         }
-        match fresh::larger(self.alloc, self.made + 1, size) {
+        match fresh::larger(self.alloc, self.made + 1, size, align) {
             Err(_) => Err(Refusal::Memory),
             Ok((slot, ticket)) => Ok(self.add(number, slot, ticket)),
         }

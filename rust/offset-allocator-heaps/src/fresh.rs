@@ -1,6 +1,7 @@
 // Printed by rust/erase from crates/offset_heaps/src/fresh.rt: change it there.
 
-//! Heaps that are made for a request, which they grant at once. It touches nothing else.
+//! Heaps that are made for a request, which they grant at once, and whose alignment their step takes in. It touches
+//! nothing else.
 
 use crate::limits::{Limits, usual_size};
 use crate::slots;
@@ -18,6 +19,7 @@ pub(crate) fn usual<T: Tables>(
     number: u32,
     realm: u32,
     size: u32,
+    align: u32,
 ) -> Result<(Option<GuardedOf<T>>, Ticket), AllocError> {
     let mut slot = Some(GuardedOf::with_realm(
         alloc,
@@ -25,7 +27,7 @@ pub(crate) fn usual<T: Tables>(
         limits.first_allocs,
         realm,
     )?);
-    let ticket = slots::grant_in(&mut slot, size, 1);
+    let ticket = slots::grant_first_in(&mut slot, size, align);
     Ok((slot, ticket))
 }
 
@@ -34,8 +36,9 @@ pub(crate) fn larger<T: Tables>(
     alloc: Global,
     realm: u32,
     size: u32,
+    align: u32,
 ) -> Result<(Option<GuardedOf<T>>, Ticket), AllocError> {
     let mut slot = Some(GuardedOf::with_realm(alloc, size, LARGER_LIMIT, realm)?);
-    let ticket = slots::grant_tight_in(&mut slot, size);
+    let ticket = slots::grant_tight_in(&mut slot, size, align);
     Ok((slot, ticket))
 }

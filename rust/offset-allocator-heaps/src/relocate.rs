@@ -35,10 +35,24 @@ impl<T: Tables> HeapsOf<T> {
         )
     }
 
-    /// Grants a second range of as many units as that of a live place, in another heap, and returns its place
-    /// and its offset; its heap is never a new one. The old range stays live until it is freed: so the units can
-    /// be copied while the old ones are still read, and the copies never overlap. Done for all live ranges of the
-    /// `emptiest` heap, by `last_live` and `live_before`, it empties that heap, which `drop_empty` then drops.
+    // The alignment that `relocate` asks for, or `None` where the place is not live, or its heap has no step.
+    fn alignment_of(&mut self, place: Place) -> Option<u32> {
+        let (own, realm, ticket) = place.split();
+        if realm != self.realm {
+            return None;
+        }
+        self.slots.alignment_at(own, ticket, &mut self.accesses)
+    }
+
+    /// Grants a second range of as many units as that of a live place, in another heap, **at every alignment that was
+    /// asked for**, and returns its place and its offset; its heap is never a new one. The old range stays live until
+    /// it is freed: so the units can be copied while the old ones are still read, and the copies never overlap. Done for
+    /// all live ranges of the `emptiest` heap, by `last_live` and `live_before`, it empties that heap, which `drop_empty`
+    /// then drops.
+    ///
+    /// It grants what `relocate_aligned(place, align)` grants, where `align` is what the offset of the range and the step
+    /// of its heap have in common, their greatest common divisor, as `GuardedOf::relocate` does; the step of the other
+    /// heap takes it in.
     ///
     /// The heap is the first one, by number, that has room, other than the place's own, and in which at least
     /// as many units are live. A range of no units, which `shrink` may leave, needs room for one; since it adds
@@ -49,12 +63,11 @@ impl<T: Tables> HeapsOf<T> {
     /// the law `relocations_end` of the proved sources. With later releases a range may go to and fro: make one pass, free what it left,
     /// then begin the next. No heap is made, and no
     /// memory is taken: a heap whose node limit would have to be raised for it, as `Limits::first_allocs` says,
-    /// takes no range. The range is what `GuardedOf::allocate` grants there: for one at an alignment see
-    /// `relocate_aligned`.
+    /// takes no range.
     ///
-    /// `None` is returned where no heap takes the range, and where the place is not live; then nothing
-    /// changes. It looks for the first heap that has room as `allocate` does, and from there on reads each
-    /// slot once, up to the one that takes the range.
+    /// `None` is returned where no heap takes the range, where its heap has no step, and where the place is not
+    /// live; then nothing changes. It looks for the first heap that has room as `allocate_aligned` does, and from
+    /// there on reads each slot once, up to the one that takes the range.
     ///
     /// ```
     /// # use offset_allocator_heaps::*;
@@ -63,19 +76,21 @@ impl<T: Tables> HeapsOf<T> {
     /// let mut heaps = Heaps::<u32>::new(alloc, limits)?;
     /// heaps.allocate(500).unwrap();
     /// let old = heaps.allocate(400).unwrap().place;
-    /// let mesh = heaps.allocate(300).unwrap().place;
+    /// let mesh = heaps.allocate_aligned(200, 256).unwrap().place;
     /// heaps.free(old);
     /// let moved = heaps.relocate(mesh).unwrap();
-    /// assert_eq!((mesh.heap, moved.place.heap, moved.offset), (1, 0, 500));
+    /// assert_eq!((mesh.heap, moved.place.heap, moved.offset), (1, 0, 512));
     /// # Ok::<(), AllocError>(())
     /// ```
     pub fn relocate(&mut self, place: Place) -> Option<Granted> {
-        self.relocate_aligned(place, 1)
+        let align = self.alignment_of(place)?;
+        self.relocate_aligned(place, align)
     }
 
-    /// As `relocate`, and the second range begins at a multiple of `align`, from 1 on, in its heap: the
-    /// first other one that has room for an aligned request as `allocate_aligned` has it, for
-    /// `size + align - 1` units, or one where that is none, and that may take it as `relocate` says.
+    /// As `relocate`, and the second range begins at a multiple of `align`, from 1 on, whatever alignment the first
+    /// one has: with 1 at any. Its heap is the first other one that has room for an aligned request as
+    /// `allocate_aligned` has it, for `size + align - 1` units, or one where that is none, and that may take it as
+    /// `relocate` says. It is for a range in a heap that has no step, and for one that needs less.
     ///
     /// # Panics
     ///

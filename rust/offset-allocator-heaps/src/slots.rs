@@ -3,7 +3,7 @@
 //! The heaps by their numbers: no other module reads or writes them. Each function counts the slots that it
 //! touches.
 
-use crate::compact::compact_numbered;
+use crate::compact::{compact_numbered, compact_one};
 use crate::extend::extend_in;
 use crate::index::{has_serial_left, is_empty_heap, nodes_left, rooms};
 use crate::limits::Limits;
@@ -94,11 +94,39 @@ pub(crate) fn grant_in<T: Tables>(slot: &mut Option<GuardedOf<T>>, size: u32, al
     }
 }
 
-/// Grants a request in a heap that has a free block for it.
-pub(crate) fn grant_tight_in<T: Tables>(slot: &mut Option<GuardedOf<T>>, size: u32) -> Ticket {
+/// Grants the first request of a heap, which has room for it, where it begins at 0: a multiple of `align`, which the
+/// step takes in.
+pub(crate) fn grant_first_in<T: Tables>(
+    slot: &mut Option<GuardedOf<T>>,
+    size: u32,
+    align: u32,
+) -> Ticket {
+    match slot {
+        Some(heap) => {
+            match heap.allocate_aligned(size, 1) {
+                Some(ticket) => {
+                    heap.raise_step(align);
+                    ticket
+                }
+                None => unreachable!(),
+            }
+        }
+        None => unreachable!(),
+    }
+}
+
+/// The same of a heap that has a free block for it.
+pub(crate) fn grant_tight_in<T: Tables>(
+    slot: &mut Option<GuardedOf<T>>,
+    size: u32,
+    align: u32,
+) -> Ticket {
     match slot {
         Some(heap) => match heap.allocate_tight(size) {
-            Some(ticket) => ticket,
+            Some(ticket) => {
+                heap.raise_step(align);
+                ticket
+            }
             None => unreachable!(),
         },
         None => unreachable!(),
@@ -157,34 +185,38 @@ fn resize_in<T: Tables>(
     }
 }
 
-// Slides every live range of a heap to the front of its space.
-fn compact_in<T: Tables, F: FnMut(Move<T::Index>)>(slot: &mut Option<GuardedOf<T>>, moved: &mut F) {
+// Slides live ranges of a heap to the front of its space by its step, and returns whether it was done.
+fn compact_in<T: Tables, F: FnMut(Move<T::Index>)>(
+    slot: &mut Option<GuardedOf<T>>,
+    moved: &mut F,
+) -> bool {
     match slot {
-        Some(heap) => heap.compact_unaligned(moved),
+        Some(heap) => compact_one(heap, moved),
         None => unreachable!(),
     }
 }
 
-// Slides every live range of a heap to the front of its space, where there is one, and calls the closure with its
-// number too.
+// The same where there is one, and calls the closure with its number too.
 fn compact_numbered_in<T: Tables, F: FnMut(u32, Move<T::Index>)>(
     slot: &mut Option<GuardedOf<T>>,
     number: u32,
     moved: &mut F,
-) {
-    if let Some(heap) = slot {
-        compact_numbered(heap, number, moved);
+) -> bool {
+    match slot {
+        Some(heap) => compact_numbered(heap, number, moved),
+        None => true,
     }
 }
 
-// Makes room for a request in a heap.
+// Makes room for a request in a heap by its step.
 fn make_room_in<T: Tables, F: FnMut(Move<T::Index>)>(
     slot: &mut Option<GuardedOf<T>>,
     size: u32,
+    align: u32,
     moved: &mut F,
 ) -> Option<RoomCost> {
     match slot {
-        Some(heap) => heap.make_room_unaligned(size, moved),
+        Some(heap) => heap.make_room_aligned(size, align, moved),
         None => unreachable!(),
     }
 }
@@ -202,6 +234,26 @@ fn reset_in<T: Tables>(slot: &mut Option<GuardedOf<T>>) {
 pub(crate) fn units_for(size: u32, align: u32) -> u64 {
     let units = size as u64 + align as u64 - 1;
     if units == 0 { 1 } else { units }
+}
+
+// The greatest common divisor, by Euclid.
+fn common_divisor(first: u32, second: u32) -> u32 {
+    let mut divisor = first;
+    let mut rest = second;
+    while rest != 0 {
+        let next = divisor % rest;
+        divisor = rest;
+        rest = next;
+    }
+    divisor
+}
+
+// What the offset of the range of a ticket, where it is live, and the step of its heap have in common, or `None` where
+// the heap has no step.
+fn alignment_in<T: Tables>(heap: &GuardedOf<T>, ticket: Ticket) -> Option<u32> {
+    let step = heap.step()?;
+    let offset = heap.offset_of(ticket)?;
+    Some(common_divisor(offset, step))
 }
 
 // Whether a heap with `full` live units may take a range of `size` units of the heap `own`, which has `live`.
@@ -378,39 +430,40 @@ impl<T: Tables> Slots<T> {
         )
     }
 
-    /// Slides every live range of the heap of a number to the front of its space.
+    /// Slides live ranges of the heap of a number to the front of its space by its step, and returns whether it was
+    /// done.
     pub(crate) fn compact<F: FnMut(Move<T::Index>)>(
         &mut self,
         number: u32,
         moved: &mut F,
         count: &mut Accesses,
-    ) {
+    ) -> bool {
         count.tick();
-        compact_in(&mut self.heaps[number as usize], moved);
+        compact_in(&mut self.heaps[number as usize], moved)
     }
 
-    /// Slides every live range of the heap of a number to the front of its space, where it has one, and calls the
-    /// closure with the number too.
+    /// The same where it has one, and calls the closure with the number too. It is done where there is no heap.
     pub(crate) fn compact_numbered<F: FnMut(u32, Move<T::Index>)>(
         &mut self,
         number: u32,
         moved: &mut F,
         count: &mut Accesses,
-    ) {
+    ) -> bool {
         count.tick();
-        compact_numbered_in(&mut self.heaps[number as usize], number, moved);
+        compact_numbered_in(&mut self.heaps[number as usize], number, moved)
     }
 
-    /// Makes room for a request in the heap of a number.
+    /// Makes room for a request in the heap of a number by its step.
     pub(crate) fn make_room<F: FnMut(Move<T::Index>)>(
         &mut self,
         number: u32,
         size: u32,
+        align: u32,
         moved: &mut F,
         count: &mut Accesses,
     ) -> Option<RoomCost> {
         count.tick();
-        make_room_in(&mut self.heaps[number as usize], size, moved)
+        make_room_in(&mut self.heaps[number as usize], size, align, moved)
     }
 
     /// Makes the space of the heap of a number one free block again.
@@ -448,6 +501,19 @@ impl<T: Tables> Slots<T> {
                 None => None,
                 Some(size) => Some((size, heap.allocator().live_units())),
             },
+        }
+    }
+
+    /// The same of the heap of a number.
+    pub(crate) fn alignment_at(
+        &self,
+        number: u32,
+        ticket: Ticket,
+        count: &mut Accesses,
+    ) -> Option<u32> {
+        match self.at(number, count) {
+            None => None,
+            Some(heap) => alignment_in(heap, ticket),
         }
     }
 

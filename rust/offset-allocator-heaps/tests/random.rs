@@ -1,4 +1,5 @@
-//! Random calls against a plain list of the live ranges of each heap.
+//! Random calls against a plain list of the live ranges of each heap. After every call each range begins at a multiple of the
+//! alignment that it was granted at, wherever it went, and the step of each heap is the least common multiple of its alignments.
 //!
 //! `cargo test` makes 300,000 with each index type and layout. Three million, with and without overflow checks:
 //!
@@ -40,6 +41,30 @@ fn class_value(units: u32) -> u32 {
     value
 }
 
+// The greatest common divisor, by halves and differences, of two numbers, one of which may be 0.
+fn common_divisor(mut a: u32, mut b: u32) -> u32 {
+    let mut twos = 0;
+    while a != 0 && b != 0 {
+        match (a % 2, b % 2) {
+            (0, 0) => (a, b, twos) = (a / 2, b / 2, twos + 1),
+            (0, _) => a /= 2,
+            (_, 0) => b /= 2,
+            _ if a > b => a -= b,
+            _ => b -= a,
+        }
+    }
+    (a + b) << twos
+}
+
+// The least common multiple, where it has 32 bits.
+fn common_multiple(step: u32, align: u32) -> Option<u32> {
+    let (step, align) = (u64::from(step), u64::from(align));
+    (1..=align).map(|it| it * step).find(|it| it % align == 0).and_then(|it| it.try_into().ok())
+}
+
+// The alignments of requests; the last ones are any.
+const FAMILIES: [&[u32]; 6] = [&[2, 16, 64, 256], &[12, 20, 32], &[3, 5, 8], &[48, 7], &[4, 96], &[]];
+
 // What distinguishes places.
 type Key = (u32, u32, u32, u64, u32);
 
@@ -50,11 +75,19 @@ fn key(p: Place) -> Key {
 // Live ranges in space order, by offset, whether they have units, and name: of one offset those of no units come first.
 type Ranges = BTreeMap<(u32, bool, u32), u32>;
 
-// A heap: its units, its node limit, and its live ranges.
+// A heap: its units, its node limit, its live ranges, and its step, where it has one.
 struct Heap {
     units: u32,
     limit: u32,
     ranges: Ranges,
+    step: Option<u32>,
+}
+
+impl Heap {
+    // A grant takes its alignment into the step.
+    fn join(&mut self, align: u32) {
+        self.step = self.step.and_then(|step| common_multiple(step, align));
+    }
 }
 
 struct Run<T: Tables> {
@@ -62,11 +95,14 @@ struct Run<T: Tables> {
     limits: Limits,
     model: Vec<Option<Heap>>,
     live: HashMap<Key, (u32, u32)>,
+    // the alignment that each live range was granted at
+    aligns: HashMap<Key, u32>,
+    family: &'static [u32],
     places: HashMap<Key, Place>,
     // the last places that were given
     given: Vec<Place>,
     made: u32,
-    counts: [u64; 16],
+    counts: [u64; 19],
     numbers: Numbers,
 }
 
@@ -79,10 +115,12 @@ impl<T: Tables> Run<T> {
             limits,
             model: (0..count).map(|_| None).collect(),
             live: HashMap::new(),
+            aligns: HashMap::new(),
+            family: FAMILIES[0],
             places: HashMap::new(),
             given: vec![nowhere; 64],
             made: 0,
-            counts: [0; 16],
+            counts: [0; 19],
             numbers: Numbers(state),
         }
     }
@@ -172,7 +210,7 @@ impl<T: Tables> Run<T> {
                     let units = if usual { self.usual_units(number) } else { size };
                     self.counts[14] += u64::from(usual && self.model[..number].iter().any(|h| h.is_none()));
                     let limit = if usual { self.limits.first_allocs } else { 4 };
-                    self.model[number] = Some(Heap { units, limit, ranges: BTreeMap::new() });
+                    self.model[number] = Some(Heap { units, limit, ranges: BTreeMap::new(), step: Some(1) });
                     assert_eq!(place.heap_realm(), self.made);
                     self.counts[1 + !usual as usize] += 1;
                 }
@@ -203,7 +241,9 @@ impl<T: Tables> Run<T> {
             assert!(offset + size <= from);
         }
         assert_eq!(heap.ranges.insert(own, size), None);
+        heap.join(align);
         assert!(self.live.insert(key(place), (offset, size)).is_none());
+        self.aligns.insert(key(place), align);
         self.places.insert(key(place), place);
         let at = self.numbers.below(64) as usize;
         self.given[at] = place;
@@ -214,10 +254,14 @@ impl<T: Tables> Run<T> {
     }
 
     // The first other heap that has room, and whose limit need not be raised for it, and has at least as many live units; for a
-    // range of no units it has room for one, and more live units or a lower number.
-    fn relocate(&mut self, place: Place, align: u32) -> Option<Place> {
+    // range of no units it has room for one, and more live units or a lower number. With no alignment it is what the offset
+    // and the step of its heap have in common.
+    fn relocate(&mut self, place: Place, wanted: Option<u32>) -> Option<Place> {
         let live = self.live.get(&key(place)).copied();
         let own = place.heap as usize;
+        let step = live.and_then(|_| self.model[own].as_ref().unwrap().step);
+        let common = step.map(|step| common_divisor(live.unwrap().0, step));
+        let align = wanted.or(common).unwrap_or(1);
         let fuller = |n: usize, size: u32| match self.live_units(n).cmp(&self.live_units(own)) {
             Ordering::Less => false,
             Ordering::Equal => size > 0 || n < own,
@@ -225,12 +269,22 @@ impl<T: Tables> Run<T> {
         };
         let fits = |n: usize, size: u32| self.fits(n, (size as u64 + align as u64 - 1).max(1), align);
         let takes = |n: usize, size: u32| n != own && !self.must_raise(n, align.min(2)) && fits(n, size) && fuller(n, size);
-        let expected = live.and_then(|(_, size)| (0..self.model.len()).find(|&n| takes(n, size)));
-        let second = if align == 1 { self.heaps.relocate(place) } else { self.heaps.relocate_aligned(place, align) };
+        let goes = live.filter(|_| wanted.is_some() || step.is_some());
+        let expected = goes.and_then(|(_, size)| (0..self.model.len()).find(|&n| takes(n, size)));
+        let second = match wanted {
+            None => self.heaps.relocate(place),
+            Some(align) => self.heaps.relocate_aligned(place, align),
+        };
+        self.counts[16] += u64::from(live.is_some() && wanted.is_none() && step.is_none());
         assert_eq!(second.map(|granted| (granted.place.heap as usize, granted.is_new)), expected.map(|number| (number, false)));
         if let (Some(second), Some((_, size))) = (second, live) {
             assert_eq!((second.place.realm, second.place.heap_realm() <= self.made), (REALM, true));
             self.grant(second.place, second.offset, size, align);
+            if wanted.is_none() {
+                // it has the alignment of the first one, which divides that
+                self.counts[17] += u64::from(align > 1);
+                self.aligns.insert(key(second.place), self.aligns[&key(place)]);
+            }
             self.counts[8] += 1;
             self.counts[15] += u64::from(size == 0);
         }
@@ -261,7 +315,7 @@ impl<T: Tables> Run<T> {
         assert_eq!(self.heaps.emptiest(), emptiest.map(|n| n as u32));
         let Some(number) = emptiest else { return };
         let places = self.walk(number as u32);
-        let moved: Vec<bool> = places.iter().map(|&place| self.relocate(place, 1).is_some()).collect();
+        let moved: Vec<bool> = places.iter().map(|&place| self.relocate(place, None).is_some()).collect();
         places.iter().zip(&moved).filter(|(_, &moved)| moved).for_each(|(&place, _)| self.free_place(place));
         let empty = moved.iter().all(|&moved| moved);
         assert_eq!(self.heaps.drop_heap(number as u32), empty);
@@ -331,6 +385,30 @@ impl<T: Tables> Run<T> {
         self.ask(place);
     }
 
+    // What a heap is compacted to by its step, and whether that is done: where a range goes over a whole step, a block more is
+    // needed, of an unused node or of a free block that vanishes, which may have no units.
+    fn compacted(&self, number: usize) -> (bool, Vec<(u32, u32, u32, u32)>) {
+        let Some(heap) = &self.model[number] else { return (true, vec![]) };
+        let Some(step) = heap.step else { return (false, vec![]) };
+        let (mut moves, mut end, mut to, mut first) = (vec![], 0, 0, 0);
+        for (&(from, ..), &size) in &heap.ranges {
+            to += (from - end) % step;
+            if to < from {
+                first = if moves.is_empty() { end } else { first };
+                moves.push((number as u32, from, to, size));
+            }
+            (end, to) = (from + size, to + size);
+        }
+        if moves.is_empty() {
+            return (true, moves);
+        }
+        let space = self.heaps.heap(number as u32).unwrap().allocator();
+        let behind = space.blocks().take_while(|block| block.offset >= first).filter(|block| block.allocation.is_none());
+        let vanishes = space.blocks().next().unwrap().allocation.is_none() || behind.filter(|block| block.size % step == 0).count() > 0;
+        let done = vanishes || space.block_count() + 1 < heap.limit;
+        (done, if done { moves } else { vec![] })
+    }
+
     // The ranges of a heap slide together, all or as few units as make room.
     fn slide(&mut self) {
         let number = self.numbers.below(self.model.len() as u64 + 2) as u32;
@@ -338,12 +416,24 @@ impl<T: Tables> Run<T> {
         let mut moves = vec![];
         let mut note = |it: offset_allocator::Move<T::Index>| moves.push((it.from, it.to, it.size));
         if self.numbers.below(2) == 0 {
-            assert_eq!(self.heaps.compact_heap(number, &mut note), there);
+            let (done, expected) = if there { self.compacted(number as usize) } else { (false, vec![]) };
+            assert_eq!(self.heaps.compact_heap(number, &mut note), done);
+            assert_eq!(moves, expected.into_iter().map(|(_, from, to, size)| (from, to, size)).collect::<Vec<_>>());
+            self.counts[18] += u64::from(there && !done);
         } else {
             let size = 1 + self.numbers.below(self.limits.size as u64) as u32;
-            let cost = self.heaps.heap(number).and_then(|heap| heap.allocator().room_cost(size));
-            assert_eq!(self.heaps.make_room(number, size, &mut note), cost);
-            assert_eq!((moves.len() as u64, moves.iter().map(|m| m.2 as u64).sum()), cost.map_or((0, 0), |c| (c.ranges as u64, c.units as u64)));
+            let align = self.align(2, 8);
+            let cost = self.heaps.heap(number).and_then(|heap| heap.room_cost_aligned(size, align));
+            let short = self.heaps.heap(number).is_some_and(|h| h.allocator().block_count() + align.min(2) + 2 > h.allocator().max_allocs());
+            let made = if align == 1 { self.heaps.make_room(number, size, &mut note) } else { self.heaps.make_room_aligned(number, size, align, &mut note) };
+            assert_eq!(made, cost);
+            assert!(cost.is_none() || self.fits(number as usize, size as u64 + align as u64 - 1, align));
+            let (ranges, units) = (moves.len() as u64, moves.iter().map(|m| m.2 as u64).sum::<u64>());
+            let (most_ranges, most_units) = cost.map_or((0, 0), |c| (c.ranges as u64, c.units as u64));
+            // where nodes are lacking, a free block of no units may give its own, and what is before it stays
+            assert!((ranges, units) == (most_ranges, most_units) || (short && ranges <= most_ranges && units <= most_units));
+            let step = self.model.get(number as usize).and_then(|h| h.as_ref()?.step);
+            assert!(moves.iter().all(|(from, to, _)| (from - to) % step.unwrap() == 0));
         }
         let moves: Vec<_> = moves.into_iter().map(|(from, to, size)| (number, from, to, size)).collect();
         self.moved(&moves);
@@ -382,21 +472,13 @@ impl<T: Tables> Run<T> {
         self.counts[12] += 1;
     }
 
-    // All ranges of all heaps slide to the front.
+    // The ranges of all heaps slide to the front.
     fn compact(&mut self) {
         let mut moves = vec![];
-        self.heaps.compact(|number, it| moves.push((number, it.from, it.to, it.size)));
-        let mut expected = vec![];
-        for (number, heap) in self.model.iter().enumerate() {
-            let mut to = 0;
-            for (&(from, ..), &size) in heap.iter().flat_map(|h| &h.ranges) {
-                if from != to {
-                    expected.push((number as u32, from, to, size));
-                }
-                to += size;
-            }
-        }
-        assert_eq!(moves, expected);
+        let expected: Vec<_> = (0..self.model.len()).map(|number| self.compacted(number)).collect();
+        let all = expected.iter().all(|(done, _)| *done);
+        assert_eq!(self.heaps.compact(|number, it| moves.push((number, it.from, it.to, it.size))), all);
+        assert_eq!(moves, expected.into_iter().flat_map(|(_, moves)| moves).collect::<Vec<_>>());
         self.moved(&moves);
         self.counts[13] += moves.len() as u64;
         self.walk_all();
@@ -460,6 +542,18 @@ impl<T: Tables> Run<T> {
         self.ask(place);
     }
 
+    // Each range begins at a multiple of its alignment, and the step of each heap is what is worked out here.
+    fn aligned(&self) {
+        for key in self.live.keys() {
+            let (align, offset) = (self.aligns[key], self.heaps.offset_of(self.places[key]).unwrap());
+            assert_eq!(offset % align, 0);
+            assert!(self.model[key.0 as usize].as_ref().unwrap().step.is_none_or(|step| step % align == 0));
+        }
+        for (number, heap) in self.model.iter().enumerate() {
+            assert_eq!(self.heaps.heap(number as u32).map(|h| h.step()), heap.as_ref().map(|h| h.step));
+        }
+    }
+
     fn ask(&self, place: Place) {
         let live = self.live.get(&key(place));
         assert_eq!(self.heaps.is_live(place), live.is_some());
@@ -518,10 +612,12 @@ impl<T: Tables> Run<T> {
         }
     }
 
-    // An alignment: in one of so many calls a power of two, or any number, else 1.
+    // An alignment: in one of so many calls one of the family, a power of two, or any number, else 1.
     fn align(&mut self, calls: u64, bits: u64) -> u32 {
         if self.numbers.below(calls) > 0 {
             1
+        } else if let [_, ..] = self.family {
+            self.family[self.numbers.below(self.family.len() as u64) as usize]
         } else if self.numbers.below(2) == 0 {
             1 << self.numbers.below(bits)
         } else {
@@ -531,6 +627,9 @@ impl<T: Tables> Run<T> {
 
     fn run(&mut self, calls: u64) {
         for call in 0..calls {
+            if call % 512 == 0 {
+                self.family = FAMILIES[self.numbers.below(FAMILIES.len() as u64) as usize];
+            }
             match self.numbers.below(100) {
                 0..=39 => {
                     let size = match self.numbers.below(40) {
@@ -551,7 +650,7 @@ impl<T: Tables> Run<T> {
                 98 if self.numbers.below(4) == 0 => self.pass(),
                 98 | 99 => {
                     let place = self.place();
-                    let align = self.align(2, 6);
+                    let align = (self.numbers.below(2) == 0).then(|| self.align(2, 6));
                     if self.numbers.below(2) == 0 {
                         self.resize_to(place, 0, true);
                     }
@@ -564,7 +663,7 @@ impl<T: Tables> Run<T> {
                 97 if self.numbers.below(50) == 0 => {
                     self.heaps.reset();
                     self.live.clear();
-                    self.model.iter_mut().flatten().for_each(|h| h.ranges.clear());
+                    self.model.iter_mut().flatten().for_each(|h| (h.ranges.clear(), h.step = Some(1)).0);
                     self.counts[7] += 1;
                 }
                 _ => {
@@ -579,6 +678,7 @@ impl<T: Tables> Run<T> {
                     }
                 }
             }
+            self.aligned();
             if call % 64 == 0 {
                 for place in self.given.clone() {
                     self.ask(place);
@@ -598,14 +698,16 @@ fn runs<T: Tables>(calls: u64) {
     let raised = [few(limits(1_000, 100, 4, 2), 8), few(limits(600, 21, 5, 1), 9)];
     let small = |limits, first_size| Limits { first_size, ..limits };
     let doubling = [small(limits(1_000, 8, 6, 3), 130), small(few(limits(4_000, 40, 4, 2), 8), 70), small(limits(800, 6, 40, 2), 1)];
+    let mut steps = [0; 3];
     for (limits, state) in all.into_iter().chain(raised).chain(doubling).zip(1..) {
         let mut run = Run::<T>::new(limits, 0x9E37_79B9_7F4A_7C15 + state);
         run.run(calls / 6);
-        println!("{limits:?}: {:?} refused, new, larger, granted, freed, dropped, given up, reset, relocated, emptied, raised, filled, extended, moved, passed over, relocated without units", run.counts);
+        println!("{limits:?}: {:?} refused, new, larger, granted, freed, dropped, given up, reset, relocated, emptied, raised, filled, extended, moved, passed over, relocated without units, without a step, at an alignment, refused", run.counts);
         assert!(run.counts[0] > 0 && run.counts[3] > 0 && run.counts[4] > 0 && run.counts[6] > 0 && run.counts[7] > 0);
         assert!(run.counts[5] > 0, "an empty heap is dropped");
         assert!(run.counts[8] > 0 && run.counts[9] > 0, "a heap is emptied into others");
         assert!(run.counts[15] > 0, "a range of no units goes to another heap");
+        (0..3).for_each(|it| steps[it] += run.counts[16 + it]);
         assert!(run.counts[11] > 0 || limits.most == 0, "a tight request is granted where no other is");
         assert!(run.counts[12] > 0 && run.counts[13] > 0, "a heap gets units, and all are compacted");
         assert_eq!(run.counts[10] > 0, limits.first_allocs < limits.max_allocs);
@@ -613,6 +715,8 @@ fn runs<T: Tables>(calls: u64) {
         assert_eq!(run.counts[1] > 0, limits.most > 0);
         assert_eq!(run.counts[2] > 0, limits.most_larger > 0);
     }
+    assert!(steps[0] > 0 && steps[1] > 0, "a range goes at its alignment, and one in a heap without a step stays: {steps:?}");
+    assert!(steps[2] > 0, "a heap is not compacted");
 }
 
 #[test]

@@ -225,6 +225,11 @@ pub struct RecordedHeaps<T: Tables, W: Write> {
     name: Option<String>,
 }
 
+// The greatest common divisor, by Euclid.
+fn common_divisor(first: u32, second: u32) -> u32 {
+    if second == 0 { first } else { common_divisor(second, first % second) }
+}
+
 impl<T: Tables, W: Write> RecordedHeaps<T, W> {
     /// Records heaps from now on; those that there are, with what is live in them, come first. An error is returned where
     /// the first lines cannot be written, and as by `Recorded::new`.
@@ -446,9 +451,18 @@ impl<T: Tables, W: Write> RecordedHeaps<T, W> {
         self.heaps.free(place)
     }
 
-    /// `HeapsOf::relocate`.
+    /// `HeapsOf::relocate`: as `relocate_aligned` for what the offset of the range and the step of its heap have in common.
+    /// Where its heap has no step nothing is written.
     pub fn relocate(&mut self, place: Place) -> Option<Granted> {
-        self.relocate_aligned(place, 1)
+        match (self.heaps.offset_of(place), self.step(place.heap)) {
+            (Some(_), None) => None,
+            (offset, step) => self.relocate_aligned(place, common_divisor(offset.unwrap_or(0), step.unwrap_or(1))),
+        }
+    }
+
+    // The step of the heap of a number.
+    fn step(&self, number: u32) -> Option<u32> {
+        self.heaps.heap(number)?.step()
     }
 
     /// `HeapsOf::relocate_aligned`: `align` has to be at least 1. For 0 it panics, and writes nothing. The second range is
@@ -516,27 +530,41 @@ impl<T: Tables, W: Write> RecordedHeaps<T, W> {
         done
     }
 
-    /// `HeapsOf::compact`: a line for each heap that there is.
-    pub fn compact<F: FnMut(u32, Move<T::Index>)>(&mut self, moved: F) {
-        self.heaps.compact(moved);
-        self.each("compact");
+    /// `HeapsOf::compact`: `compact_heap` of each number that has a heap, one after another.
+    pub fn compact<F: FnMut(u32, Move<T::Index>)>(&mut self, mut moved: F) -> bool {
+        let mut all = true;
+        let mut next = self.heaps.first_heap();
+        while let Some(number) = next {
+            all &= self.compact_heap(number, |it| moved(number, it));
+            next = self.heaps.heap_after(number);
+        }
+        all
     }
 
-    /// `HeapsOf::compact_heap`. Of a number that has no heap nothing is written.
+    /// `HeapsOf::compact_heap`: a compaction by the step of the heap. Where it is not done nothing is written.
     pub fn compact_heap<F: FnMut(Move<T::Index>)>(&mut self, number: u32, moved: F) -> bool {
+        let step = self.step(number);
         let is_done = self.heaps.compact_heap(number, moved);
-        if is_done {
-            self.tape.write(format_args!("heap {number} compact"));
+        if let (true, Some(step)) = (is_done, step) {
+            self.tape.write(format_args!("heap {number} compact {step}"));
         }
         is_done
     }
 
-    /// `HeapsOf::make_room`. Of a number that has no heap nothing is written.
+    /// `HeapsOf::make_room`: that of `make_room_aligned` for any multiple.
     pub fn make_room<F: FnMut(Move<T::Index>)>(&mut self, number: u32, size: u32, moved: F) -> Option<RoomCost> {
-        let has = self.heaps.heap(number).is_some();
-        let cost = self.heaps.make_room(number, size, moved);
-        if has {
-            self.tape.write(format_args!("heap {number} room {size}"));
+        self.make_room_aligned(number, size, 1, moved)
+    }
+
+    /// `HeapsOf::make_room_aligned`: `align` has to be at least 1. For 0 it panics, and writes nothing. It is room by the step
+    /// of the heap; where none is made nothing is written. Who plays it has the most nodes that the heap may have: where it
+    /// has too few for the request now, and may have more, that may be other room.
+    #[track_caller]
+    pub fn make_room_aligned<F: FnMut(Move<T::Index>)>(&mut self, number: u32, size: u32, align: u32, moved: F) -> Option<RoomCost> {
+        let step = self.step(number);
+        let cost = self.heaps.make_room_aligned(number, size, align, moved);
+        if let (Some(_), Some(step)) = (cost, step) {
+            self.tape.write(format_args!("heap {number} room {size} {align} {step}"));
         }
         cost
     }

@@ -33,7 +33,7 @@ fn ranges_of_heaps_change_in_place() {
     assert_eq!(
         text,
         "heap 0 space 100 nodes 16 index 16\nheap 0 alloc 20\nheap 0 alloc 20\nheap 0 alloc 10\nheap 0 alloc 10\nheap 0 alloc 20\nheap 0 shrink 1 10\n\
-         heap 0 grow 5 21\nheap 0 room 24\nheap 0 free 2\nheap 0 compact\n"
+         heap 0 grow 5 21\nheap 0 room 24 1 1\nheap 0 free 2\nheap 0 compact 1\n"
     );
     assert!(!answers(&text).iter().any(|line| line.ends_with("none") && !line.contains("room")), "{text}");
 }
@@ -54,14 +54,15 @@ fn heaps_become_larger_and_are_filled() {
     assert_eq!(heaps.allocate_tight(40).unwrap().place.heap, 1);
     assert!(heaps.free(rock) && heaps.free(other.place));
     let mut moves = Vec::new();
-    heaps.compact(|number, it| moves.push((number, it.from, it.to, it.size)));
-    assert_eq!(moves, [(0, 96, 21, 4), (1, 90, 0, 40)]);
+    // 4 units go by 16
+    assert!(heaps.compact(|number, it| moves.push((number, it.from, it.to, it.size))));
+    assert_eq!(moves, [(0, 96, 32, 4), (1, 90, 0, 40)]);
     let text = String::from_utf8(heaps.finish().1.unwrap()).unwrap();
     assert_eq!(
         text,
         "heap 0 space 100 nodes 16 index 16\nheap 0 alloc 21\nheap 0 alloc 70\nheap 0 free 1\n# fills\nheap 0 tight 21\n\
          heap 0 tight 4 16\nheap 1 space 100 nodes 16 index 16\nheap 1 alloc 90\nnone tight 11 full\n# too large\nnone tight 97 8 larger\n\
-         heap 1 extend 30\nheap 1 tight 40\nheap 0 free 2\nheap 1 free 1\nheap 0 compact\nheap 1 compact\n"
+         heap 1 extend 30\nheap 1 tight 40\nheap 0 free 2\nheap 1 free 1\nheap 0 compact 16\nheap 1 compact 1\n"
     );
     let wanted = ["heap 0 grant 3 at 0", "heap 0 grant 4 at 96", "heap 1 grant 1 at 0", "none", "none", "heap 1 extended", "heap 1 grant 2 at 90"];
     assert_eq!(answers(&text)[3..10], wanted, "{text}");
@@ -330,8 +331,11 @@ fn random_heaps<T: Tables>(seed: u64) -> (usize, usize) {
                 match random.below(6) {
                     4 => expected.extend(heaps.extend_heap(number, random.below(90)).unwrap().then(|| format!("heap {number} extended"))),
                     5 => {
-                        heaps.compact(|_, _| ());
-                        expected.extend((0..9).filter(|number| heaps.heap(*number).is_some()).map(|number| format!("heap {number} compacted")));
+                        let mut copy = heaps.try_clone(Global).unwrap();
+                        let done: Vec<u32> = (0..9).filter(|number| copy.compact_heap(*number, |_| ())).collect();
+                        let all = heaps.compact(|_, _| ());
+                        assert_eq!(all, done.len() == (0..9).filter(|number| heaps.heap(*number).is_some()).count());
+                        expected.extend(done.iter().map(|number| format!("heap {number} compacted")));
                     }
                     0 => expected.extend(heaps.give_up(number).then(|| format!("heap {number} given up"))),
                     1 => expected.extend(heaps.drop_empty(random.below(2)).map(|number| format!("heap {number} dropped"))),

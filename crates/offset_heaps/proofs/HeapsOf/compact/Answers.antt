@@ -1,6 +1,6 @@
 use Rattle.std.proofs.Common.{◌≡◌, ◌+◌, ◌*◌, ◌≤◌, ◌^◌, ◌∙◌, ap, arith, length, mul-le-mul_left, subst, sym, refl}
 use Rattle.offset_heaps.specs.Heaps.{slot}
-use Rattle.offset_heaps.proofs.{Compacted.kind_compacted, Compacted.realm_compacted, Compacted.sizes_compacted, Places.shown}
+use Rattle.offset_heaps.proofs.{Alignments.compacts_keep, Compacted.kind_compacted, Compacted.realm_compacted, Compacted.sizes_compacted, Places.shown}
 use Rattle.offset_heaps.proofs.HeapsOf.compact.Goals as goal
 
 pub invariant_of-self : goal.invariant_of-self
@@ -26,6 +26,12 @@ returns-clause-sizes g c =
     let old = shown c.self.inside.slots c.self.inside.limits c.self.inside.made c.self.inside.realm c.self.inside.accesses in
     let new = shown c.compact_all.new.slots c.self.inside.limits c.self.inside.made c.self.inside.realm c.compact_all.new.count in
     rw (← c.self.view_is) (sizes_compacted old new (record { heaps = c.compact_all.ensures.done; rest = refl }))
+
+pub returns-clause-aligned : goal.returns-clause-aligned
+returns-clause-aligned g c =
+    let old = shown c.self.inside.slots c.self.inside.limits c.self.inside.made c.self.inside.realm c.self.inside.accesses in
+    let new = shown c.compact_all.new.slots c.self.inside.limits c.self.inside.made c.self.inside.realm c.compact_all.new.count in
+    rw (← c.self.view_is) (compacts_keep old new (record { heaps = c.compact_all.ensures.done; rest = refl }))
 
 pub returns-clause-moved : goal.returns-clause-moved
 returns-clause-moved g c = rw (← c.self.view_is) c.compact_all.ensures.moved

@@ -21,4 +21,4 @@ add-requires-clause-kind g c =
     let most = ap (λ (h : Heaps). h.limits.most) c.self.view_is in
     let past : c.self.inside.limits.most ≤ c.args.number = omega (arith, c.requires.spare.0, most) in
     subst (λ (h : Heaps). IfSome c.in-Ok.slot (IsOfKind h.limits c.args.number)) c.self.view_is
-    (kind_larger c.self.inside.limits c.args.number (c.self.inside.made + 1) c.args.size w.0 c.in-Ok.slot c.in-Ok.ticket past c.requires.units w.1 w.2)
+    (kind_larger c.self.inside.limits c.args.number (c.self.inside.made + 1) c.args.size c.args.align w.0 c.in-Ok.slot c.in-Ok.ticket past c.requires.units w.1 w.2)

@@ -21,4 +21,4 @@ add-requires-clause-kind g c =
     let most = ap (λ (h : Heaps). h.limits.most) c.self.view_is in
     let low : c.args.number < c.self.inside.limits.most = omega (arith, c.requires.spare.0, most) in
     subst (λ (h : Heaps). IfSome c.in-Ok.slot (IsOfKind h.limits c.args.number)) c.self.view_is
-    (kind_usual c.self.inside.limits c.args.number (c.self.inside.made + 1) c.args.size 1 w.0 c.in-Ok.slot c.in-Ok.ticket low c.self.invariant.limit_first w.1 w.2)
+    (kind_usual c.self.inside.limits c.args.number (c.self.inside.made + 1) c.args.size 1 c.args.align w.0 c.in-Ok.slot c.in-Ok.ticket low c.self.invariant.limit_first w.1 w.2)

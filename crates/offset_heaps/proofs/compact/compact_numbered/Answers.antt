@@ -1,13 +1,12 @@
-use Rattle.std.proofs.Common.{◌≡◌, rules, of_calls, refl, subst}
+use Rattle.std.proofs.Common.{◌≡◌, Some, rules, of_calls, refl, subst}
 use Rattle.std.specs.List.{FoldsTo}
 use denote.Param.Always.{mut_by, mut_next}
-use Rattle.offset_allocator.specs.Moving.Compacting.{moves}
-use Rattle.offset_heaps.specs.Changing.{IsCalledAt, numbered}
+use Rattle.offset_heaps.specs.Changing.{IsCalledAt, moves_in, numbered}
 use Rattle.offset_heaps.proofs.Compacted.{given, kept_along, numbered_steps}
 use Rattle.offset_heaps.proofs.compact.compact_numbered.Goals as goal
 
-pub compact-requires : goal.compact-requires
-compact-requires g c = record {
+pub compact_one-requires : goal.compact_one-requires
+compact_one-requires g c = record {
   callable = mut_by _ (λ s. goal.F-IsAlwaysCallable g s.0.now) (λ s a i. search (of_calls, rules)) (λ s a r t i e. mut_next g.F.FnMut s.0.now (s.1.now, (a.0, tt)) tt t.0.now t.0.now (search rules) refl i)
       _ c.requires.callable;
 }
@@ -19,10 +18,10 @@ returns-clause-moved g c = given
     let s : goal.F-step g p.0.now p.1.now k.0 tt q.0.now = search rules in
     let n : q.0.ghost_name ≡ p.0.ghost_name = search rules in
     let m : q.1 ≡ p.1 = search rules in
-    ((k.0, k.1, s), n, m)) _ _ _ c.compact_unaligned.ensures.moved) (λ ran.
-    let f : FoldsTo (IsCalledAt g.NI.NonMax.NodeIndexNonMax.number (λ f k range h. goal.F-step g f k range tt h)) c.args.moved.now (numbered c.args.number (moves 0 0 c.args.heap.now.space.blocks)) c.compact_unaligned.new.moved.0.now =
+    ((k.0, k.1, s), n, m)) _ _ _ c.compact_one.ensures.moved) (λ ran.
+    let f : FoldsTo (IsCalledAt g.NI.NonMax.NodeIndexNonMax.number (λ f k range h. goal.F-step g f k range tt h)) c.args.moved.now (numbered c.args.number (moves_in (Some c.args.heap.now))) c.compact_one.new.moved.0.now =
     ran.0 in
-    subst (λ m. FoldsTo (IsCalledAt g.NI.NonMax.NodeIndexNonMax.number (λ f k range h. goal.F-step g f k range tt h)) c.args.moved.now (numbered c.args.number (moves 0 0 c.args.heap.now.space.blocks)) m)
+    subst (λ m. FoldsTo (IsCalledAt g.NI.NonMax.NodeIndexNonMax.number (λ f k range h. goal.F-step g f k range tt h)) c.args.moved.now (numbered c.args.number (moves_in (Some c.args.heap.now))) m)
     (search (rules, ran.1)) f)
 
 pub returns-clause-callable : goal.returns-clause-callable
@@ -32,8 +31,8 @@ returns-clause-callable g c = given
     let s : goal.F-step g p.0.now p.1.now k.0 tt q.0.now = search rules in
     let n : q.0.ghost_name ≡ p.0.ghost_name = search rules in
     let m : q.1 ≡ p.1 = search rules in
-    ((k.0, k.1, s), n, m)) _ _ _ c.compact_unaligned.ensures.moved) (λ ran.
-    let f : goal.F-IsAlwaysCallable g c.compact_unaligned.new.moved.0.now =
+    ((k.0, k.1, s), n, m)) _ _ _ c.compact_one.ensures.moved) (λ ran.
+    let f : goal.F-IsAlwaysCallable g c.compact_one.new.moved.0.now =
     kept_along (IsCalledAt g.NI.NonMax.NodeIndexNonMax.number (λ f k range h. goal.F-step g f k range tt h)) (goal.F-IsAlwaysCallable g)
-    (λ f x h s may. mut_next g.F.FnMut f (x.0, (s.0, tt)) tt h h s.2 refl may) _ c.args.moved.now c.compact_unaligned.new.moved.0.now ran.0 c.requires.callable in
+    (λ f x h s may. mut_next g.F.FnMut f (x.0, (s.0, tt)) tt h h s.2 refl may) _ c.args.moved.now c.compact_one.new.moved.0.now ran.0 c.requires.callable in
     search (rules, ran.1, f))

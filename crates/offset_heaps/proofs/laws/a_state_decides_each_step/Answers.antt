@@ -1,4 +1,4 @@
-use Rattle.offset_heaps.proofs.DecidedCalls.{allocates_decided, compacts_all_decided, compacts_one_decided, drops_decided, drops_empty_decided, emptiest_decided, free_decided, gives_up_decided, lengthens_decided, relocates_decided, resets_decided, room_decided, size_decided, totals_decided}
+use Rattle.offset_heaps.proofs.DecidedCalls.{allocates_decided, compacts_all_decided, compacts_one_decided, drops_decided, drops_empty_decided, emptiest_decided, free_decided, gives_up_decided, lengthens_decided, relocates_decided, relocates_own_decided, resets_decided, room_decided, size_decided, totals_decided}
 use Rattle.offset_heaps.proofs.{DecidedTight.tights_decided, DecidedWalks.before_decided, DecidedWalks.last_decided, Twins.range_twins}
 use Rattle.offset_heaps.proofs.laws.a_state_decides_each_step.Goals as goal
 
@@ -9,7 +9,10 @@ pub returns-clause-free : goal.returns-clause-free
 returns-clause-free c = free_decided
 
 pub returns-clause-relocate : goal.returns-clause-relocate
-returns-clause-relocate c = relocates_decided
+returns-clause-relocate c = relocates_own_decided
+
+pub returns-clause-relocate_aligned : goal.returns-clause-relocate_aligned
+returns-clause-relocate_aligned c = relocates_decided
 
 pub returns-clause-drop_empty : goal.returns-clause-drop_empty
 returns-clause-drop_empty c = drops_empty_decided

@@ -1,5 +1,5 @@
-use Rattle.std.proofs.Common.{inr}
+use Rattle.std.proofs.Common.{inl, inr}
 use Rattle.offset_heaps_tests.proofs.histories.compact.Goals as goal
 
 pub returns : goal.returns
-returns c = inr (inr (inr (inr (inr (inr c.compact.ensures.step)))))
+returns c = inr (inr (inr (inr (inr (inr (inl c.compact.ensures.step))))))

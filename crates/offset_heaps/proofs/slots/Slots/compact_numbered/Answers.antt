@@ -9,3 +9,10 @@ returns-clause-moved g c =
     let e : c.index_mut.result.now ≡ slot c.args.number c.args.self.now =
     c.index_mut.ensures.value ∙ get_or_default c.self.inside.heaps.items c.args.number c.index_mut.result.now None there ∙ ap (slot c.args.number) c.self.view_is in
     rw (← e) c.compact_numbered_in.ensures.moved
+
+pub returns-clause-done : goal.returns-clause-done
+returns-clause-done g c =
+    let there : c.args.number < length c.self.inside.heaps.items = subst (λ s. c.args.number < length s) (sym c.self.view_is) c.requires.there in
+    let e : c.index_mut.result.now ≡ slot c.args.number c.args.self.now =
+    c.index_mut.ensures.value ∙ get_or_default c.self.inside.heaps.items c.args.number c.index_mut.result.now None there ∙ ap (slot c.args.number) c.self.view_is in
+    rw (← e) c.compact_numbered_in.ensures.done
