@@ -49,6 +49,13 @@ pub(crate) fn compact_numbered<NI: NodeIndex, T: Tables<Index = NI>, F: FnMut(u3
     compact_one(heap, &mut |range: Move<NI>| moved(number, range))
 }
 
+// Whether both hold.
+fn both(first: bool, second: bool) -> bool
+    ensures { IsTrue result ↔ (IsTrue first × IsTrue second) }
+{
+    first && second
+}
+
 // Slides live ranges of each heap to the front of its space by its step, and returns whether each was done.
 fn compact_all<T: Tables, F: FnMut(u32, Move<T::Index>)>(
     slots: &mut Slots<T>,
@@ -74,9 +81,7 @@ fn compact_all<T: Tables, F: FnMut(u32, Move<T::Index>)>(
 {
     let mut all = true;
     for number in 0..limits.most + limits.most_larger {
-        if !slots.compact_numbered(number, moved, count) {
-            all = false;
-        }
+        all = both(slots.compact_numbered(number, moved, count), all);
         index.note(slots, number, limits, count);
     }
     all

@@ -47,3 +47,6 @@ returns-clause-accesses g c =
     let now : length c.self.inside.slots * (12 * bits + 10) ≡ (c.self.inside.limits.most + c.self.inside.limits.most_larger) * (12 * bits + 10) =
     ap (λ n. n * (12 * bits + 10)) is.numbers in
     omega (arith, more, now, all))
+
+pub returns-clause-done : goal.returns-clause-done
+returns-clause-done g c = rw (← c.self.view_is) c.compact_all.ensures.all

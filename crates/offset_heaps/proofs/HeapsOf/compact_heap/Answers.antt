@@ -3,7 +3,7 @@ use Rattle.offset_allocator.specs.Ranges.{Range}
 use Rattle.offset_guarded.specs.Guard.{Guard}
 use Rattle.offset_heaps.specs.Changing.{CompactsIn, can_compact, can_compact_in}
 use Rattle.offset_heaps.proofs.Changes.{alike, altered, kept_of_places}
-use Rattle.offset_heaps.proofs.{Alignments.alters_keep, Compacted.compacted_limits, Compacted.refused_twin, Places.shown, Sound.kind_kept, Sound.realm_kept, Sound.sound_put}
+use Rattle.offset_heaps.proofs.{Alignments.alters_keep, Alignments.same_keeps, Compacted.compacted_limits, Compacted.refused_twin, Places.shown, Sound.kind_kept, Sound.realm_kept, Sound.sound_put}
 use Rattle.offset_heaps.proofs.HeapsOf.compact_heap.Goals as goal
 
 pub invariant_of-self-2 : goal.invariant_of-self-2
@@ -53,3 +53,9 @@ returns-clause-step g c =
     let old = shown c.self.inside.slots c.self.inside.limits c.self.inside.made c.self.inside.realm c.self.inside.accesses in
     let new = shown c.compact-done.new.self c.self.inside.limits c.self.inside.made c.self.inside.realm c.note.new.count in
     rw (← c.self.view_is) (λ some. altered c.args.number CompactsIn old new c.compact-done.ensures.change refl)
+
+pub returns-then-not-has-clause-aligned : goal.returns-then-not-has-clause-aligned
+returns-then-not-has-clause-aligned g c =
+    let old = shown c.self.inside.slots c.self.inside.limits c.self.inside.made c.self.inside.realm c.self.inside.accesses in
+    let new = shown c.self.inside.slots c.self.inside.limits c.self.inside.made c.self.inside.realm c.has.new.count in
+    rw (← c.self.view_is) (same_keeps old new refl)

@@ -2,7 +2,7 @@ use Rattle.std.proofs.Common.{refl, arith, ap, option_map}
 use Rattle.offset_allocator.specs.Ranges.{Range}
 use Rattle.offset_guarded.specs.Guard.{Guard}
 use Rattle.offset_heaps.proofs.Changes.{altered, kept_of_places, room_limits}
-use Rattle.offset_heaps.proofs.{Alignments.alters_keep, Places.shown, Sound.kind_kept, Sound.realm_kept, Sound.sound_put}
+use Rattle.offset_heaps.proofs.{Alignments.alters_keep, Alignments.same_keeps, Places.shown, Sound.kind_kept, Sound.realm_kept, Sound.sound_put}
 use Rattle.offset_heaps.proofs.HeapsOf.make_room_aligned.Goals as goal
 
 pub invariant_of-self-2 : goal.invariant_of-self-2
@@ -31,3 +31,9 @@ returns-clause-aligned g c =
     let new = shown c.make_room-cost.new.self c.self.inside.limits c.self.inside.made c.self.inside.realm c.note.new.count in
     let a = altered c.args.number _ old new c.make_room-cost.ensures.change refl in
     rw (← c.self.view_is) (alters_keep c.args.number _ old new a a.by.aligned)
+
+pub returns-then-not-has-clause-aligned : goal.returns-then-not-has-clause-aligned
+returns-then-not-has-clause-aligned g c =
+    let old = shown c.self.inside.slots c.self.inside.limits c.self.inside.made c.self.inside.realm c.self.inside.accesses in
+    let new = shown c.self.inside.slots c.self.inside.limits c.self.inside.made c.self.inside.realm c.has.new.count in
+    rw (← c.self.view_is) (same_keeps old new refl)

@@ -1,9 +1,10 @@
-use Rattle.std.proofs.Common.{◌≡◌, ◌+◌, ◌*◌, ◌<◌, ◌≤◌, ◌∙◌, [], ap, arith, drop, length, refl, subst, sym}
+use Rattle.std.proofs.Common.{◌≡◌, inl, inr, ◌+◌, ◌*◌, ◌<◌, ◌≤◌, ◌∙◌, [], ap, arith, drop, length, refl, subst, sym}
+use Rattle.std.proofs.lemmas.Bool.{cases_lt}
 use Rattle.std.proofs.lemmas.List.{drop_all, length-set}
 use Rattle.std.proofs.Math.Nat.{add-mul}
 use Rattle.std.specs.List.{FoldsTo}
-use Rattle.offset_heaps.specs.{Changing.CompactsSlot, Changing.IsCalledAt, Changing.moves_from, Changing.moves_in, Changing.numbered, Heaps.slot}
-use Rattle.offset_heaps.proofs.{Compacted.folds_append, Compacted.moves_step, Sound.changes_more, Sound.noted_changed}
+use Rattle.offset_heaps.specs.{Changing.CompactsSlot, Changing.IsCalledAt, Changing.IsCompactible, Changing.moves_from, Changing.moves_in, Changing.numbered, Heaps.slot}
+use Rattle.offset_heaps.proofs.{Numbers.slot_past, Compacted.folds_append, Compacted.moves_step, Sound.changes_more, Sound.noted_changed}
 use Rattle.offset_heaps.proofs.compact.compact_all.Goals as goal
 
 pub loop-number-preserved : goal.loop-number-preserved
@@ -18,6 +19,19 @@ loop-number-preserved g c =
     let R = IsCalledAt g.T.Index.NonMax.NodeIndexNonMax.number (λ f k range h. goal.F-step g f k range tt h) in
     record {
       callable = c.compact_numbered.ensures.callable;
+      all = (
+        λ e k l. elim (cases_lt k c.loop-number.number) [
+          | inl before ↦ inv.all.0 (c.both-all.ensures.0 e).1 k before
+          | inr past ↦
+              let here : k ≡ c.loop-number.number = omega (arith, l, past) in
+              subst (λ j. IsCompactible (slot j c.args.slots.now)) (sym here)
+              (subst IsCompactible (inv.left c.loop-number.number (omega arith)) (c.compact_numbered.ensures.done.0 (c.both-all.ensures.0 e).0))
+        ],
+        λ each. c.both-all.ensures.1 (
+          c.compact_numbered.ensures.done.1 (subst IsCompactible (sym (inv.left c.loop-number.number (omega arith))) (each c.loop-number.number (omega arith))),
+          inv.all.1 (λ k l. each k (omega (arith, l))),
+        ),
+      );
       done = more.0;
       left = more.1;
       moves = λ last rest. inv.moves last (subst (λ ms. FoldsTo R c.loop-number.moved ms last) (sym (moves_step c.args.slots.now c.loop-number.number there_first))
@@ -33,6 +47,17 @@ loop-number-preserved g c =
           let next = add-mul c.loop-number.number 1 (12 * c.args.index.now.one.height + 10) in
           omega (arith, next, inv.accesses, inv.levels, c.compact_numbered.ensures.accesses, c.note.ensures.accesses);
     }
+
+pub returns-clause-all : goal.returns-clause-all
+returns-clause-all g c =
+    let all = c.requires.numbers in
+    let past : length c.args.slots.now ≤ c.loop-number.number = omega arith in (
+      λ e k. elim (cases_lt k c.loop-number.number) [
+        | inl l ↦ c.loop-number.invariant.all.0 e k l
+        | inr behind ↦ subst IsCompactible (sym (slot_past c.args.slots.now k (omega (arith, past, behind)))) tt
+      ],
+      λ each. c.loop-number.invariant.all.1 (λ k l. each k),
+    )
 
 pub returns-clause-moved : goal.returns-clause-moved
 returns-clause-moved g c =
