@@ -119,7 +119,6 @@ LINTS = {
         "clippy::redundant_pattern_matching": "a `match` needs no call, whose contract a proof would need",
         "clippy::single_match": "both cases are proved",
         "clippy::too_many_arguments": "each has a name in the contract",
-        "unused_variables": "a parameter may be there for a contract only",
     },
     "offset_script": {
         "clippy::manual_unwrap_or_default": "a `match` needs no call, whose contract a proof would need",

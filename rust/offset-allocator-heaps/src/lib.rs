@@ -34,7 +34,6 @@
 #![expect(clippy::redundant_pattern_matching)] // a `match` needs no call, whose contract a proof would need
 #![expect(clippy::single_match)] // both cases are proved
 #![expect(clippy::too_many_arguments)] // each has a name in the contract
-#![expect(unused_variables)] // a parameter may be there for a contract only
 
 mod realms;
 mod traits;
