@@ -336,15 +336,24 @@ lasts size align a grant hs ks later formed g divides begins steps = all_begin a
     new_made false e l = absurd (cc)
 
     made : IsBefore size align hs grant g.before → grant.place.heap_realm ≤ (if grant.is_new then hs.made + 1 else hs.made)
-    made (inl old) = old_made grant.is_new (omega (arith, g.grants.realm.0, raised_realm hs.limits grant.place.heap (blocks_needed align) old.1.0 g.before old.1.2,
-        realm_made hs.limits hs.made grant.place.heap (heap_at grant.place.heap hs) old.1.0 old.1.1 (formed.heaps grant.place.heap)))
+    made (inl old) = old_made grant.is_new (omega (
+      arith,
+      g.grants.realm.0,
+      raised_realm hs.limits grant.place.heap (blocks_needed align) old.1.0 g.before old.1.2,
+      realm_made hs.limits hs.made grant.place.heap (heap_at grant.place.heap hs) old.1.0 old.1.1 (formed.heaps grant.place.heap),
+    ))
     made (inr new) = new_made grant.is_new new.0 (elim new.2 [ inl usual ↦ omega (arith, usual.1.realm, g.grants.realm.0) | inr larger ↦ omega (arith, larger.1.realm, g.grants.realm.0) ])
 
 pub lasts_tight : (size align a : ℕ) (grant : Granted) (hs ks : Heaps) (later : List Heaps) → state.IsWellFormed hs → GrantsTight size align hs ks grant → a ∣ align → a ∣ grant.offset → AreSteps ks later
     → AllByRecursion (BeginsAt a grant.place) (ks ∷ later)
 lasts_tight size align a grant hs ks later formed g divides begins steps = all_begin a grant.place ks later (record {
-  made = omega (arith, g.grants.realm.0, raised_realm hs.limits grant.place.heap (blocks_needed align) g.was g.before g.raised,
-      realm_made hs.limits hs.made grant.place.heap (heap_at grant.place.heap hs) g.was g.heap (formed.heaps grant.place.heap), ap (λ (h : Heaps). h.made) g.heaps);
+  made = omega (
+    arith,
+    g.grants.realm.0,
+    raised_realm hs.limits grant.place.heap (blocks_needed align) g.was g.before g.raised,
+    realm_made hs.limits hs.made grant.place.heap (heap_at grant.place.heap hs) g.was g.heap (formed.heaps grant.place.heap),
+    ap (λ (h : Heaps). h.made) g.heaps,
+  );
   slot = subst (KeptIn a grant.place) (sym (ap (slot grant.place.heap) (ap (λ (h : Heaps). h.slots) g.heaps) ∙ slot_same hs.slots grant.place.heap (Some g.after) (slot_there hs.slots grant.place.heap (ap is_some g.heap))))
       (own_kept a size align grant.place g.before g.after (ticket_in grant) g.grants refl refl refl (dvd_trans a divides g.joined.second) begins);
 }) steps

@@ -111,12 +111,7 @@ pub fn make_room(heaps: &mut Heaps, number: u32, size: u32) -> Option<RoomCost>
 }
 
 /// Makes room for a request with an alignment in a heap.
-pub fn make_room_aligned(
-    heaps: &mut Heaps,
-    number: u32,
-    size: u32,
-    align: u32,
-) -> Option<RoomCost>
+pub fn make_room_aligned(heaps: &mut Heaps, number: u32, size: u32, align: u32) -> Option<RoomCost>
     requires { 1 ≤ align }
     ensures { MakesRoomOne number size align heaps.old heaps.new result }
 {
