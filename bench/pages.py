@@ -82,7 +82,7 @@ def text_of(report):
 
 
 # the page of results, whose two parts are of two reports
-HEAD = ["# Results", "", "For whoever compares speed. [README.md](README.md) says how all is measured."]
+HEAD = ["# Results", "", "Speed beside the original. [README.md](README.md) says how all is measured."]
 PARTS = ("## As a user builds it", "## Special builds")
 
 

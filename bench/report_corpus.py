@@ -205,7 +205,7 @@ def brief(report):
     least = [[row[k] for k in kept] for row in least]
     rounded = next(line for line in report if line.startswith("Ours, as the original, rounds"))
     return [report[0], "",
-            "For whoever sizes a buffer. Counted over the [recorded programs](traces/README.md) "
+            "How large a buffer has to be. Counted over the [recorded programs](traces/README.md) "
             "([how](README.md#compact-heaps-corpus-room)); [corpus.txt](corpus.txt) has what is refused in less.", "",
             "## The least space", "",
             "In which nothing is refused, in percent above the peak of live bytes; the original's and C's are ours. "

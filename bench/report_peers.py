@@ -183,7 +183,7 @@ def brief(report):
     versions = next(line for line in report[1:] if line)
     head, *rows = pages.table(report)
     return [report[0], "",
-            "For whoever chooses between allocators. [peers.txt](peers.txt) has each workload, "
+            "Speed beside other allocators. [peers.txt](peers.txt) has each workload, "
             f"[README.md](README.md#peers) how they are measured. {versions}", "",
             *pages.lines_of(head, rows), "",
             "The bytes of ours and of the original are those of a table just large enough.", "",

@@ -83,7 +83,7 @@ def brief(report):
     block, moved = pages.table(report, "A block"), pages.table(report, "A range that moves")
     head = ["blocks", "nodes", "`room_cost`, a block", "`make_room`, a range that moves", "`compact`"]
     return [report[0], "",
-            "For whoever asks for it in a frame. Nanoseconds on the erased side, where every other block is free, "
+            "What it costs to ask for room, and to make it. Nanoseconds on the erased side, where every other block is free, "
             "and nodes lie in space order or in none; [room.txt](room.txt) has the instructions, and how busy the "
             "machine was, [README.md](README.md#compact-heaps-corpus-room) how it is measured.", "",
             next(line for line in report if line.startswith("A call takes")), "",
