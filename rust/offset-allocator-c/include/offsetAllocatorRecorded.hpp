@@ -704,10 +704,10 @@ public:
     }
     // Each heap that there is, one after another.
     template <class F> bool compact(F &&moved) {
-        bool all = true;
+        bool isDone = true;
         for (uint32 number = heaps.firstHeap(); number != Allocation::NO_SPACE; number = heaps.heapAfter(number))
-            if (!compactHeap(number, [&](Move range) { moved(number, range); })) all = false;
-        return all;
+            if (!compactHeap(number, [&](Move range) { moved(number, range); })) isDone = false;
+        return isDone;
     }
     // By the step of the heap. Where it is not done nothing is written.
     template <class F> bool compactHeap(uint32 number, F &&moved) {
