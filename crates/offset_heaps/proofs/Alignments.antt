@@ -10,7 +10,8 @@ use Rattle.offset_allocator.specs.Ranges as named
 use Rattle.offset_guarded.specs.Guard.{Guard, Ticket, AreAlike, serial_of}
 use Rattle.offset_guarded.specs.Guard as guarded
 use Rattle.offset_guarded.proofs.Guards.{live_fits}
-use Rattle.offset_guarded.proofs.Offsets.{emptied, freed, granted, same_aligned}
+use Rattle.offset_guarded.proofs.Offsets.{same_aligned}
+use Rattle.offset_heaps.proofs.StillRanges.{emptied, freed, granted}
 use Rattle.offset_heaps.specs.declared.limits.Limits.{Limits}
 use Rattle.offset_heaps.specs.declared.place.Granted.{Granted}
 use Rattle.offset_heaps.specs.Changing.{Alters, CompactsAll, CompactsSlot}

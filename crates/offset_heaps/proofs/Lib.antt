@@ -1,4 +1,5 @@
 pub mod Alignments
+pub mod StillRanges
 pub mod Along
 pub mod Changes
 pub mod Compacted
