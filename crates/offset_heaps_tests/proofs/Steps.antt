@@ -1,7 +1,7 @@
 -- What each call leaves is a step of a history.
 use Rattle.std.proofs.Common.{◌≡◌, ℕ, Bool, true, false, Result, Ok, Err, IfOk, Option, Some, None, IfSome, IsSome, is_some, option_map, nat_eq, ◌&&◌, if◌then◌else◌, ap, ap₂, sym, subst, refl, inl, inr, arith, ◌≤◌, ◌∙◌}
 use Rattle.std.proofs.lemmas.Bool.{cases_Bool, cases_eq}
-use Rattle.std.proofs.Math.Nat.{dvd_refl}
+use Rattle.std.proofs.Math.Nat.{dvd_refl, dvd_trans}
 use Rattle.std.specs.Int.{◌∣◌}
 use Rattle.std.specs.Prelude.{OnErr}
 use Rattle.std.specs.declared.alloc.AllocError.{AllocError}
@@ -16,7 +16,7 @@ use Rattle.offset_allocator.specs.Ranges.{Range}
 use Rattle.offset_allocator.specs.Ranges as named
 use Rattle.offset_guarded.specs.Guard.{Guard, Ticket}
 use Rattle.offset_guarded.specs.Guard as guarded
-use Rattle.offset_guarded.proofs.{Guards.live_fits, Offsets.stays_aligned}
+use Rattle.offset_guarded.proofs.{Guards.live_fits}
 use Rattle.offset_heaps.specs.declared.limits.Limits.{Limits}
 use Rattle.offset_heaps.specs.Changing.{Alters, CompactsHeap, MakesRoomAt, Resizes, ResizesAt, NewSize, units_wanted}
 use Rattle.offset_heaps.specs.Extending.{ExtendsHeap, ExtendsIf}
@@ -24,6 +24,10 @@ use Rattle.offset_heaps.specs.Histories.{IsStep, KeepsIn}
 use Rattle.offset_heaps.specs.Places.{Place, ticket_of}
 use Rattle.offset_heaps.specs.Tight.{GrantsTight}
 use Rattle.offset_heaps.proofs.{Changes.undone_twin, Longer.range_longer, Longer.realm_longer, Twins.range_twin}
+
+-- what stays where it is
+stays_aligned : (g h : Guard) → (g.step ∣ h.step) → ((t : Ticket) (r q : Range) → guarded.range_of t g ≡ Some r → guarded.range_of t h ≡ Some q → q.offset ≡ r.offset) → guarded.KeepsAlignments g h
+stays_aligned g h divides same t r q a e f d p = (dvd_trans a d divides, subst (λ (n : ℕ). a ∣ n) (sym (same t r q e f)) p)
 
 -- ---- a heap that is changed in place
 sized : (o q : Option Range) → option_map (λ (r : Range). r.size) o ≡ option_map (λ (r : Range). r.size) q → IsSome o → IsSome q
