@@ -333,6 +333,11 @@ EXAMPLES = {
         {
             "heaps": "let limits = Limits { size: 1000, first_size: 1000, max_allocs: 100, first_allocs: 8, most: 2, most_larger: 1 };\n"
             "let mut heaps = Heaps::<u32>::new(alloc, limits)?;",
+            "heap": "let limits = Limits { size: 1000, first_size: 1000, max_allocs: 100, first_allocs: 8, most: 2, most_larger: 1 };\n"
+            "let mut heaps = Heaps::<u32>::new(alloc, limits)?;\n"
+            "let first = heaps.allocate(1).unwrap().place;\n"
+            "heaps.free(first);\n"
+            "let mut heap = heaps.heap_mut(0).unwrap();",
         },
     ),
     "offset_script": (

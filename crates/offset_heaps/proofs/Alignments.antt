@@ -1,5 +1,5 @@
 -- Every alignment is kept: by each call, and by one call after the other.
-use Rattle.std.proofs.Common.{◌≡◌, ℕ, ◌+◌, ◌<◌, ◌≤◌, ◌⊎◌, Bool, true, false, ◌&&◌, List, [], ◌∷◌, Option, Some, None, IfSome, IsSome, is_some, length, slice_set, nat_eq, option_map, if◌then◌else◌, refl, sym, ap, ap₂, subst, ◌∙◌, inl, inr, arith}
+use Rattle.std.proofs.Common.{◌≡◌, ℕ, ◌+◌, ◌<◌, ◌≤◌, Bool, true, false, ◌&&◌, List, [], ◌∷◌, Option, Some, None, IfSome, IsSome, is_some, length, slice_set, nat_eq, option_map, if◌then◌else◌, refl, sym, ap, ap₂, subst, ◌∙◌, inl, inr, arith}
 use Rattle.std.proofs.Math.Nat.{dvd_refl, dvd_trans}
 use Rattle.std.proofs.lemmas.Bool.{cases_eq, cases_lt}
 use Rattle.std.specs.Int.{◌∣◌}
@@ -17,7 +17,7 @@ use Rattle.offset_heaps.specs.declared.place.Granted.{Granted}
 use Rattle.offset_heaps.specs.Changing.{Alters, CompactsAll, CompactsSlot}
 use Rattle.offset_heaps.specs.Heaps.{Heaps, FreesIn, Grants, IsBefore, IsRaisedAsNeeded, IsSame, KeepsAlignments, Puts, heap_at, part, range_in, range_of, slot, step_of, ticket_in}
 use Rattle.offset_heaps.specs.Histories.{AreSteps, BeginsAt, IsStep, Keeps, ResetsAll}
-use Rattle.offset_heaps.specs.Places.{Place, ticket_of}
+use Rattle.offset_heaps.specs.Places.{Place, place_of, ticket_of}
 use Rattle.offset_heaps.specs.{Slots.ResetsIn, Tight.GrantsTight}
 use Rattle.offset_heaps.specs.State as state
 use Rattle.offset_heaps.proofs.{Numbers.slot_other, Numbers.slot_past, Numbers.slot_same, Numbers.slot_set, Numbers.slot_there, Raising.raised_range, Raising.raised_realm, Raising.raised_step}
@@ -222,7 +222,7 @@ tight_kept a p size align hs ks grant g = put_after a p grant.place.heap hs ks g
     (λ was. kept_granted a p size g.before g.after (ticket_in grant) g.grants g.joined.first (kept_raised a p hs.limits grant.place.heap (blocks_needed align) g.was g.before g.raised was))
 
 -- what is live once a range is freed was
-freed_live : (t u : Ticket) (g h : Guard) → guarded.KeepsOthers t g h → guarded.range_of t h ≡ None → guarded.IsLive u h → guarded.IsLive u g
+pub freed_live : (t u : Ticket) (g h : Guard) → guarded.KeepsOthers t g h → guarded.range_of t h ≡ None → guarded.IsLive u h → guarded.IsLive u g
 freed_live t u g h others gone live =
     subst IsSome (others u (λ alike. absurd (let o : Option Range = None in let none : IsSome o = subst IsSome (alike_range u t h alike ∙ gone) live in cc))) live
 
@@ -233,7 +233,7 @@ free_kept a p q hs ks f = put_after a p q.heap hs ks f.before f.after f.heap (ap
 
 alter_kept : (a : ℕ) (p : Place) (k : ℕ) (hs ks : Heaps) → Keeps k hs ks → IsKept a p hs → IsKept a p ks
 alter_kept a p k hs ks f = put_after a p k hs ks f.before f.after f.heap (ap (λ (h : Heaps). h.slots) f.heaps) (omega (arith, ap (λ (h : Heaps). h.made) f.heaps))
-    (kept_in a p f.before f.after f.by.realm (omega (arith, f.by.given)) (λ u early live. f.by.live u live) f.by.aligned)
+    (kept_in a p f.before f.after f.by.realm f.by.given f.by.live f.by.aligned)
 
 drop_kept : (a : ℕ) (p : Place) (k : ℕ) (hs ks : Heaps) → Puts k None hs ks → IsKept a p hs → IsKept a p ks
 drop_kept a p k hs ks puts kept = record {
@@ -260,7 +260,7 @@ reset_kept a p hs ks all = each_kept a p hs ks (omega (arith, ap (λ (h : Heaps)
         (λ u early live. absurd (let o : Option Range = None in let none : IsSome o = subst IsSome (r.4 u) live in cc)) (emptied g r.0 r.4) kept)
 
 -- what has as many units as before was live
-sized : (o q : Option Range) → option_map (λ (r : Range). r.size) o ≡ option_map (λ (r : Range). r.size) q → IsSome o → IsSome q
+pub sized : (o q : Option Range) → option_map (λ (r : Range). r.size) o ≡ option_map (λ (r : Range). r.size) q → IsSome o → IsSome q
 sized None q e l = absurd (cc)
 sized (Some r) None e l = absurd (cc)
 sized (Some r) (Some s) e l = refl
@@ -358,3 +358,15 @@ lasts_tight size align a grant hs ks later formed g divides begins steps = all_b
   slot = subst (KeptIn a grant.place) (sym (ap (slot grant.place.heap) (ap (λ (h : Heaps). h.slots) g.heaps) ∙ slot_same hs.slots grant.place.heap (Some g.after) (slot_there hs.slots grant.place.heap (ap is_some g.heap))))
       (own_kept a size align grant.place g.before g.after (ticket_in grant) g.grants refl refl refl (dvd_trans a divides g.joined.second) begins);
 }) steps
+
+-- of a grant in the heap of a number
+pub lasts_in : (k n align a : ℕ) (t : Ticket) (P : Guard → Guard → Type 0) (hs ks : Heaps) (later : List Heaps) → state.IsWellFormed hs → ((g h : Guard) → P g h → guarded.Grants n g h t × (align ∣ h.step))
+    → Alters k P hs ks → a ∣ align → a ∣ t.offset → AreSteps ks later → AllByRecursion (BeginsAt a (place_of k hs.realm t)) (ks ∷ later)
+lasts_in k n align a t P hs ks later formed by f divides begins steps =
+    let grants = by f.before f.after f.by in
+    let p : Place = place_of k hs.realm t in
+    all_begin a p ks later (record {
+      made = omega (arith, grants.0.realm.0, realm_made hs.limits hs.made k (heap_at k hs) f.before f.heap (formed.heaps k), ap (λ (h : Heaps). h.made) f.heaps);
+      slot = subst (KeptIn a p) (sym (ap (slot k) (ap (λ (h : Heaps). h.slots) f.heaps) ∙ slot_same hs.slots k (Some f.after) (slot_there hs.slots k (ap is_some f.heap))))
+          (own_kept a n align p f.before f.after t grants.0 refl refl refl (dvd_trans a divides grants.1) begins);
+    }) steps

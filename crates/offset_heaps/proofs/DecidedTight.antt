@@ -1,5 +1,5 @@
 -- The same tight request, made of heaps for which every later call returns the same, has the same result and leaves such heaps.
-use Rattle.std.proofs.Common.{◌≡◌, ℕ, ◌≤◌, Bool, true, false, Option, Some, None, Result, Ok, Err, is_some, refl, sym, ap, ap₂, subst, subst₂, ◌∙◌, inl, inr}
+use Rattle.std.proofs.Common.{◌≡◌, ℕ, ◌≤◌, true, false, Option, Some, None, Result, Ok, Err, is_some, refl, sym, ap, subst, subst₂, ◌∙◌, inl, inr}
 use Rattle.std.proofs.lemmas.Bool.{cases_Bool}
 use Rattle.offset_allocator.specs.{Relations.SameState, Requests.blocks_needed}
 use Rattle.offset_allocator.proofs.Decided.{tight_decided}

@@ -18,6 +18,8 @@ pub mod Foretold
 pub mod Grants
 pub mod Histories
 pub mod Holders
+pub mod InPlace
+pub mod Limited
 pub mod LivePlaces
 pub mod Longer
 pub mod Numbers

@@ -10,11 +10,11 @@ use Rattle.offset_guarded.specs.Guard.{AreAlike, Grants, Guard, KeepsAlignments,
 abbrev the_range : Option Range → Option Range
 the_range o = o
 
-alike_range : (t u : Ticket) (g : Guard) → AreAlike t u → guarded.range_of t g ≡ guarded.range_of u g
+pub alike_range : (t u : Ticket) (g : Guard) → AreAlike t u → guarded.range_of t g ≡ guarded.range_of u g
 alike_range t u g a = ap₂ (λ (x : ℕ) (b : Bool). if b then range_of x g.space else None) a.0 (ap₂ (λ (r : ℕ) (c : Bool). nat_eq r g.realm && c) a.2 (ap₂ nat_eq a.1 (ap (λ (x : ℕ). serial_of x g) a.0)))
 
 -- tickets that are live before and after have the range that they had
-stayed : (g h : Guard) → g.step ∣ h.step → ((t : Ticket) (r : Range) → guarded.range_of t g ≡ Some r → IsSome (guarded.range_of t h) → guarded.range_of t h ≡ Some r) → KeepsAlignments g h
+pub stayed : (g h : Guard) → g.step ∣ h.step → ((t : Ticket) (r : Range) → guarded.range_of t g ≡ Some r → IsSome (guarded.range_of t h) → guarded.range_of t h ≡ Some r) → KeepsAlignments g h
 stayed g h divides same t r q a e f d p =
     let both : Some r ≡ Some q = sym (same t r e (subst IsSome (sym f) refl)) ∙ f in
     let one : r ≡ q = cc in

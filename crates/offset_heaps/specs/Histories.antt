@@ -15,12 +15,12 @@ pub record ResetsAll (hs ks : Heaps) : Type 0 where
   pub heaps : (k : ℕ) → ResetsIn (heap_at k hs) (heap_at k ks)
   pub rest : ks ≡ record hs { slots = ks.slots; accesses = ks.accesses }
 
--- a heap is changed in place: it keeps its realm and its serials, no other ticket is live, and each range keeps each
+-- a heap is changed in place: it keeps its realm, no ticket of an earlier grant becomes live, and each range keeps each
 -- alignment that divides the step
 pub record KeepsIn (g h : Guard) : Type 0 where
   pub realm : h.realm ≡ g.realm
-  pub given : h.given ≡ g.given
-  pub live : (t : Ticket) → guarded.IsLive t h → guarded.IsLive t g
+  pub given : g.given ≤ h.given
+  pub live : (t : Ticket) → t.serial ≤ g.given → guarded.IsLive t h → guarded.IsLive t g
   pub aligned : guarded.KeepsAlignments g h
 
 -- the same of the heap of a number

@@ -5,6 +5,7 @@ pub mod Dumping
 pub mod Extending
 pub mod Heaps
 pub mod Histories
+pub mod Lending
 pub mod Maxima
 pub mod Numbering
 pub mod Places

@@ -1,5 +1,5 @@
 -- Which heap takes a range of another one, which one is the emptiest, and the places of the live ranges of a heap.
-use Rattle.std.specs.Prelude.{◌≡◌, ◌≢◌, ℕ, ◌+◌, ◌-◌, ◌*◌, ◌^◌, ◌<◌, ◌≤◌, ◌⊎◌, List, [], ◌∷◌, Option, Some, None, false, max, option_map, unwrap_or}
+use Rattle.std.specs.Prelude.{◌≡◌, ◌≢◌, ℕ, ◌+◌, ◌-◌, ◌*◌, ◌^◌, ◌<◌, ◌≤◌, ◌⊎◌, List, [], ◌∷◌, Option, Some, None, max, option_map, unwrap_or}
 use Rattle.std.specs.Int.{IsGcd}
 use Rattle.offset_allocator.specs.Reporting.Walking.{last_live, live_before}
 use Rattle.offset_allocator.specs.Ranges.{Range}

@@ -9,14 +9,15 @@ ghost use Rattle.offset_allocator.specs.Ranges.{AreDisjoint, Range};
 ghost use Rattle.offset_allocator.specs.Reporting.Reports.{IsReport};
 ghost use Rattle.offset_allocator.specs.Requests.{AdmitsBlocks, CanGrant, blocks_needed, units_needed};
 ghost use Rattle.offset_allocator.specs.declared.reports.StorageReport.{StorageReport};
-ghost use Rattle.offset_guarded.specs.Guard.{Guard, HasSerialLeft, IsRaised};
+ghost use Rattle.offset_guarded.specs.Calls as tickets;
+ghost use Rattle.offset_guarded.specs.Guard.{Guard, HasSerialLeft, IsRaised, Ticket};
 ghost use Rattle.offset_heaps.specs.Heaps.{Heaps, room, AreAlike, AreTotals, heap_at, numbers, range_of, top_limit};
 ghost use Rattle.offset_heaps.specs.Heaps.{Grants, IsFirstFit, IsLive, IsNext, IsRaisedAsNeeded, IsUsual, IsWhy};
 ghost use Rattle.offset_heaps.specs.Heaps.{KeepsAlignments, MustRaiseIn, Puts, step_at};
 ghost use Rattle.offset_heaps.specs.Heaps.{IsFirstSize, total, units_of_heap, usual_room, usual_size};
 ghost use Rattle.offset_heaps.specs.Histories.{AreSteps, BeginsAt, IsGone, IsStep, ResetsAll};
 ghost use Rattle.offset_heaps.specs.Numbering.{AreOfLive, MeetsPlaces, first_from, live_places, next_place};
-ghost use Rattle.offset_heaps.specs.Places.{Place, ticket_of};
+ghost use Rattle.offset_heaps.specs.Places.{Place, place_of, ticket_of};
 ghost use Rattle.offset_heaps.specs.State.{IsCopy, IsStateOf, IsWellFormed, SameHeaps};
 ghost use Rattle.offset_heaps.specs.Relocating.{IsEmptiest, IsOwnAlign, NoneLive, offset_of, last_live_in, live_before_in};
 ghost use Rattle.offset_heaps.specs.Relocating.{live_units_at, most_ranks, ranks, squares, size_of};
@@ -26,7 +27,7 @@ ghost use Rattle.offset_heaps.specs.Calls.{Allocates, AllocatesTight, TakesAll, 
 ghost use Rattle.offset_heaps.specs.Calls.{CompactsEach, CompactsOne, RelocatesOwn};
 ghost use Rattle.offset_heaps.specs.Calls.{GoAll, Goes, ExtendsOne, Relocates, Reply, MakesRoomOne, TakesSize};
 ghost use Rattle.offset_heaps.specs.Asking.{IsRefusedFor, IsServed};
-ghost use Rattle.offset_heaps.specs.Changing.{NewSize};
+ghost use Rattle.offset_heaps.specs.Changing.{Alters, NewSize};
 ghost use Rattle.offset_allocator.specs.declared.moves.room.RoomCost.{RoomCost};
 ghost use Rattle.offset_heaps.specs.declared.limits.Limits.{Limits};
 ghost use Rattle.offset_heaps.specs.declared.place.Granted.{Granted};
@@ -166,11 +167,13 @@ pub fn dropped_heaps_stay_dropped<T: Tables>(heaps: &HeapsOf<T>)
     let _ = &heaps.made;
 }
 
-/// Every alignment is kept, by each call and by one after the other. Where an aligned request, tight or not, granted a
-/// range at a multiple of a number, that range begins at a multiple of it as long as it lives, whatever calls follow. So
-/// does the second range that `relocate` grants, at what divides the step of the heap and the offset of the first one.
+/// Every alignment is kept, by each call and by one after the other, of heaps and on one of them. Where an aligned request,
+/// tight or not, granted a range at a multiple of a number, that range begins at a multiple of it as long as it lives,
+/// whatever calls follow. So does the second range that `relocate` grants, at what divides the step of the heap and the
+/// offset of the first one.
 ///
-/// A step is what one call of heaps leaves: that each call is one is proved in `offset_heaps_tests`.
+/// A step is what one call leaves: that each call of heaps is one is proved in `offset_heaps_tests`. Calls of `HeapMut` are,
+/// but for those whose names say that they keep no alignment, and those by a step that is no multiple of that of the heap.
 pub fn alignments_are_kept()
     ensures step { (hs ks : Heaps) → IsStep hs ks → KeepsAlignments hs ks }
     ensures lasts { (size align a : ℕ) (grant : Granted) (hs ks : Heaps) (later : List Heaps) → IsWellFormed hs
@@ -179,6 +182,12 @@ pub fn alignments_are_kept()
     ensures lasts_tight { (size align a : ℕ) (grant : Granted) (hs ks : Heaps) (later : List Heaps) → IsWellFormed hs
         → GrantsTight size align hs ks grant → a ∣ align → a ∣ grant.offset → AreSteps ks later
         → AllByRecursion (BeginsAt a grant.place) (ks ∷ later) }
+    // A call of tickets on the heap of a number leaves a step, and so do the ranges that it grants keep alignments.
+    ensures on_heap { (k : ℕ) (c : tickets.Call) (r : Option Ticket) (hs ks : Heaps)
+        → Alters k (λ g h. tickets.Takes c g h r) hs ks → IsStep hs ks }
+    ensures lasts_on_heap { (k n align a : ℕ) (t : Ticket) (hs ks : Heaps) (later : List Heaps) → IsWellFormed hs
+        → Alters k (λ g h. tickets.TakesAligned n align g h (Some t)) hs ks → a ∣ align → a ∣ t.offset
+        → AreSteps ks later → AllByRecursion (BeginsAt a (place_of k hs.realm t)) (ks ∷ later) }
     ensures relocated { (p : Place) (align a : ℕ) → (hs : Heaps) → IsOwnAlign p hs align → a ∣ step_at p.heap hs
         → a ∣ offset_of p hs → a ∣ align }
 {}

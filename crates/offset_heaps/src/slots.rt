@@ -3,8 +3,10 @@
 ghost use Rattle.std.specs.Prelude.{◌≡◌, ◌↔◌, ◌+◌, ◌<◌, ◌≤◌, IsTrue, IsSome, None, Some, false, length};
 ghost use Rattle.std.specs.Prelude.{IfOk, IfSome, IsErr, MatchOption, is_some, option_copied, replicate};
 ghost use Rattle.std.specs.Prelude.{ℕ, ◌⊎◌, max, slice_set, true};
+ghost use Rattle.std.specs.Borrow.{sem};
 ghost use Rattle.std.specs.Int.{IsGcd};
 ghost use Rattle.std.specs.List.{FoldsTo};
+ghost use Rattle.std.specs.Option.Follows.{option_follows_value};
 ghost use Rattle.offset_allocator.specs.Requests.{blocks_needed, units_needed};
 ghost use Rattle.offset_allocator.specs.View.{IsWellFormed};
 ghost use Rattle.offset_guarded.specs.Guard.{Guard, IsLive, IsRaised, range_of};
@@ -54,6 +56,18 @@ fn room_at<T: Tables>(heap: &GuardedOf<T>, number: u32, limits: Limits, align: u
 {
     let (one, two) = rooms(Some(heap), number, limits);
     if align == 1 { one } else { two }
+}
+
+// The heap of a slot that has one, to be changed.
+fn heap_in<H>(slot: &mut Option<H>) -> &mut H
+    requires there { IsSome slot.old }
+    ensures* lends { sem 𝓛 (option_follows_value H.row slot.entry result) }
+    ensures heap { slot.old ≡ Some result.now }
+{
+    match slot {
+        Some(heap) => heap,
+        None => unreachable!(),
+    }
 }
 
 /// Whether the node limit of the heap of a number has to be raised for a call that may add `blocks` blocks.
@@ -407,6 +421,8 @@ fn with_live(found: Option<(u32, u32)>, number: u32, live: Option<u32>) -> Optio
 }
 
 impl<T: Tables> Slots<T> {
+    ghost use Rattle.offset_heaps.specs.Lending.{LendsHeap};
+
     /// Memory for `count` numbers, none of which has a heap.
     pub(crate) fn with_room(alloc: Global, count: u32) -> Result<Self, AllocError>
         ensures { IfOk result (λ s. s ≡ replicate count None) }
@@ -428,6 +444,21 @@ impl<T: Tables> Slots<T> {
             Some(Some(heap)) => Some(heap),
             _ => None,
         }
+    }
+
+    /// The heap of a number that has one, to be changed.
+    pub(crate) fn heap_mut(&mut self, number: u32, count: &mut Accesses) -> &mut GuardedOf<T>
+        requires there { IsSome (slot number self.old) }
+        ensures* lends { sem 𝓛 (LendsHeap T.row T.Index.row T.Index.NonMax.row T.Tables
+            (record { MAX = T.Index.MAX; number = T.Index.number }) T.Index.Default
+            (record { number = T.Index.NonMax.number; of_number = T.Index.NonMax.of_number;
+            limit = T.Index.NonMax.limit }) T.Index.NonMax.PartialEq T.Index.NonMax.Default
+            T.Index.NonMax.Debug T.Index.NonMax.Display self.entry number result) }
+        ensures heap { slot number self.old ≡ Some result.now }
+        ensures accesses { count.new ≡ count.old + 1 }
+    {
+        count.tick();
+        heap_in(&mut self.heaps[number as usize])
     }
 
     /// Whether a number has a heap.

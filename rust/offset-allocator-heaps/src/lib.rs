@@ -50,6 +50,7 @@ mod dumping;
 mod extend;
 mod foretell;
 mod fresh;
+mod heap_mut;
 mod heap_numbers;
 mod index;
 pub mod laws;
@@ -69,6 +70,7 @@ mod totals;
 mod walks;
 
 pub use dumping::json_of;
+pub use heap_mut::HeapMut;
 use index::Index;
 pub use limits::Limits;
 use offset_allocator::Accesses;

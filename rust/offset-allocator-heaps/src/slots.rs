@@ -25,6 +25,14 @@ fn room_at<T: Tables>(heap: &GuardedOf<T>, number: u32, limits: Limits, align: u
     if align == 1 { one } else { two }
 }
 
+// The heap of a slot that has one, to be changed.
+fn heap_in<T: Tables>(slot: &mut Option<GuardedOf<T>>) -> &mut GuardedOf<T> {
+    match slot {
+        Some(heap) => heap,
+        None => unreachable!(),
+    }
+}
+
 /// Whether the node limit of the heap of a number has to be raised for a call that may add `blocks` blocks.
 pub(crate) fn must_raise<T: Tables>(
     heap: &GuardedOf<T>,
@@ -293,6 +301,12 @@ impl<T: Tables> Slots<T> {
             Some(Some(heap)) => Some(heap),
             _ => None,
         }
+    }
+
+    /// The heap of a number that has one, to be changed.
+    pub(crate) fn heap_mut(&mut self, number: u32, count: &mut Accesses) -> &mut GuardedOf<T> {
+        count.tick();
+        heap_in(&mut self.heaps[number as usize])
     }
 
     /// Whether a number has a heap.

@@ -1,6 +1,6 @@
-use Rattle.std.proofs.Common.{◌≡◌, ◌∙◌, ap, subst, sym, arith}
+use Rattle.std.proofs.Common.{◌∙◌, ap, sym}
 use Rattle.std.proofs.lemmas.Bool.{false≢true}
-use Rattle.offset_heaps.specs.Heaps.{Heaps, IsLive}
+use Rattle.offset_heaps.specs.Heaps.{Heaps}
 use Rattle.offset_heaps.proofs.{Places.live_place, Places.live_ticket, Places.not_live_elsewhere, Places.shown, Takers.own_here}
 use Rattle.offset_heaps.proofs.HeapsOf.alignment_of.Goals as goal
 

@@ -1,4 +1,4 @@
-use Rattle.std.proofs.Common.{◌≡◌, Bool, false, refl, arith, ap, option_map, subst, sym, ◌∙◌}
+use Rattle.std.proofs.Common.{◌≡◌, false, refl, arith, ap, option_map, sym, ◌∙◌}
 use Rattle.offset_allocator.specs.Ranges.{Range}
 use Rattle.offset_guarded.specs.Guard.{Guard}
 use Rattle.offset_heaps.specs.Changing.{CompactsIn, can_compact, can_compact_in}

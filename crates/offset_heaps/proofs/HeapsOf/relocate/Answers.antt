@@ -1,5 +1,5 @@
-use Rattle.std.proofs.Common.{◌≡◌, ◌^◌, ◌≤◌, Some, None, IfSome, ap, arith, refl, subst, sym}
-use Rattle.offset_heaps.specs.{Heaps.Heaps, Heaps.Grants, Heaps.KeepsOthers, Heaps.numbers, Heaps.range_of, Calls.Relocates, Relocating.size_of}
+use Rattle.std.proofs.Common.{◌≡◌, Some, None, IfSome, ap, arith, subst}
+use Rattle.offset_heaps.specs.{Heaps.Heaps, Heaps.KeepsOthers, Heaps.numbers, Heaps.range_of, Relocating.size_of}
 use Rattle.offset_heaps.proofs.Takers.{relocated_aligned, relocates_since}
 use Rattle.offset_heaps.proofs.HeapsOf.relocate.Goals as goal
 

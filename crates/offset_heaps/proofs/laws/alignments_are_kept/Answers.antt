@@ -1,4 +1,7 @@
-use Rattle.offset_heaps.proofs.Alignments.{lasts, lasts_tight, step_keeps}
+use Rattle.std.proofs.Common.{Some}
+use Rattle.offset_guarded.specs.Calls.{TakesAligned}
+use Rattle.offset_heaps.proofs.Alignments.{lasts, lasts_in, lasts_tight, step_keeps}
+use Rattle.offset_heaps.proofs.InPlace as place
 use Rattle.offset_heaps.proofs.laws.alignments_are_kept.Goals as goal
 
 pub returns-clause-step : goal.returns-clause-step
@@ -12,3 +15,9 @@ returns-clause-lasts_tight c = lasts_tight
 
 pub returns-clause-relocated : goal.returns-clause-relocated
 returns-clause-relocated c p align a hs own d o = own.2 a o d
+
+pub returns-clause-on_heap : goal.returns-clause-on_heap
+returns-clause-on_heap c = place.on_heap
+
+pub returns-clause-lasts_on_heap : goal.returns-clause-lasts_on_heap
+returns-clause-lasts_on_heap c k n align a t hs ks later formed by = lasts_in k n align a t (λ g h. TakesAligned n align g h (Some t)) hs ks later formed (λ g h s. (s.0, s.3.second)) by

@@ -1,4 +1,4 @@
-use Rattle.std.proofs.Common.{◌≡◌, ℕ, ◌≤◌, Option, ap, arith, subst, subst₂, inl, inr}
+use Rattle.std.proofs.Common.{ℕ, ◌≤◌, Option, ap, arith, subst₂, inl, inr}
 use Rattle.std.proofs.lemmas.Bool.{cases_eq}
 use Rattle.std.specs.Int.{IsGcd}
 use Rattle.std.specs.Prelude.{unwrap_or}

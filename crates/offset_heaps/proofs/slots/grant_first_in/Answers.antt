@@ -1,4 +1,4 @@
-use Rattle.std.proofs.Common.{◌+◌, Some, ap, arith, refl, subst, sym}
+use Rattle.std.proofs.Common.{Some, ap, arith, refl, subst, sym}
 use Rattle.std.proofs.lemmas.Bool.{false≢true}
 use Rattle.offset_allocator.specs.{Relations.Aligns, Requests.blocks_needed, Requests.units_needed, View.IsWellFormed}
 use Rattle.offset_guarded.specs.Guard.{Guard, handle_in}

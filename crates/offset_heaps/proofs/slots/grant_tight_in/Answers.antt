@@ -1,4 +1,4 @@
-use Rattle.std.proofs.Common.{ℕ, ◌+◌, ◌*◌, Some, ap, arith, length, refl, subst, sym}
+use Rattle.std.proofs.Common.{ℕ, Some, ap, arith, refl, subst, sym}
 use Rattle.offset_allocator.specs.Tight.{AlignsTight}
 use Rattle.offset_guarded.specs.Guard.{Guard, handle_in}
 use Rattle.offset_guarded.specs.Step.{IsJoined}

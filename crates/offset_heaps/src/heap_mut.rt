@@ -1,0 +1,769 @@
+//! One heap of many, changed by the calls of one space with tickets. Each call changes one slot, and notes it in the
+//! index.
+ghost use Rattle.std.specs.Prelude.{ℕ, ◌≡◌, ◌↔◌, ◌+◌, ◌*◌, ◌≤◌, ◌⊎◌, [], None, Some, IfSome, IsSome, IsTrue, max};
+ghost use Rattle.std.specs.Prelude.{false, true, if◌then◌else◌, length, min, option_map};
+ghost use Rattle.std.specs.Borrow.{sem};
+ghost use Rattle.std.specs.Int.{IsGcd};
+ghost use Rattle.std.specs.List.{FoldsTo};
+ghost use Rattle.offset_allocator.specs.AtOffset.{AllocatesAt, CanGrantAt};
+ghost use Rattle.offset_allocator.specs.Classes.{down, up, value};
+ghost use Rattle.offset_allocator.specs.Moving.Budget.{CompactsWithin};
+ghost use Rattle.offset_allocator.specs.Moving.BySteps.{CompactsBy, moves_by};
+ghost use Rattle.offset_allocator.specs.Moving.Compacting.{Compacts, IsCalledWith, moves};
+ghost use Rattle.offset_allocator.specs.Moving.Relocating.{RelocatesAligned, offset_of};
+ghost use Rattle.offset_allocator.specs.Moving.Room.{IsLeastCost, MakesRoom, ranges_of};
+ghost use Rattle.offset_allocator.specs.Moving.RoomBySteps.{IsLeastCostBy, MakesRoomBy, names_short};
+ghost use Rattle.offset_allocator.specs.Relations.{Aligns, Allocates, CanExtend, Extends, Frees, Resets};
+ghost use Rattle.offset_allocator.specs.Requests.{CanGrant, blocks_needed, units_needed};
+ghost use Rattle.offset_allocator.specs.Resizing.{CanGrow, CanShrink, Grows, Shrinks};
+ghost use Rattle.offset_allocator.specs.Tight.{AlignsTight, CanHold, listed_from};
+ghost use Rattle.offset_allocator.specs.View.{bin_at, count_used};
+ghost use Rattle.offset_guarded.specs.Calls.{Takes};
+ghost use Rattle.offset_guarded.specs.Calls as calls;
+ghost use Rattle.offset_guarded.specs.Guard.{HasSerialLeft, HasUnits, IsLive, IsSame, KeepsAlignments, KeepsAll};
+ghost use Rattle.offset_guarded.specs.Guard.{KeepsDivisors, KeepsLive, KeepsOthers, KeepsSerials, KeepsSizes, handle_in};
+ghost use Rattle.offset_heaps.specs.Changing.{Alters};
+ghost use Rattle.offset_heaps.specs.Heaps.{TakesFewAccesses, heap_at};
+ghost use Rattle.offset_heaps.specs.Places.{place_of};
+
+use crate::HeapsOf;
+use crate::place::Place;
+use offset_allocator::{Accesses, Move, Progress, RoomCost, Tables};
+use offset_guarded::{GuardedOf, Ticket};
+use std::ops::Deref;
+
+/// The heap of a number, to be changed by the calls of one space with tickets: each does in this heap what it does in a
+/// `GuardedOf`, under the node limit that the heap has now, and no other heap changes. A refused call leaves all heaps as
+/// they were. `heap_mut` of `Heaps` returns one; questions are those of `GuardedOf`.
+///
+/// A place of `Heaps` and a ticket here are of one grant: `Place::ticket` makes the ticket, `place` the place.
+///
+/// ```
+/// let hole = heaps.allocate(300).unwrap().place;
+/// let mesh = heaps.allocate_aligned(200, 256).unwrap().place;
+/// heaps.free(hole);
+/// let mut heap = heaps.heap_mut(0).unwrap();
+/// heap.compact_by(512, &mut |it| assert_eq!((it.from, it.to, it.size), (512, 0, 200)));
+/// assert_eq!(heaps.offset_of(mesh), Some(0));
+/// ```
+#[derive(Drop)]
+pub struct HeapMut<'a, T: Tables> {
+    heaps: &'a mut HeapsOf<T>,
+    number: u32,
+    ghost there: { IsSome (heap_at number heaps.now) },
+}
+
+impl<T: Tables> HeapsOf<T> {
+    /// The heap of a number, to be changed by the calls of one space with tickets, or `None` where the number has no heap.
+    ///
+    /// ```
+    /// heaps.allocate(300).unwrap();
+    /// let captured = heaps.heap_mut(0).unwrap().allocate_at(512, 100).unwrap();
+    /// assert_eq!(captured.offset, 512);
+    /// assert!(heaps.heap_mut(1).is_none());
+    /// ```
+    pub fn heap_mut(&mut self, number: u32) -> Option<HeapMut<'_, T>>
+        ensures some { IsSome result ↔ IsSome (heap_at number self.old) }
+        ensures there { IfSome result (λ h. (h.number ≡ number) × (h.heaps.now ≡ self.old)) }
+        ensures same_reference { IfSome result (λ h. h.heaps.ghost_name ≡ self.entry.ghost_name) }
+    {
+        if self.slots.has(number, &mut Accesses::new()) {
+            Some(HeapMut {
+                heaps: self,
+                number,
+            })
+        } else {
+            None
+        }
+    }
+}
+
+impl<T: Tables> Deref for HeapMut<'_, T> {
+    type Target = GuardedOf<T>;
+
+    ghost deref_gives = { λ h g. heap_at h.number h.heaps.now ≡ Some g };
+
+    fn deref(&self) -> &GuardedOf<T> {
+        match self.heaps.heap(self.number) {
+            Some(heap) => heap,
+            None => unreachable!(),
+        }
+    }
+}
+
+impl<T: Tables> HeapMut<'_, T> {
+    /// The number of the heap.
+    ///
+    /// ```
+    /// assert_eq!(heap.number(), 0);
+    /// ```
+    pub fn number(&self) -> u32
+        ensures { result ≡ self.now.number }
+    {
+        self.number
+    }
+
+    /// The place of a ticket in this heap, for the calls of `Heaps`.
+    ///
+    /// ```
+    /// heaps.allocate(300).unwrap();
+    /// let mut heap = heaps.heap_mut(0).unwrap();
+    /// let mesh = heap.allocate(100).unwrap();
+    /// let place = heap.place(mesh);
+    /// assert_eq!(heaps.size_of(place), Some(100));
+    /// ```
+    pub fn place(&self, ticket: Ticket) -> Place
+        ensures { result ≡ place_of self.now.number self.now.heaps.now.realm ticket }
+    {
+        Place::from_ticket(self.number, self.heaps.realm(), ticket)
+    }
+
+    /// As `GuardedOf::allocate` in this heap, whether or not a heap before it has room.
+    ///
+    /// ```
+    /// heaps.allocate(900).unwrap();
+    /// let mesh = heaps.heap_mut(0).unwrap().allocate(50).unwrap();
+    /// assert_eq!(mesh.offset, 900);
+    /// ```
+    pub fn allocate(&mut self, size: u32) -> Option<Ticket>
+        ensures number { self.new.number ≡ self.old.number }
+        ensures same_reference { self.new.heaps.ghost_name ≡ self.old.heaps.ghost_name }
+        ensures change { Alters self.old.number (λ g h. Takes (calls.Call.Allocate size) g h result
+            × (IsSome result ↔ (HasSerialLeft g × CanGrant 1 size g.space))
+            × (HasSerialLeft g → Allocates size g.space h.space (option_map handle_in result))
+            × (h.space.accesses ≤ g.space.accesses + 64))
+            self.old.heaps.now self.new.heaps.now }
+        ensures accesses { TakesFewAccesses self.old.heaps.now self.new.heaps.now }
+    {
+        let heaps = &mut *self.heaps;
+        let result = heaps
+            .slots
+            .heap_mut(self.number, &mut heaps.accesses)
+            .allocate(size);
+        heaps.index.note(&heaps.slots, self.number, heaps.limits, &mut heaps.accesses);
+        result
+    }
+
+    /// As `GuardedOf::allocate_aligned` in this heap, at an alignment from 1 on, which its step takes in.
+    ///
+    /// ```
+    /// heap.allocate(10).unwrap();
+    /// assert_eq!(heap.allocate_aligned(100, 256).unwrap().offset, 256);
+    /// ```
+    pub fn allocate_aligned(&mut self, size: u32, align: u32) -> Option<Ticket>
+        requires alignment { 1 ≤ align }
+        ensures number { self.new.number ≡ self.old.number }
+        ensures same_reference { self.new.heaps.ghost_name ≡ self.old.heaps.ghost_name }
+        ensures change { Alters self.old.number (λ g h. Takes (calls.Call.Allocate_aligned size align) g h result
+            × (IsSome result ↔ (HasSerialLeft g × CanGrant (blocks_needed align) (units_needed size align) g.space))
+            × (HasSerialLeft g → Aligns size align g.space h.space (option_map handle_in result))
+            × (h.space.accesses ≤ g.space.accesses + 128))
+            self.old.heaps.now self.new.heaps.now }
+        ensures accesses { TakesFewAccesses self.old.heaps.now self.new.heaps.now }
+    {
+        let heaps = &mut *self.heaps;
+        let result = heaps
+            .slots
+            .heap_mut(self.number, &mut heaps.accesses)
+            .allocate_aligned(size, align);
+        heaps.index.note(&heaps.slots, self.number, heaps.limits, &mut heaps.accesses);
+        result
+    }
+
+    /// As `GuardedOf::allocate_tight` in this heap.
+    ///
+    /// ```
+    /// assert!(heap.allocate(1000).is_none());
+    /// assert!(heap.allocate_tight(1000).is_some());
+    /// ```
+    pub fn allocate_tight(&mut self, size: u32) -> Option<Ticket>
+        ensures number { self.new.number ≡ self.old.number }
+        ensures same_reference { self.new.heaps.ghost_name ≡ self.old.heaps.ghost_name }
+        ensures change { Alters self.old.number (λ g h. Takes (calls.Call.Allocate_tight size) g h result
+            × (IsSome result ↔ (HasSerialLeft g × CanHold size 1 g.space))
+            × (HasSerialLeft g → AlignsTight size 1 g.space h.space (option_map handle_in result))
+            × (h.space.accesses ≤ g.space.accesses + 140 + 6 * length (bin_at g.space.bins (down size))))
+            self.old.heaps.now self.new.heaps.now }
+        ensures accesses { TakesFewAccesses self.old.heaps.now self.new.heaps.now }
+    {
+        let heaps = &mut *self.heaps;
+        let result = heaps
+            .slots
+            .heap_mut(self.number, &mut heaps.accesses)
+            .allocate_tight(size);
+        heaps.index.note(&heaps.slots, self.number, heaps.limits, &mut heaps.accesses);
+        result
+    }
+
+    /// As `GuardedOf::allocate_tight_aligned` in this heap, at an alignment from 1 on, which its step takes in.
+    ///
+    /// ```
+    /// heap.allocate(256).unwrap();
+    /// assert_eq!(heap.allocate_tight_aligned(700, 256).unwrap().offset, 256);
+    /// ```
+    pub fn allocate_tight_aligned(&mut self, size: u32, align: u32) -> Option<Ticket>
+        requires alignment { 1 ≤ align }
+        ensures number { self.new.number ≡ self.old.number }
+        ensures same_reference { self.new.heaps.ghost_name ≡ self.old.heaps.ghost_name }
+        ensures change { Alters self.old.number (λ g h. Takes (calls.Call.Allocate_tight_aligned size align) g h result
+            × (IsSome result ↔ (HasSerialLeft g × CanHold size align g.space))
+            × (HasSerialLeft g → AlignsTight size align g.space h.space (option_map handle_in result))
+            × (h.space.accesses ≤ g.space.accesses + 140 + 6 * length (listed_from (down size) g.space.bins)))
+            self.old.heaps.now self.new.heaps.now }
+        ensures accesses { TakesFewAccesses self.old.heaps.now self.new.heaps.now }
+    {
+        let heaps = &mut *self.heaps;
+        let result = heaps
+            .slots
+            .heap_mut(self.number, &mut heaps.accesses)
+            .allocate_tight_aligned(size, align);
+        heaps.index.note(&heaps.slots, self.number, heaps.limits, &mut heaps.accesses);
+        result
+    }
+
+    /// As `GuardedOf::allocate_at` in this heap: the units from an offset on, where they are free.
+    ///
+    /// ```
+    /// assert_eq!(heap.allocate_at(512, 100).unwrap().offset, 512);
+    /// assert!(heap.allocate_at(600, 100).is_none());
+    /// ```
+    pub fn allocate_at(&mut self, offset: u32, size: u32) -> Option<Ticket>
+        ensures number { self.new.number ≡ self.old.number }
+        ensures same_reference { self.new.heaps.ghost_name ≡ self.old.heaps.ghost_name }
+        ensures change { Alters self.old.number (λ g h. Takes (calls.Call.Allocate_at offset size) g h result
+            × (IsSome result ↔ (HasSerialLeft g × CanGrantAt offset size g.space))
+            × (HasSerialLeft g → AllocatesAt offset size g.space h.space (option_map handle_in result))
+            × (h.space.accesses ≤ g.space.accesses + 80 + 3 * length g.space.blocks))
+            self.old.heaps.now self.new.heaps.now }
+        ensures accesses { TakesFewAccesses self.old.heaps.now self.new.heaps.now }
+    {
+        let heaps = &mut *self.heaps;
+        let result = heaps
+            .slots
+            .heap_mut(self.number, &mut heaps.accesses)
+            .allocate_at(offset, size);
+        heaps.index.note(&heaps.slots, self.number, heaps.limits, &mut heaps.accesses);
+        result
+    }
+
+    /// As `GuardedOf::free` in this heap.
+    ///
+    /// ```
+    /// let mesh = heaps.allocate(300).unwrap();
+    /// assert!(heaps.heap_mut(0).unwrap().free(mesh.place.ticket(mesh.offset)));
+    /// assert!(!heaps.is_live(mesh.place));
+    /// ```
+    pub fn free(&mut self, ticket: Ticket) -> bool
+        ensures number { self.new.number ≡ self.old.number }
+        ensures same_reference { self.new.heaps.ghost_name ≡ self.old.heaps.ghost_name }
+        ensures change { Alters self.old.number (λ g h. Takes (calls.Call.Free ticket) g h None
+            × (IsTrue result ↔ IsLive ticket g)
+            × (result ≡ false → h ≡ g)
+            × (result ≡ true → Frees ticket.name g.space h.space)
+            × (h.space.accesses ≤ g.space.accesses + 128))
+            self.old.heaps.now self.new.heaps.now }
+        ensures accesses { TakesFewAccesses self.old.heaps.now self.new.heaps.now }
+    {
+        let heaps = &mut *self.heaps;
+        let result = heaps
+            .slots
+            .heap_mut(self.number, &mut heaps.accesses)
+            .free(ticket);
+        heaps.index.note(&heaps.slots, self.number, heaps.limits, &mut heaps.accesses);
+        result
+    }
+
+    /// As `GuardedOf::shrink` in this heap.
+    ///
+    /// ```
+    /// let mesh = heap.allocate(300).unwrap();
+    /// assert_eq!(heap.shrink(mesh, 200), Some(true));
+    /// ```
+    pub fn shrink(&mut self, ticket: Ticket, size: u32) -> Option<bool>
+        ensures number { self.new.number ≡ self.old.number }
+        ensures same_reference { self.new.heaps.ghost_name ≡ self.old.heaps.ghost_name }
+        ensures change { Alters self.old.number (λ g h. KeepsOthers ticket g h
+            × KeepsLive g h
+            × KeepsSerials g h
+            × (IsSome result ↔ IsLive ticket g)
+            × IfSome result (λ done. IsTrue done ↔ CanShrink ticket.name size g.space)
+            × (result ≡ Some true → HasUnits ticket size g h)
+            × (result ≡ Some false → IsSame g h)
+            × (result ≡ None → h ≡ g)
+            × IfSome result (Shrinks ticket.name size g.space h.space)
+            × (h.space.accesses ≤ g.space.accesses + 128))
+            self.old.heaps.now self.new.heaps.now }
+        ensures accesses { TakesFewAccesses self.old.heaps.now self.new.heaps.now }
+    {
+        let heaps = &mut *self.heaps;
+        let result = heaps
+            .slots
+            .heap_mut(self.number, &mut heaps.accesses)
+            .shrink(ticket, size);
+        heaps.index.note(&heaps.slots, self.number, heaps.limits, &mut heaps.accesses);
+        result
+    }
+
+    /// As `GuardedOf::grow_in_place` in this heap.
+    ///
+    /// ```
+    /// let mesh = heap.allocate(300).unwrap();
+    /// assert_eq!(heap.grow_in_place(mesh, 400), Some(true));
+    /// ```
+    pub fn grow_in_place(&mut self, ticket: Ticket, size: u32) -> Option<bool>
+        ensures number { self.new.number ≡ self.old.number }
+        ensures same_reference { self.new.heaps.ghost_name ≡ self.old.heaps.ghost_name }
+        ensures change { Alters self.old.number (λ g h. KeepsOthers ticket g h
+            × KeepsLive g h
+            × KeepsSerials g h
+            × (IsSome result ↔ IsLive ticket g)
+            × IfSome result (λ done. IsTrue done ↔ CanGrow ticket.name size g.space)
+            × (result ≡ Some true → HasUnits ticket size g h)
+            × (result ≡ Some false → IsSame g h)
+            × (result ≡ None → h ≡ g)
+            × IfSome result (Grows ticket.name size g.space h.space)
+            × (h.space.accesses ≤ g.space.accesses + 128))
+            self.old.heaps.now self.new.heaps.now }
+        ensures accesses { TakesFewAccesses self.old.heaps.now self.new.heaps.now }
+    {
+        let heaps = &mut *self.heaps;
+        let result = heaps
+            .slots
+            .heap_mut(self.number, &mut heaps.accesses)
+            .grow_in_place(ticket, size);
+        heaps.index.note(&heaps.slots, self.number, heaps.limits, &mut heaps.accesses);
+        result
+    }
+
+    /// As `GuardedOf::relocate` in this heap: a second range before the first one, which keeps every alignment. `relocate` of
+    /// `Heaps` grants one in another heap.
+    ///
+    /// ```
+    /// let hole = heap.allocate(320).unwrap();
+    /// let mesh = heap.allocate_aligned(200, 256).unwrap();
+    /// heap.free(hole);
+    /// assert_eq!(heap.relocate(mesh).unwrap().offset, 0);
+    /// ```
+    pub fn relocate(&mut self, ticket: Ticket) -> Option<Ticket>
+        ensures number { self.new.number ≡ self.old.number }
+        ensures same_reference { self.new.heaps.ghost_name ≡ self.old.heaps.ghost_name }
+        ensures change { Alters self.old.number (λ g h. Takes (calls.Call.Relocate ticket) g h result
+            × (IsSome result → HasSerialLeft g)
+            × (g.step ≡ 0 → (result ≡ None) × (h ≡ g))
+            × (IsLive ticket g → HasSerialLeft g → 1 ≤ g.step → (align : ℕ) → IsGcd (offset_of ticket.name g.space) g.step align
+            → RelocatesAligned ticket.name align g.space h.space (option_map handle_in result))
+            × (h.space.accesses ≤ g.space.accesses + 67))
+            self.old.heaps.now self.new.heaps.now }
+        ensures accesses { TakesFewAccesses self.old.heaps.now self.new.heaps.now }
+    {
+        let heaps = &mut *self.heaps;
+        let result = heaps
+            .slots
+            .heap_mut(self.number, &mut heaps.accesses)
+            .relocate(ticket);
+        heaps.index.note(&heaps.slots, self.number, heaps.limits, &mut heaps.accesses);
+        result
+    }
+
+    /// As `GuardedOf::relocate_aligned` in this heap, at an alignment from 1 on.
+    ///
+    /// ```
+    /// let hole = heap.allocate(320).unwrap();
+    /// let mesh = heap.allocate(200).unwrap();
+    /// heap.free(hole);
+    /// assert_eq!(heap.relocate_aligned(mesh, 64).unwrap().offset, 0);
+    /// ```
+    pub fn relocate_aligned(&mut self, ticket: Ticket, align: u32) -> Option<Ticket>
+        requires alignment { 1 ≤ align }
+        ensures number { self.new.number ≡ self.old.number }
+        ensures same_reference { self.new.heaps.ghost_name ≡ self.old.heaps.ghost_name }
+        ensures change { Alters self.old.number (λ g h. Takes (calls.Call.Relocate_aligned ticket align) g h result
+            × (IsSome result → IsLive ticket g × HasSerialLeft g)
+            × (IsLive ticket g → HasSerialLeft g
+            → RelocatesAligned ticket.name align g.space h.space (option_map handle_in result))
+            × (h.space.accesses ≤ g.space.accesses + 67))
+            self.old.heaps.now self.new.heaps.now }
+        ensures accesses { TakesFewAccesses self.old.heaps.now self.new.heaps.now }
+    {
+        let heaps = &mut *self.heaps;
+        let result = heaps
+            .slots
+            .heap_mut(self.number, &mut heaps.accesses)
+            .relocate_aligned(ticket, align);
+        heaps.index.note(&heaps.slots, self.number, heaps.limits, &mut heaps.accesses);
+        result
+    }
+
+    /// As `GuardedOf::extend` in this heap. `extend_heap` of `Heaps` raises its node limit too, where that is needed.
+    ///
+    /// ```
+    /// assert!(heap.extend(24));
+    /// assert_eq!(heap.size(), 1024);
+    /// ```
+    pub fn extend(&mut self, more: u32) -> bool
+        ensures number { self.new.number ≡ self.old.number }
+        ensures same_reference { self.new.heaps.ghost_name ≡ self.old.heaps.ghost_name }
+        ensures change { Alters self.old.number (λ g h. KeepsAll g h
+            × KeepsSerials g h
+            × (IsTrue result ↔ (1 ≤ more → CanExtend more g.space))
+            × (result ≡ false → IsSame g h)
+            × (IsTrue result → h.space.size ≡ g.space.size + more)
+            × Extends more g.space h.space result
+            × (h.space.accesses ≤ g.space.accesses + 128))
+            self.old.heaps.now self.new.heaps.now }
+        ensures accesses { TakesFewAccesses self.old.heaps.now self.new.heaps.now }
+    {
+        let heaps = &mut *self.heaps;
+        let result = heaps
+            .slots
+            .heap_mut(self.number, &mut heaps.accesses)
+            .extend(more);
+        heaps.index.note(&heaps.slots, self.number, heaps.limits, &mut heaps.accesses);
+        result
+    }
+
+    /// As `GuardedOf::raise_step` in this heap, by an alignment from 1 on.
+    ///
+    /// ```
+    /// heap.raise_step(256);
+    /// assert_eq!(heap.step(), Some(256));
+    /// ```
+    pub fn raise_step(&mut self, align: u32)
+        requires alignment { 1 ≤ align }
+        ensures number { self.new.number ≡ self.old.number }
+        ensures same_reference { self.new.heaps.ghost_name ≡ self.old.heaps.ghost_name }
+        ensures change { Alters self.old.number (λ g h. Takes (calls.Call.Raise_step align) g h None)
+            self.old.heaps.now self.new.heaps.now }
+        ensures accesses { TakesFewAccesses self.old.heaps.now self.new.heaps.now }
+    {
+        let heaps = &mut *self.heaps;
+        heaps
+            .slots
+            .heap_mut(self.number, &mut heaps.accesses)
+            .raise_step(align);
+        heaps.index.note(&heaps.slots, self.number, heaps.limits, &mut heaps.accesses);
+    }
+
+    /// As `GuardedOf::reset` in this heap.
+    ///
+    /// ```
+    /// let mesh = heaps.allocate(300).unwrap().place;
+    /// heaps.heap_mut(0).unwrap().reset();
+    /// assert!(!heaps.is_live(mesh));
+    /// ```
+    pub fn reset(&mut self)
+        ensures number { self.new.number ≡ self.old.number }
+        ensures same_reference { self.new.heaps.ghost_name ≡ self.old.heaps.ghost_name }
+        ensures change { Alters self.old.number (λ g h. Takes calls.Call.Reset g h None
+            × Resets g.space h.space
+            × (h.space.accesses ≤ g.space.accesses + min (130 * count_used g.space.blocks + 2) 270))
+            self.old.heaps.now self.new.heaps.now }
+        ensures accesses { TakesFewAccesses self.old.heaps.now self.new.heaps.now }
+    {
+        let heaps = &mut *self.heaps;
+        heaps
+            .slots
+            .heap_mut(self.number, &mut heaps.accesses)
+            .reset();
+        heaps.index.note(&heaps.slots, self.number, heaps.limits, &mut heaps.accesses);
+    }
+
+    /// As `GuardedOf::compact` in this heap: **each range keeps every alignment that was asked for**.
+    ///
+    /// ```
+    /// let hole = heap.allocate(300).unwrap();
+    /// heap.allocate_aligned(100, 256).unwrap();
+    /// heap.free(hole);
+    /// assert!(heap.compact(&mut |it| assert_eq!((it.from, it.to, it.size), (512, 0, 100))));
+    /// ```
+    pub fn compact<F: FnMut(Move<T::Index>)>(&mut self, moved: &mut F) -> bool
+        requires callable { F.IsAlwaysCallable moved.old }
+        ensures number { self.new.number ≡ self.old.number }
+        ensures same_reference { self.new.heaps.ghost_name ≡ self.old.heaps.ghost_name }
+        ensures change { Alters self.old.number (λ g h. KeepsSizes g h
+            × (h ≡ record g { space = h.space })
+            × KeepsAlignments g h
+            × (g.step ≡ 0 → (result ≡ false) × (h ≡ g))
+            × (1 ≤ g.step → CompactsBy g.step g.space h.space result)
+            × FoldsTo (IsCalledWith T.Index.NonMax.number (λ f range g. F.step f range tt g))
+            moved.old (if result then moves_by g.step 0 0 g.space.blocks else []) moved.new
+            × (h.space.accesses ≤ g.space.accesses + 21 * length g.space.blocks + 40))
+            self.old.heaps.now self.new.heaps.now }
+        ensures accesses { TakesFewAccesses self.old.heaps.now self.new.heaps.now }
+    {
+        let heaps = &mut *self.heaps;
+        let result = heaps
+            .slots
+            .heap_mut(self.number, &mut heaps.accesses)
+            .compact(moved);
+        heaps.index.note(&heaps.slots, self.number, heaps.limits, &mut heaps.accesses);
+        result
+    }
+
+    /// As `GuardedOf::compact_by` in this heap: each range keeps its alignment where that divides `step`, from 1 on.
+    ///
+    /// ```
+    /// let hole = heap.allocate(300).unwrap();
+    /// heap.allocate_aligned(256, 256).unwrap();
+    /// heap.free(hole);
+    /// assert!(heap.compact_by(256, &mut |it| assert_eq!((it.from, it.to, it.size), (512, 0, 256))));
+    /// ```
+    pub fn compact_by<F: FnMut(Move<T::Index>)>(&mut self, step: u32, moved: &mut F) -> bool
+        requires some { 1 ≤ step }
+        requires callable { F.IsAlwaysCallable moved.old }
+        ensures number { self.new.number ≡ self.old.number }
+        ensures same_reference { self.new.heaps.ghost_name ≡ self.old.heaps.ghost_name }
+        ensures change { Alters self.old.number (λ g h. KeepsSizes g h
+            × (h ≡ record g { space = h.space })
+            × KeepsDivisors step g h
+            × CompactsBy step g.space h.space result
+            × FoldsTo (IsCalledWith T.Index.NonMax.number (λ f range g. F.step f range tt g))
+            moved.old (if result then moves_by step 0 0 g.space.blocks else []) moved.new
+            × (h.space.accesses ≤ g.space.accesses + 21 * length g.space.blocks + 40))
+            self.old.heaps.now self.new.heaps.now }
+        ensures accesses { TakesFewAccesses self.old.heaps.now self.new.heaps.now }
+    {
+        let heaps = &mut *self.heaps;
+        let result = heaps
+            .slots
+            .heap_mut(self.number, &mut heaps.accesses)
+            .compact_by(step, moved);
+        heaps.index.note(&heaps.slots, self.number, heaps.limits, &mut heaps.accesses);
+        result
+    }
+
+    /// As `GuardedOf::compact_unaligned` in this heap: **a moved range keeps no alignment**; `compact` keeps all.
+    ///
+    /// ```
+    /// let hole = heap.allocate(300).unwrap();
+    /// heap.allocate(100).unwrap();
+    /// heap.free(hole);
+    /// heap.compact_unaligned(&mut |it| assert_eq!((it.from, it.to, it.size), (300, 0, 100)));
+    /// ```
+    pub fn compact_unaligned<F: FnMut(Move<T::Index>)>(&mut self, moved: &mut F)
+        requires callable { F.IsAlwaysCallable moved.old }
+        ensures number { self.new.number ≡ self.old.number }
+        ensures same_reference { self.new.heaps.ghost_name ≡ self.old.heaps.ghost_name }
+        ensures change { Alters self.old.number (λ g h. KeepsSizes g h
+            × (h ≡ record g { space = h.space })
+            × Compacts g.space h.space
+            × FoldsTo (IsCalledWith T.Index.NonMax.number (λ f range g. F.step f range tt g))
+            moved.old (moves 0 0 g.space.blocks) moved.new
+            × (h.space.accesses ≤ g.space.accesses + 10 * length g.space.blocks + 384))
+            self.old.heaps.now self.new.heaps.now }
+        ensures accesses { TakesFewAccesses self.old.heaps.now self.new.heaps.now }
+    {
+        let heaps = &mut *self.heaps;
+        heaps
+            .slots
+            .heap_mut(self.number, &mut heaps.accesses)
+            .compact_unaligned(moved);
+        heaps.index.note(&heaps.slots, self.number, heaps.limits, &mut heaps.accesses);
+    }
+
+    /// As `GuardedOf::compact_within` in this heap: a compaction over several frames, in which **each range keeps every
+    /// alignment that was asked for**.
+    ///
+    /// ```
+    /// let hole = heap.allocate(300).unwrap();
+    /// heap.allocate(100).unwrap();
+    /// heap.allocate(100).unwrap();
+    /// heap.free(hole);
+    /// let progress = heap.compact_within(0, 150, 8, &mut |_| {}).unwrap();
+    /// assert_eq!((progress.units, progress.ranges, progress.next), (100, 1, Some(400)));
+    /// ```
+    pub fn compact_within<F: FnMut(Move<T::Index>)>(
+        &mut self,
+        from: u32,
+        most_units: u32,
+        most_ranges: u32,
+        moved: &mut F,
+    ) -> Option<Progress>
+        requires callable { F.IsAlwaysCallable moved.old }
+        ensures number { self.new.number ≡ self.old.number }
+        ensures same_reference { self.new.heaps.ghost_name ≡ self.old.heaps.ghost_name }
+        ensures change { Alters self.old.number (λ g h. KeepsSizes g h
+            × (h ≡ record g { space = h.space })
+            × KeepsAlignments g h
+            × IfSome result (λ p. (p.ranges ≡ 1) ⊎ ((p.units ≤ most_units) × (p.ranges ≤ most_ranges)))
+            × (g.step ≡ 0 → (result ≡ None) × (h ≡ g) × (moved.new ≡ moved.old))
+            × (1 ≤ g.step → CompactsWithin (IsCalledWith T.Index.NonMax.number (λ f range g. F.step f range tt g))
+            g.step from most_units most_ranges g.space moved.old result h.space moved.new)
+            × (h.space.accesses ≤ g.space.accesses + 26 * length g.space.blocks + 60)
+            × (h.space.accesses ≤ g.space.accesses + 5 * length g.space.blocks + 42 * max 1 most_ranges + 60))
+            self.old.heaps.now self.new.heaps.now }
+        ensures accesses { TakesFewAccesses self.old.heaps.now self.new.heaps.now }
+    {
+        let heaps = &mut *self.heaps;
+        let result = heaps
+            .slots
+            .heap_mut(self.number, &mut heaps.accesses)
+            .compact_within(from, most_units, most_ranges, moved);
+        heaps.index.note(&heaps.slots, self.number, heaps.limits, &mut heaps.accesses);
+        result
+    }
+
+    /// As `GuardedOf::compact_within_by` in this heap, by a step from 1 on.
+    ///
+    /// ```
+    /// let hole = heap.allocate(300).unwrap();
+    /// heap.allocate(100).unwrap();
+    /// heap.free(hole);
+    /// let progress = heap.compact_within_by(1, 0, 150, 8, &mut |_| {}).unwrap();
+    /// assert_eq!((progress.units, progress.ranges, progress.next), (100, 1, None));
+    /// ```
+    pub fn compact_within_by<F: FnMut(Move<T::Index>)>(
+        &mut self,
+        step: u32,
+        from: u32,
+        most_units: u32,
+        most_ranges: u32,
+        moved: &mut F,
+    ) -> Option<Progress>
+        requires some { 1 ≤ step }
+        requires callable { F.IsAlwaysCallable moved.old }
+        ensures number { self.new.number ≡ self.old.number }
+        ensures same_reference { self.new.heaps.ghost_name ≡ self.old.heaps.ghost_name }
+        ensures change { Alters self.old.number (λ g h. KeepsSizes g h
+            × (h ≡ record g { space = h.space })
+            × KeepsDivisors step g h
+            × IfSome result (λ p. (p.ranges ≡ 1) ⊎ ((p.units ≤ most_units) × (p.ranges ≤ most_ranges)))
+            × CompactsWithin (IsCalledWith T.Index.NonMax.number (λ f range g. F.step f range tt g))
+            step from most_units most_ranges g.space moved.old result h.space moved.new
+            × (h.space.accesses ≤ g.space.accesses + 26 * length g.space.blocks + 60)
+            × (h.space.accesses ≤ g.space.accesses + 5 * length g.space.blocks + 42 * max 1 most_ranges + 60))
+            self.old.heaps.now self.new.heaps.now }
+        ensures accesses { TakesFewAccesses self.old.heaps.now self.new.heaps.now }
+    {
+        let heaps = &mut *self.heaps;
+        let result = heaps
+            .slots
+            .heap_mut(self.number, &mut heaps.accesses)
+            .compact_within_by(step, from, most_units, most_ranges, moved);
+        heaps.index.note(&heaps.slots, self.number, heaps.limits, &mut heaps.accesses);
+        result
+    }
+
+    /// As `GuardedOf::make_room_aligned` in this heap, for an alignment from 1 on: **each range that moves keeps every alignment
+    /// that was asked for**.
+    ///
+    /// ```
+    /// let hole = heap.allocate(300).unwrap();
+    /// heap.allocate_aligned(200, 256).unwrap();
+    /// heap.free(hole);
+    /// assert!(heap.allocate_aligned(512, 256).is_none());
+    /// heap.make_room_aligned(512, 256, &mut |it| assert_eq!((it.from, it.to, it.size), (512, 0, 200)));
+    /// assert!(heap.allocate_aligned(512, 256).is_some());
+    /// ```
+    pub fn make_room_aligned<F: FnMut(Move<T::Index>)>(
+        &mut self,
+        size: u32,
+        align: u32,
+        moved: &mut F,
+    ) -> Option<RoomCost>
+        requires alignment { 1 ≤ align }
+        requires callable { F.IsAlwaysCallable moved.old }
+        ensures number { self.new.number ≡ self.old.number }
+        ensures same_reference { self.new.heaps.ghost_name ≡ self.old.heaps.ghost_name }
+        ensures change { Alters self.old.number (λ g h. KeepsSizes g h
+            × (h ≡ record g { space = h.space })
+            × KeepsAlignments g h
+            × (1 ≤ g.step → IsLeastCostBy g.step (value (up (units_needed size align)))
+            (names_short (blocks_needed align) g.space) g.space.blocks result)
+            × IfSome result (λ c. CanGrant (blocks_needed align) (units_needed size align) h.space)
+            × (g.step ≡ 0 → (result ≡ None) × (h ≡ g) × (moved.new ≡ moved.old))
+            × (1 ≤ g.step → MakesRoomBy (IsCalledWith T.Index.NonMax.number (λ f range g. F.step f range tt g))
+            g.step (value (up (units_needed size align))) (names_short (blocks_needed align) g.space)
+            g.space moved.old result h.space moved.new)
+            × (h.space.accesses ≤ g.space.accesses + 7 * length g.space.blocks + 36 * ranges_of result + 60))
+            self.old.heaps.now self.new.heaps.now }
+        ensures accesses { TakesFewAccesses self.old.heaps.now self.new.heaps.now }
+    {
+        let heaps = &mut *self.heaps;
+        let result = heaps
+            .slots
+            .heap_mut(self.number, &mut heaps.accesses)
+            .make_room_aligned(size, align, moved);
+        heaps.index.note(&heaps.slots, self.number, heaps.limits, &mut heaps.accesses);
+        result
+    }
+
+    /// As `GuardedOf::make_room_by` in this heap, for an alignment and by a step from 1 on.
+    ///
+    /// ```
+    /// let hole = heap.allocate(300).unwrap();
+    /// heap.allocate_aligned(200, 256).unwrap();
+    /// heap.free(hole);
+    /// heap.make_room_by(512, 256, 512, &mut |it| assert_eq!((it.from, it.to, it.size), (512, 0, 200)));
+    /// assert!(heap.allocate_aligned(512, 256).is_some());
+    /// ```
+    pub fn make_room_by<F: FnMut(Move<T::Index>)>(
+        &mut self,
+        size: u32,
+        align: u32,
+        step: u32,
+        moved: &mut F,
+    ) -> Option<RoomCost>
+        requires alignment { 1 ≤ align }
+        requires some { 1 ≤ step }
+        requires callable { F.IsAlwaysCallable moved.old }
+        ensures number { self.new.number ≡ self.old.number }
+        ensures same_reference { self.new.heaps.ghost_name ≡ self.old.heaps.ghost_name }
+        ensures change { Alters self.old.number (λ g h. KeepsSizes g h
+            × (h ≡ record g { space = h.space })
+            × KeepsDivisors step g h
+            × IsLeastCostBy step (value (up (units_needed size align)))
+            (names_short (blocks_needed align) g.space) g.space.blocks result
+            × IfSome result (λ c. CanGrant (blocks_needed align) (units_needed size align) h.space)
+            × MakesRoomBy (IsCalledWith T.Index.NonMax.number (λ f range g. F.step f range tt g))
+            step (value (up (units_needed size align))) (names_short (blocks_needed align) g.space)
+            g.space moved.old result h.space moved.new
+            × (h.space.accesses ≤ g.space.accesses + 7 * length g.space.blocks + 36 * ranges_of result + 60))
+            self.old.heaps.now self.new.heaps.now }
+        ensures accesses { TakesFewAccesses self.old.heaps.now self.new.heaps.now }
+    {
+        let heaps = &mut *self.heaps;
+        let result = heaps
+            .slots
+            .heap_mut(self.number, &mut heaps.accesses)
+            .make_room_by(size, align, step, moved);
+        heaps.index.note(&heaps.slots, self.number, heaps.limits, &mut heaps.accesses);
+        result
+    }
+
+    /// As `GuardedOf::make_room_unaligned` in this heap: **a moved range keeps no alignment**; `make_room_aligned` keeps all.
+    ///
+    /// ```
+    /// let hole = heap.allocate(300).unwrap();
+    /// heap.allocate(100).unwrap();
+    /// heap.free(hole);
+    /// heap.make_room_unaligned(800, &mut |it| assert_eq!((it.from, it.to, it.size), (300, 0, 100)));
+    /// assert!(heap.allocate(800).is_some());
+    /// ```
+    pub fn make_room_unaligned<F: FnMut(Move<T::Index>)>(
+        &mut self,
+        size: u32,
+        moved: &mut F,
+    ) -> Option<RoomCost>
+        requires callable { F.IsAlwaysCallable moved.old }
+        ensures number { self.new.number ≡ self.old.number }
+        ensures same_reference { self.new.heaps.ghost_name ≡ self.old.heaps.ghost_name }
+        ensures change { Alters self.old.number (λ g h. KeepsSizes g h
+            × (h ≡ record g { space = h.space })
+            × IsLeastCost (value (up size)) g.space.blocks result
+            × IfSome result (λ c. 1 ≤ c.ranges → CanGrant 1 size h.space)
+            × MakesRoom (IsCalledWith T.Index.NonMax.number (λ f range g. F.step f range tt g))
+            (value (up size)) g.space moved.old result h.space moved.new
+            × (h.space.accesses ≤ g.space.accesses + 6 * length g.space.blocks + 40 * ranges_of result + 20))
+            self.old.heaps.now self.new.heaps.now }
+        ensures accesses { TakesFewAccesses self.old.heaps.now self.new.heaps.now }
+    {
+        let heaps = &mut *self.heaps;
+        let result = heaps
+            .slots
+            .heap_mut(self.number, &mut heaps.accesses)
+            .make_room_unaligned(size, moved);
+        heaps.index.note(&heaps.slots, self.number, heaps.limits, &mut heaps.accesses);
+        result
+    }
+}
