@@ -108,8 +108,7 @@ LINTS = {
         "clippy::question_mark": "a step of a proof stands before the return, and is left out here",
         "clippy::manual_find": "a loop over places needs no closure, whose calls would need a proof",
         "clippy::manual_map": "a `match` needs no closure, whose calls would need a proof",
-        "clippy::mem_replace_option_with_none": "one function for both, whose contract the proof has",
-        "clippy::mem_replace_option_with_some": "the same",
+        "clippy::needless_range_loop": "a loop over places lends no cell, whose last value would need a proof",
     },
     "offset_heaps": {
         "clippy::len_zero": "the proof speaks of the length, which no call hides",
@@ -173,6 +172,11 @@ PAIRS = [
         "the same",
     ),
     (
+        "fn clone(&self) -> Result<Self, AllocError> { Ok(BesideIter { cells: self.cells, left: self.left, }) }",
+        "fn clone(&self) -> Self {\n        BesideIter {\n            cells: self.cells,\n            left: self.left,\n        }\n    }",
+        "the same",
+    ),
+    (
         "pub trait Tables: Drop {",
         "pub trait Tables: Sized {",
         "in Rattle what a type parameter is bounded by says that its values may be dropped",
@@ -180,6 +184,16 @@ PAIRS = [
     (
         "pub trait Listener: Drop {",
         "pub trait Listener: Sized {",
+        "the same",
+    ),
+    (
+        "where V: Drop,",
+        "",
+        "a value of any type may be dropped in Rust",
+    ),
+    (
+        "fn empty<X: Drop>(",
+        "fn empty<X>(",
         "the same",
     ),
     (

@@ -1,6 +1,7 @@
 pub mod Calls
 pub mod Faults
 pub mod Guard
+pub mod Lends
 pub mod Numbers
 pub mod State
 pub mod StateFaults

@@ -1,5 +1,5 @@
 -- Values beside tickets: which ticket has which.
-use Rattle.std.specs.Prelude.{ℕ, ◌≡◌, ◌&&◌, List, Option, Some, None, nat_eq, slice_index_or, if◌then◌else◌}
+use Rattle.std.specs.Prelude.{ℕ, ◌≡◌, ◌&&◌, List, Option, Some, None, nat_eq, slice_index_or, slice_set, if◌then◌else◌, filter_map, option_map}
 use Rattle.offset_guarded.specs.Guard.{Ticket}
 
 module _ {V : Type 0} where
@@ -15,6 +15,14 @@ module _ {V : Type 0} where
   -- the value beside a ticket, whatever its offset
   abbrev pub value_of : Ticket → List (Option (Ticket × V)) → Option V
   value_of t cells = value_for t (entry t.name cells)
+
+  -- the tickets and values, by name
+  abbrev pub entries : List (Option (Ticket × V)) → List (Ticket × V)
+  entries cells = filter_map (λ c. c) cells
+
+  -- the cells with another value beside the ticket of a name
+  abbrev pub with_value : List (Option (Ticket × V)) → ℕ → V → List (Option (Ticket × V))
+  with_value cells x v = slice_set cells x (option_map (λ e. (e.0, v)) (entry x cells))
 
   -- every entry has its ticket's name
   abbrev pub AreNamed : List (Option (Ticket × V)) → Type 0

@@ -54,7 +54,7 @@ use std::fmt;
 use std::marker::Model;
 use std::ops::Deref;
 pub use ticket::Ticket;
-pub use values::Beside;
+pub use values::{Beside, BesideIter};
 
 /// The allocator of one space, with tickets in place of handles, and one table of nodes.
 pub type Guarded<NI = u32> = GuardedOf<ByNode<NI>>;

@@ -1,23 +1,29 @@
 //! Values of the caller's beside tickets. It touches no space.
-ghost use Rattle.std.specs.Prelude.{ℕ, ◌≡◌, ◌+◌, ◌<◌, ◌≤◌, ◌&&◌, [], None, Some, IfErr, IfOk, OnErr, OnOk, IsErr, length, max};
-ghost use Rattle.std.specs.Prelude.{nat_eq, option_copied};
+ghost use Rattle.std.specs.Prelude.{ℕ, ◌≡◌, ◌+◌, ◌<◌, ◌≤◌, ◌&&◌, [], None, Some, IfErr, IfOk, OnErr, OnOk, IfSome, IsErr, length, max, slice_set};
+ghost use Rattle.std.specs.Prelude.{nat_eq, option_copied, option_map, replicate, ◌==◌, ⊤, IsSome};
+ghost use Rattle.std.specs.Borrow.{sem};
+ghost use Rattle.std.specs.Iterator.{YieldsFirstBy, item_count};
+ghost use Rattle.std.specs.Option.{option_copied_mut};
 ghost use Rattle.offset_guarded.specs.Guard.{IsLive};
-ghost use Rattle.offset_guarded.specs.Values.{AreNamed, KeepsOtherEntries, SameEntries, entry, value_of};
+ghost use Rattle.offset_guarded.specs.Lends.{lends_second};
+ghost use Rattle.offset_guarded.specs.Values.{AreNamed, KeepsOtherEntries, SameEntries, entries, entry, value_of};
 
 use crate::GuardedOf;
 use crate::ticket::Ticket;
 use offset_allocator::Tables;
 use offset_allocator::laws::is_well_formed;
 use std::alloc::{AllocError, Global};
+use std::fmt;
+use std::iter::FusedIterator;
 use std::marker::Model;
 use std::mem::replace;
 
 /// One value of the caller's beside each of some tickets, such as a name, a resource or an exact size.
 ///
-/// Put one where a range is granted, and take it where the range is freed: what `leaks` has in the end was
+/// Put one where a range is granted, and take it where the range is freed: what `iter` has in the end was
 /// never freed. Use one for each space. It has a cell for each name up to the largest that was given, so never
-/// more than the node limit of the space, and each call but `put` takes constant time; any ticket may be given,
-/// and one of another grant has no value here.
+/// more than the node limit of the space, and each call but `put`, `clear` and a walk takes constant time; any
+/// ticket may be given, and one of another grant has no value here.
 ///
 /// ```
 /// let mut names = Beside::new(alloc);
@@ -31,19 +37,21 @@ use std::mem::replace;
 pub struct Beside<V> {
     // by name
     cells: Vec<Option<(Ticket, V)>>,
+    // how many of them have a value
+    kept: usize,
 }
 
 impl<V> Model for Beside<V> {
-    ghost use Rattle.std.specs.Prelude.{List, Option};
+    ghost use Rattle.std.specs.Prelude.{◌≡◌, List, Option, length};
     ghost use Rattle.std.specs.Coded.{coded_list, coded_option, coded×};
     ghost use Rattle.offset_guarded.specs.Guard.{Ticket};
-    ghost use Rattle.offset_guarded.specs.Values.{AreNamed};
+    ghost use Rattle.offset_guarded.specs.Values.{AreNamed, entries};
 
     ghost Value = { List (Option (Ticket × V)) };
 
     ghost view = { λ b. b.cells.items };
 
-    ghost invariant = { λ b. AreNamed b.cells.items };
+    ghost invariant = { λ b. AreNamed b.cells.items × (b.kept ≡ length (entries b.cells.items)) };
 }
 
 // Whether two tickets of one name are of one grant.
@@ -53,13 +61,37 @@ fn are_alike(one: Ticket, other: Ticket) -> bool
     one.serial() == other.serial() && one.realm() == other.realm()
 }
 
+// The value of the entry of a cell that has one.
+fn lend_value<V>(cell: &mut Option<(Ticket, V)>) -> &mut V
+    requires { IsSome cell.old }
+    ensures* writes_back { sem 𝓛 (lends_second V.row cell.entry result) }
+    ensures value { option_map (λ e. e.1) cell.old ≡ Some result.now }
+{
+    match cell {
+        Some(entry) => &mut entry.1,
+        None => unreachable!(),
+    }
+}
+
+// Drops what some cells have.
+fn empty<X: Drop>(cells: &mut Vec<Option<X>>)
+    ensures { cells.new.items ≡ replicate (length cells.old.items) None }
+{
+    for place in 0..cells.len() {
+        cells[place] = None;
+    }
+}
+
 impl<V> Beside<V> {
+    ghost use Rattle.offset_guarded.specs.Lends.{lends_named, lends_value};
+
     /// No value. It takes no memory.
     pub fn new(alloc: Global) -> Self
         ensures { result ≡ [] }
     {
         Beside {
             cells: Vec::new(alloc),
+            kept: 0,
         }
     }
 
@@ -79,6 +111,20 @@ impl<V> Beside<V> {
         Ok(())
     }
 
+    // Puts an entry, or none, into the cell of a name, and returns what was there.
+    fn exchange(&mut self, name: usize, with: Option<(Ticket, V)>) -> Option<(Ticket, V)>
+        requires cell { name < length self.old }
+        requires named { IfSome with (λ e. e.0.name ≡ name) }
+        ensures after { self.new ≡ slice_set self.old name with }
+        ensures was { result ≡ entry name self.old }
+    {
+        let more = usize::from(with.is_some());
+        let was = replace(&mut self.cells[name], with);
+        self.kept -= usize::from(was.is_some());
+        self.kept += more;
+        was
+    }
+
     // Puts a value under the name of a ticket, and returns what was there.
     fn put_at(&mut self, ticket: Ticket, value: V) -> Result<Option<(Ticket, V)>, V>
         ensures put { OnOk result (entry ticket.name self.new ≡ Some (ticket, value)) }
@@ -94,7 +140,7 @@ impl<V> Beside<V> {
         if self.cover(name + 1).is_err() {
             return Err(value);
         }
-        Ok(replace(&mut self.cells[name], Some((ticket, value))))
+        Ok(self.exchange(name, Some((ticket, value))))
     }
 
     /// Puts a value beside a ticket that is live in its space, and returns what was under its name: the same
@@ -164,6 +210,35 @@ impl<V> Beside<V> {
         }
     }
 
+    /// The value beside a ticket, to be changed in place, or `None` where it has none.
+    ///
+    /// ```
+    /// let mut uses = Beside::new(alloc);
+    /// let mesh = guarded.allocate(300).unwrap();
+    /// assert!(uses.put(&guarded, mesh, 0).is_ok());
+    /// *uses.get_mut(mesh).unwrap() += 1;
+    /// assert_eq!(uses.get(mesh), Some(&1));
+    /// ```
+    pub fn get_mut(&mut self, ticket: Ticket) -> Option<&mut V>
+        ensures* writes_back { sem 𝓛 (lends_value V.row self.entry ticket result) }
+        ensures value { option_copied_mut result ≡ value_of ticket self.old }
+    {
+        if self.get(ticket).is_some() {
+            Some(self.value_mut(ticket.name()))
+        } else {
+            None
+        }
+    }
+
+    // The value under a name that has one.
+    fn value_mut(&mut self, name: u32) -> &mut V
+        requires { IsSome (entry name self.old) }
+        ensures* writes_back { sem 𝓛 (lends_named V.row self.entry name result) }
+        ensures value { option_map (λ e. e.1) (entry name self.old) ≡ Some result.now }
+    {
+        lend_value(&mut self.cells[name as usize])
+    }
+
     /// Takes out the value beside a ticket, or returns `None` where it has none, and then all is as it was.
     ///
     /// ```
@@ -181,13 +256,13 @@ impl<V> Beside<V> {
         if self.get(ticket).is_none() {
             return None;
         }
-        match replace(&mut self.cells[ticket.name() as usize], None) {
+        match self.exchange(ticket.name() as usize, None) {
             Some((_ticket, value)) => Some(value),
             None => unreachable!(),
         }
     }
 
-    /// What was put and not taken, each value with its ticket, by name.
+    /// The cells, by name: what was put and not taken, each value with its ticket. `iter` gives these alone.
     ///
     /// ```
     /// let mut names = Beside::new(alloc);
@@ -203,5 +278,159 @@ impl<V> Beside<V> {
         ensures named { AreNamed self.now }
     {
         &self.cells
+    }
+
+    /// An iterator over what was put and not taken, each value with its ticket, by name. It reads each cell once.
+    ///
+    /// ```
+    /// let mut names = Beside::new(alloc);
+    /// let mesh = guarded.allocate(300).unwrap();
+    /// assert!(names.put(&guarded, mesh, "mesh").is_ok());
+    /// for (ticket, name) in names.iter() {
+    ///     assert_eq!((ticket, *name), (mesh, "mesh"));
+    /// }
+    /// ```
+    pub fn iter(&self) -> BesideIter<'_, V>
+        ensures { result ≡ entries self.now }
+    {
+        BesideIter {
+            cells: &self.cells,
+            left: self.kept,
+        }
+    }
+
+    /// How many values there are.
+    ///
+    /// ```
+    /// let mut names = Beside::new(alloc);
+    /// let mesh = guarded.allocate(300).unwrap();
+    /// assert!(names.put(&guarded, mesh, "mesh").is_ok());
+    /// assert_eq!(names.len(), 1);
+    /// ```
+    pub fn len(&self) -> usize
+        ensures { result ≡ length (entries self.now) }
+    {
+        self.kept
+    }
+
+    /// Whether there is no value.
+    ///
+    /// ```
+    /// assert!(Beside::<u32>::new(alloc).is_empty());
+    /// ```
+    pub fn is_empty(&self) -> bool
+        ensures { result ≡ (length (entries self.now) == 0) }
+    {
+        self.kept == 0
+    }
+
+    /// Drops all values, and keeps the cells, in time that grows with these.
+    ///
+    /// ```
+    /// let mut names = Beside::new(alloc);
+    /// let mesh = guarded.allocate(300).unwrap();
+    /// assert!(names.put(&guarded, mesh, "mesh").is_ok());
+    /// names.clear();
+    /// assert_eq!(names.get(mesh), None);
+    /// ```
+    pub fn clear(&mut self)
+    where
+        V: Drop,
+        ensures { self.new ≡ replicate (length self.old) None }
+    {
+        empty(&mut self.cells);
+        self.kept = 0;
+    }
+}
+
+impl<'a, V> IntoIterator for &'a Beside<V> {
+    type Item = (Ticket, &'a V);
+
+    type IntoIter = BesideIter<'a, V>;
+
+    ghost into_iter_gives = { λ b it. it ≡ entries b.now };
+
+    fn into_iter(self) -> BesideIter<'a, V> {
+        self.iter()
+    }
+}
+
+/// The text is that of a map from tickets to values.
+impl<V: fmt::Debug> fmt::Debug for Beside<V> {
+    fn fmt<W: fmt::Write>(&self, f: &mut fmt::Formatter<W>) -> fmt::Result {
+        f.debug_map().entries(self.iter()).finish()
+    }
+}
+
+/// The values of a `Beside` with their tickets, by name, seen as the list of those that are left.
+#[derive(Drop)]
+pub struct BesideIter<'a, V> {
+    cells: &'a [Option<(Ticket, V)>],
+    // how many values are left
+    left: usize,
+}
+
+impl<'a, V> Model for BesideIter<'a, V> {
+    ghost use Rattle.std.specs.Prelude.{◌≡◌, List, length};
+    ghost use Rattle.std.specs.Coded.{coded_list, coded×};
+    ghost use Rattle.offset_guarded.specs.Guard.{Ticket};
+    ghost use Rattle.offset_guarded.specs.Values.{entries};
+
+    ghost Value = { List (Ticket × V) };
+
+    ghost view = { λ it. entries it.cells.now };
+
+    ghost invariant = { λ it. it.left ≡ length (entries it.cells.now) };
+}
+
+impl<'a, V> Clone for BesideIter<'a, V> {
+    ghost is_clone = { λ it copy. copy ≡ it };
+
+    ghost is_infallible = { λ _. ⊤ };
+
+    fn clone(&self) -> Result<Self, AllocError> {
+        Ok(BesideIter {
+            cells: self.cells,
+            left: self.left,
+        })
+    }
+}
+
+impl<'a, V> Iterator for BesideIter<'a, V> {
+    type Item = (Ticket, &'a V);
+
+    ghost next_gives = { YieldsFirstBy (λ item. (item.0, item.1.now)) (λ rest. rest) };
+
+    ghost remaining = { item_count (λ rest. rest) };
+
+    fn next(&mut self) -> Option<(Ticket, &'a V)> {
+        while let Some((cell, rest)) = self.cells.split_first() {
+            self.cells = rest;
+            if let Some((ticket, value)) = cell {
+                self.left -= 1;
+                return Some((*ticket, value));
+            }
+        }
+        None
+    }
+
+    fn size_hint(&self) -> (usize, Option<usize>) {
+        (self.left, Some(self.left))
+    }
+}
+
+impl<'a, V> ExactSizeIterator for BesideIter<'a, V> {
+    fn len(&self) -> usize {
+        self.left
+    }
+}
+
+impl<'a, V> FusedIterator for BesideIter<'a, V> {}
+
+impl<'a, V> fmt::Debug for BesideIter<'a, V> {
+    fn fmt<W: fmt::Write>(&self, f: &mut fmt::Formatter<W>) -> fmt::Result {
+        f.debug_struct("BesideIter")
+            .field("remaining", &self.len())
+            .finish()
     }
 }

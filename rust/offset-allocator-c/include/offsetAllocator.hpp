@@ -23,6 +23,7 @@
 #include <cstring>
 #include <iterator>
 #include <string>
+#include <type_traits>
 #if defined(__cpp_exceptions) || defined(__EXCEPTIONS) || defined(_CPPUNWIND)
 #define OFFSET_ALLOCATOR_EXCEPTIONS 1
 #include <exception>
@@ -724,6 +725,7 @@ public:
     bool raiseStep(uint32 align) { return oag_raise_step(space, align); }
 
 private:
+    template <class V> friend class Beside;
     explicit GuardedAllocator(oag_allocator *made) noexcept : space(made) {}
     oag_allocator *space;
 
@@ -754,6 +756,88 @@ inline GuardedAllocator::Loaded GuardedAllocator::load(const void *bytes, size_t
     oag_read read = oag_read_state(state.held, mostAllocs);
     return Loaded{GuardedAllocator(read.space), read.found, read.at};
 }
+
+// A value of yours beside each of some tickets of one GuardedAllocator: a pointer, an index, or what else is copied by its
+// bytes, of which it has at most 8.
+//
+//     OffsetAllocator::Beside<Mesh *> meshes;
+//     meshes.put(vertices, ticket, mesh);
+//     meshes.get(ticket)->draw();
+//     meshes.take(ticket);
+template <class V>
+class Beside {
+    static_assert(sizeof(V) <= sizeof(uint64_t), "a value has at most 8 bytes");
+    static_assert(std::is_trivially_copyable<V>::value, "a value is copied by its bytes");
+
+public:
+    // No value. Where memory is out it is empty: no value is put.
+    Beside() noexcept : words(oab_new()) {}
+
+    // What is moved from is empty; a move to itself changes nothing.
+    Beside(Beside &&other) noexcept : words(other.words) { other.words = nullptr; }
+    Beside &operator=(Beside &&other) noexcept {
+        if (this != &other) {
+            oab_drop(words);
+            words = other.words;
+            other.words = nullptr;
+        }
+        return *this;
+    }
+    Beside(const Beside &) = delete;
+    Beside &operator=(const Beside &) = delete;
+    ~Beside() { oab_drop(words); }
+
+    // Whether it has its table.
+    explicit operator bool() const noexcept { return words != nullptr; }
+
+    // Whether the value is put: only where the ticket is live in its space. What was under its name is replaced.
+    bool put(const GuardedAllocator &space, Ticket ticket, V value) {
+        return oab_put(words, space.space, GuardedAllocator::in(ticket), packed(value));
+    }
+
+    // The value beside a ticket, or `other` where it has none; by take it is taken out.
+    V get(Ticket ticket, V other = V()) const {
+        const uint64_t *found = oab_get(words, GuardedAllocator::in(ticket));
+        return found ? unpacked(*found) : other;
+    }
+    V take(Ticket ticket, V other = V()) {
+        const oab_entry found = oab_take(words, GuardedAllocator::in(ticket));
+        return found.found ? unpacked(found.word) : other;
+    }
+    bool has(Ticket ticket) const { return oab_get(words, GuardedAllocator::in(ticket)) != nullptr; }
+
+    // Changes the value beside a ticket. False, and nothing changes, where it has none.
+    bool set(Ticket ticket, V value) {
+        uint64_t *found = oab_get_mut(words, GuardedAllocator::in(ticket));
+        if (found) *found = packed(value);
+        return found != nullptr;
+    }
+
+    // Calls seen(Ticket, V) for each value, by the names of the tickets, until it returns false.
+    template <class F> void each(F &&seen) const {
+        for (oab_entry it = oab_from(words, 0); it.found; it = oab_from(words, it.ticket.name + 1)) {
+            if (!seen(GuardedAllocator::of(it.ticket), unpacked(it.word))) return;
+        }
+    }
+    size_t size() const { return oab_len(words); }
+    bool isEmpty() const { return oab_is_empty(words); }
+    void clear() { oab_clear(words); }
+
+private:
+    oab_words *words;
+
+    static uint64_t packed(const V &value) {
+        uint64_t word = 0;
+        std::memcpy(&word, &value, sizeof(V));
+        return word;
+    }
+
+    static V unpacked(uint64_t word) {
+        V value;
+        std::memcpy(&value, &word, sizeof(V));
+        return value;
+    }
+};
 
 // Calls copy(Piece) for the copies that make a move where a copy may not overlap, in the order in which they can be made: each
 // of at most `most` units, none of which it also reads. False, and nothing is called, where `most` is 0 or the move is none to

@@ -15,7 +15,7 @@
  * and a walk whose space changed. A call with a null allocator does nothing and returns what its comment says. A handle
  * that is not live here is refused by the result, and nothing changes: it was freed, or a reset freed it, or its name is
  * not in use. A stale handle, or one of another allocator, whose name is in use here cannot be distinguished from the live
- * one. Only the calls named *_new, *_clone, *_raise_limit, *_write_state, *_read_state and *_json take memory.
+ * one. Only oab_put and the calls named *_new, *_clone, *_raise_limit, *_write_state, *_read_state and *_json take memory.
  *
  * Threads. Calls with an oa_allocator * need it for themselves; calls with a const oa_allocator * may run at the same
  * time as each other.
@@ -705,6 +705,57 @@ oa_text *oag_vma_json(const oag_allocator *space);
 
 /* The ticket of a handle that a block or a move has; the serial is 0 where it is not live. At most 16 accesses. */
 oag_ticket oag_ticket_of(const oag_allocator *space, oa_allocation allocation);
+
+/* A word of yours beside each of some tickets: an index, or a pointer by way of uintptr_t. Put one where a range is granted,
+ * and take it where the range is freed: what is there in the end was never freed. Use one for each space. It has a cell of
+ * 40 bytes for each name up to the largest that was given, and each call but oab_put, oab_from, oab_clear and oab_drop takes
+ * constant time. Any ticket may be given, and one of another grant has no word here.
+ *
+ *     oab_words *meshes = oab_new();
+ *     oab_put(meshes, space, ticket, (uintptr_t) mesh);
+ *     const uint64_t *word = oab_get(meshes, ticket);      // null: it has none
+ *     oab_take(meshes, ticket);
+ *     oab_drop(meshes); */
+typedef struct oab_words oab_words;
+
+/* A word and its ticket. found: whether there is one; if not, the word is 0, and so is the serial. */
+typedef struct oab_entry {
+    oag_ticket ticket;
+    uint64_t word;
+    bool found;
+} oab_entry;
+
+/* No words. Null where memory is out. */
+oab_words *oab_new(void);
+
+/* Gives its memory back. Null is nothing. */
+void oab_drop(oab_words *words);
+
+/* Puts a word beside a ticket that is live in its space. What was under its name is replaced: a word of the ticket, or of an
+ * earlier grant, which oab_from finds before. False, and all is as it was, where the ticket is not live, where the name has no cell
+ * yet and memory is out, or for null. Where the name is larger than any before, it takes time for the cells up to it. */
+bool oab_put(oab_words *words, const oag_allocator *space, oag_ticket ticket, uint64_t word);
+
+/* The word beside a ticket, to be read, or to be changed in place; null where it has none. The pointer is good until the next
+ * call that may change the words. */
+const uint64_t *oab_get(const oab_words *words, oag_ticket ticket);
+uint64_t *oab_get_mut(oab_words *words, oag_ticket ticket);
+
+/* Takes out the word beside a ticket. Not found, and nothing changes, where it has none. */
+oab_entry oab_take(oab_words *words, oag_ticket ticket);
+
+/* The word of the smallest name that is at least `name`. It reads the cells up to that. All words, by name:
+ *     for (oab_entry it = oab_from(words, 0); it.found; it = oab_from(words, it.ticket.name + 1)) */
+oab_entry oab_from(const oab_words *words, uint32_t name);
+
+/* How many words there are; 0 for null. */
+size_t oab_len(const oab_words *words);
+
+/* Whether there is no word; true for null. */
+bool oab_is_empty(const oab_words *words);
+
+/* Takes out all words, in time that grows with the cells, which it keeps. */
+void oab_clear(oab_words *words);
 
 #ifdef __cplusplus
 }

@@ -1,5 +1,5 @@
 //! The C interface of `offset-allocator-proved` and `offset-allocator-guarded`. `include/offset_allocator.h` documents
-//! each function. That of `offset-allocator-heaps` is in `heaps.rs`.
+//! each function. That of `offset-allocator-heaps` is in `heaps.rs`, that of words beside tickets in `words.rs`.
 //!
 //! No pointer is read here by hand: an allocator is a box that C holds, a call borrows it, a walk is written into what C
 //! lends, and all else goes by value. Each call tests what the library requires of its caller, so that no argument panics.
@@ -480,6 +480,7 @@ macro_rules! exports { ($(
 )* } }
 
 mod heaps;
+mod words;
 
 exports! {
     fn oa_new(size: u32, max_allocs: u32) -> Option<Box<Space>> {

@@ -202,6 +202,35 @@ int main(void) {
         if (!tickets && held != before) return printf("oag_new keeps memory\n"), 1;
         left = tickets ? -1 : next + 1;
     }
+    /* words beside tickets: no table, and none where a cell that is needed finds no memory, at the first growth and behind it */
+    oab_words *words = NULL;
+    int tables = 0, grown = 0;
+    for (left = 0; !words; tables++) {
+        long before = held, next = left;
+        words = oab_new();
+        if (!words && held != before) return printf("oab_new keeps memory\n"), 1;
+        left = words ? -1 : next + 1;
+    }
+    for (uint32_t i = 0; i < 64; i++) {
+        oag_ticket word = oag_allocate(tickets, 1);
+        bool done = false;
+        for (left = 0; !done; grown += !done) {
+            long before = held, next = left;
+            done = oab_put(words, tickets, word, i);
+            if (!done && (held != before || oab_len(words) != i || oab_get(words, word))) return printf("oab_put keeps memory\n"), 1;
+            left = done ? -1 : next + 1;
+        }
+        if (*oab_get(words, word) != i) return printf("a word is another\n"), 1;
+    }
+    left = 0;
+    ++*oab_get_mut(words, oab_from(words, 9).ticket);
+    oab_take(words, oab_from(words, 8).ticket);
+    oab_clear(words);
+    if (left != 0 || oab_len(words) != 0) return printf("a call of words takes memory\n"), 1;
+    left = -1;
+    oab_drop(words);
+    if (tables < 2 || grown < 3) return printf("no request of words failed\n"), 1;
+    oag_reset(tickets);
     left = 0;
     oag_ticket t = oag_allocate(tickets, 20);
     oag_allocate_aligned(tickets, 20, 8);

@@ -129,6 +129,42 @@ static void sideTable() {
     CHECK(std::count(meshes.begin(), meshes.end(), nullptr) == 15);
 }
 
+// The same with tickets: a value is the ticket's alone.
+static void values() {
+    GuardedAllocator heap = GuardedAllocator::withRealm(100, 16, 7);
+    Beside<const char *> meshes;
+    const Ticket rock = heap.allocate(10), tree = heap.allocate(10);
+    CHECK(meshes && meshes.isEmpty() && !meshes.get(rock) && !meshes.has(rock) && !meshes.set(rock, "stone"));
+    CHECK(meshes.put(heap, rock, "rock") && meshes.put(heap, tree, "tree") && meshes.size() == 2);
+    CHECK(!std::strcmp(meshes.get(rock), "rock") && meshes.set(tree, "oak") && !std::strcmp(meshes.get(tree), "oak"));
+    CHECK(heap.free(rock) && !std::strcmp(meshes.take(rock), "rock") && !meshes.take(rock) && !meshes.put(heap, rock, "rock"));
+    const Ticket leaf = heap.allocate(10);
+    CHECK(leaf.name == rock.name && !meshes.get(leaf) && meshes.put(heap, leaf, "leaf") && !meshes.has(rock));
+    std::vector<Ticket> met;
+    meshes.each([&](Ticket at, const char *mesh) {
+        met.push_back(at);
+        CHECK(mesh == meshes.get(at));
+        return true;
+    });
+    CHECK(met.size() == 2 && met[0].name < met[1].name && meshes.has(met[0]) && meshes.has(met[1]));
+    int once = 0;
+    meshes.each([&](Ticket, const char *) { return ++once < 1; });
+    CHECK(once == 1);
+    // a smaller value, and one that is neither pointer nor number
+    struct Pair {
+        uint16_t first, second;
+    };
+    Beside<Pair> pairs;
+    CHECK(pairs.put(heap, leaf, Pair{1, 2}) && pairs.get(leaf).second == 2 && pairs.get(tree).first == 0 && pairs.get(tree, Pair{3, 4}).first == 3);
+    Beside<double> weights;
+    CHECK(weights.put(heap, leaf, 0.5) && weights.get(leaf) == 0.5 && weights.take(tree, -1.0) == -1.0);
+    Beside<const char *> gone(std::move(meshes));
+    CHECK(!meshes && !meshes.put(heap, leaf, "leaf") && meshes.size() == 0 && gone.size() == 2);
+    meshes = std::move(gone);
+    meshes.clear();
+    CHECK(meshes && meshes.isEmpty() && !gone && meshes.put(heap, leaf, "leaf"));
+}
+
 // A walk from either end meets each live range once, also one at 0, and ends where none is at 0.
 template <class H, class A, class F> static void walkToTheEnd(const A &heap, F offsetOf, std::vector<uint32> wanted) {
     std::vector<uint32> met, back;
@@ -795,6 +831,7 @@ int main() {
     minSize();
     scales();
     sideTable();
+    values();
     relocateToAMultiple();
     emptyTheEnd();
     atTheLastNumber();

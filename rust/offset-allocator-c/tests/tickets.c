@@ -467,6 +467,45 @@ static void nulls(void) {
     CHECK(none.serial == 0 && !oag_free(NULL, none) && !oag_is_live(NULL, none) && !oag_extend(NULL, 1));
     CHECK(oag_refusal(NULL, 1) == OA_BAD_CALL && oag_offset_of(NULL, none) == OA_NO_SPACE);
     oag_reset(NULL);
+    CHECK(!oab_get(NULL, none) && !oab_get_mut(NULL, none) && !oab_take(NULL, none).found && !oab_from(NULL, 0).found);
+    CHECK(oab_len(NULL) == 0 && oab_is_empty(NULL));
+    oab_clear(NULL);
+    oab_drop(NULL);
+}
+
+/* words beside tickets: of the ticket alone, changed in place, walked by name, taken and cleared */
+static void words(void) {
+    oag_allocator *space = oag_with_realm(1000, 100, 7), *other = oag_with_realm(1000, 100, 8);
+    oab_words *kept = oab_new();
+    CHECK(space && other && kept && oab_is_empty(kept) && oab_len(kept) == 0 && !oab_from(kept, 0).found);
+    oag_ticket a = oag_allocate(space, 10), b = oag_allocate(space, 20), c = oag_allocate(space, 30);
+    CHECK(!oab_get(kept, a) && !oab_get_mut(kept, a) && !oab_take(kept, a).found && oab_take(kept, a).ticket.serial == 0);
+    CHECK(oab_put(kept, space, c, 3) && oab_put(kept, space, a, UINT64_MAX) && oab_len(kept) == 2 && !oab_is_empty(kept));
+    CHECK(*oab_get(kept, a) == UINT64_MAX && *oab_get(kept, c) == 3 && !oab_get(kept, b));
+    ++*oab_get_mut(kept, c);
+    CHECK(*oab_get(kept, c) == 4 && *oab_get(kept, a) == UINT64_MAX);
+    /* by name */
+    oag_ticket low = a.name < c.name ? a : c, high = a.name < c.name ? c : a;
+    oab_entry first = oab_from(kept, 0), second = oab_from(kept, low.name + 1);
+    CHECK(first.found && first.ticket.serial == low.serial && first.ticket.name == low.name && first.ticket.realm == 7);
+    CHECK(second.found && second.ticket.serial == high.serial && second.word == *oab_get(kept, high));
+    CHECK(!oab_from(kept, high.name + 1).found && !oab_from(kept, OA_NO_SPACE).found);
+    /* a stale ticket, one of another realm and one that was altered have no word, and get none */
+    CHECK(oag_free(space, a) && !oab_put(kept, space, a, 1) && *oab_get(kept, a) == UINT64_MAX);
+    oag_ticket d = oag_allocate(space, 5), foreign = d, altered = d;
+    foreign.realm = 8;
+    altered.name = OA_NO_SPACE;
+    CHECK(d.name == a.name && !oab_get(kept, d) && !oab_put(kept, other, d, 1) && !oab_put(kept, space, altered, 1));
+    CHECK(oab_from(kept, d.name).ticket.serial == a.serial && oab_put(kept, space, d, 5) && oab_len(kept) == 2);
+    CHECK(!oab_get(kept, a) && *oab_get(kept, d) == 5 && !oab_get(kept, foreign) && !oab_get(kept, altered));
+    oab_entry taken = oab_take(kept, d);
+    CHECK(taken.found && taken.word == 5 && taken.ticket.serial == d.serial && !oab_take(kept, d).found && oab_len(kept) == 1);
+    oab_clear(kept);
+    CHECK(oab_is_empty(kept) && !oab_get(kept, c) && !oab_from(kept, 0).found && oab_put(kept, space, c, 6) && *oab_get(kept, c) == 6);
+    CHECK(!oab_put(NULL, space, c, 1) && !oab_put(kept, NULL, c, 1) && *oab_get(kept, c) == 6);
+    oab_drop(kept);
+    oag_drop(space);
+    oag_drop(other);
 }
 
 /* a million tickets of random numbers, between real ones: none touches a live range */
@@ -603,6 +642,7 @@ int main(void) {
     steps();
     questions();
     nulls();
+    words();
     dumps();
     random_tickets();
     every_alignment();

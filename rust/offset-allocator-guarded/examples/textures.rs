@@ -52,8 +52,7 @@ impl Heap {
         self.places.take(gone.ticket);
         assert!(self.space.free(gone.ticket));
         if let Some(moved) = self.textures.get(place) {
-            self.places.take(moved.ticket);
-            assert!(self.places.put(&self.space, moved.ticket, place).expect("memory for a place").is_none());
+            *self.places.get_mut(moved.ticket).expect("each texture has its place") = place;
         }
     }
 

@@ -24,8 +24,7 @@
 #![expect(clippy::question_mark)] // a step of a proof stands before the return, and is left out here
 #![expect(clippy::manual_find)] // a loop over places needs no closure, whose calls would need a proof
 #![expect(clippy::manual_map)] // a `match` needs no closure, whose calls would need a proof
-#![expect(clippy::mem_replace_option_with_none)] // one function for both, whose contract the proof has
-#![expect(clippy::mem_replace_option_with_some)] // the same
+#![expect(clippy::needless_range_loop)] // a loop over places lends no cell, whose last value would need a proof
 
 mod realms;
 mod traits;
@@ -63,7 +62,7 @@ pub use state::{StateFault, StateFaultKind};
 use core::fmt;
 use core::ops::Deref;
 pub use ticket::Ticket;
-pub use values::Beside;
+pub use values::{Beside, BesideIter};
 
 /// The allocator of one space, with tickets in place of handles, and one table of nodes.
 pub type Guarded<NI = u32> = GuardedOf<ByNode<NI>>;

@@ -7,14 +7,16 @@ use crate::ticket::Ticket;
 use offset_allocator::Tables;
 use crate::memory::Vec;
 use crate::memory::{AllocError, Global};
+use core::fmt;
+use core::iter::FusedIterator;
 use core::mem::replace;
 
 /// One value of the caller's beside each of some tickets, such as a name, a resource or an exact size.
 ///
-/// Put one where a range is granted, and take it where the range is freed: what `leaks` has in the end was
+/// Put one where a range is granted, and take it where the range is freed: what `iter` has in the end was
 /// never freed. Use one for each space. It has a cell for each name up to the largest that was given, so never
-/// more than the node limit of the space, and each call but `put` takes constant time; any ticket may be given,
-/// and one of another grant has no value here.
+/// more than the node limit of the space, and each call but `put`, `clear` and a walk takes constant time; any
+/// ticket may be given, and one of another grant has no value here.
 ///
 /// ```
 /// # use offset_allocator_guarded::*;
@@ -31,6 +33,8 @@ use core::mem::replace;
 pub struct Beside<V> {
     // by name
     cells: Vec<Option<(Ticket, V)>>,
+    // how many of them have a value
+    kept: usize,
 }
 
 // Whether two tickets of one name are of one grant.
@@ -38,11 +42,27 @@ fn are_alike(one: Ticket, other: Ticket) -> bool {
     one.serial() == other.serial() && one.realm() == other.realm()
 }
 
+// The value of the entry of a cell that has one.
+fn lend_value<V>(cell: &mut Option<(Ticket, V)>) -> &mut V {
+    match cell {
+        Some(entry) => &mut entry.1,
+        None => unreachable!(),
+    }
+}
+
+// Drops what some cells have.
+fn empty<X>(cells: &mut Vec<Option<X>>) {
+    for place in 0..cells.len() {
+        cells[place] = None;
+    }
+}
+
 impl<V> Beside<V> {
     /// No value. It takes no memory.
     pub fn new(alloc: Global) -> Self {
         Beside {
             cells: Vec::new(alloc),
+            kept: 0,
         }
     }
 
@@ -56,13 +76,22 @@ impl<V> Beside<V> {
         Ok(())
     }
 
+    // Puts an entry, or none, into the cell of a name, and returns what was there.
+    fn exchange(&mut self, name: usize, with: Option<(Ticket, V)>) -> Option<(Ticket, V)> {
+        let more = usize::from(with.is_some());
+        let was = replace(&mut self.cells[name], with);
+        self.kept -= usize::from(was.is_some());
+        self.kept += more;
+        was
+    }
+
     // Puts a value under the name of a ticket, and returns what was there.
     fn put_at(&mut self, ticket: Ticket, value: V) -> Result<Option<(Ticket, V)>, V> {
         let name = ticket.name() as usize;
         if self.cover(name + 1).is_err() {
             return Err(value);
         }
-        Ok(replace(&mut self.cells[name], Some((ticket, value))))
+        Ok(self.exchange(name, Some((ticket, value))))
     }
 
     /// Puts a value beside a ticket that is live in its space, and returns what was under its name: the same
@@ -121,6 +150,32 @@ impl<V> Beside<V> {
         }
     }
 
+    /// The value beside a ticket, to be changed in place, or `None` where it has none.
+    ///
+    /// ```
+    /// # use offset_allocator_guarded::*;
+    /// # let alloc = Global;
+    /// let mut guarded = Guarded::<u32>::new(alloc, 1000)?;
+    /// let mut uses = Beside::new(alloc);
+    /// let mesh = guarded.allocate(300).unwrap();
+    /// assert!(uses.put(&guarded, mesh, 0).is_ok());
+    /// *uses.get_mut(mesh).unwrap() += 1;
+    /// assert_eq!(uses.get(mesh), Some(&1));
+    /// # Ok::<(), AllocError>(())
+    /// ```
+    pub fn get_mut(&mut self, ticket: Ticket) -> Option<&mut V> {
+        if self.get(ticket).is_some() {
+            Some(self.value_mut(ticket.name()))
+        } else {
+            None
+        }
+    }
+
+    // The value under a name that has one.
+    fn value_mut(&mut self, name: u32) -> &mut V {
+        lend_value(&mut self.cells[name as usize])
+    }
+
     /// Takes out the value beside a ticket, or returns `None` where it has none, and then all is as it was.
     ///
     /// ```
@@ -137,13 +192,13 @@ impl<V> Beside<V> {
         if self.get(ticket).is_none() {
             return None;
         }
-        match replace(&mut self.cells[ticket.name() as usize], None) {
+        match self.exchange(ticket.name() as usize, None) {
             Some((_ticket, value)) => Some(value),
             None => unreachable!(),
         }
     }
 
-    /// What was put and not taken, each value with its ticket, by name.
+    /// The cells, by name: what was put and not taken, each value with its ticket. `iter` gives these alone.
     ///
     /// ```
     /// # use offset_allocator_guarded::*;
@@ -159,5 +214,140 @@ impl<V> Beside<V> {
     /// ```
     pub fn leaks(&self) -> &[Option<(Ticket, V)>] {
         &self.cells
+    }
+
+    /// An iterator over what was put and not taken, each value with its ticket, by name. It reads each cell once.
+    ///
+    /// ```
+    /// # use offset_allocator_guarded::*;
+    /// # let alloc = Global;
+    /// let mut guarded = Guarded::<u32>::new(alloc, 1000)?;
+    /// let mut names = Beside::new(alloc);
+    /// let mesh = guarded.allocate(300).unwrap();
+    /// assert!(names.put(&guarded, mesh, "mesh").is_ok());
+    /// for (ticket, name) in names.iter() {
+    ///     assert_eq!((ticket, *name), (mesh, "mesh"));
+    /// }
+    /// # Ok::<(), AllocError>(())
+    /// ```
+    pub fn iter(&self) -> BesideIter<'_, V> {
+        BesideIter {
+            cells: &self.cells,
+            left: self.kept,
+        }
+    }
+
+    /// How many values there are.
+    ///
+    /// ```
+    /// # use offset_allocator_guarded::*;
+    /// # let alloc = Global;
+    /// let mut guarded = Guarded::<u32>::new(alloc, 1000)?;
+    /// let mut names = Beside::new(alloc);
+    /// let mesh = guarded.allocate(300).unwrap();
+    /// assert!(names.put(&guarded, mesh, "mesh").is_ok());
+    /// assert_eq!(names.len(), 1);
+    /// # Ok::<(), AllocError>(())
+    /// ```
+    pub fn len(&self) -> usize {
+        self.kept
+    }
+
+    /// Whether there is no value.
+    ///
+    /// ```
+    /// # use offset_allocator_guarded::*;
+    /// # let alloc = Global;
+    /// assert!(Beside::<u32>::new(alloc).is_empty());
+    /// # Ok::<(), AllocError>(())
+    /// ```
+    pub fn is_empty(&self) -> bool {
+        self.kept == 0
+    }
+
+    /// Drops all values, and keeps the cells, in time that grows with these.
+    ///
+    /// ```
+    /// # use offset_allocator_guarded::*;
+    /// # let alloc = Global;
+    /// let mut guarded = Guarded::<u32>::new(alloc, 1000)?;
+    /// let mut names = Beside::new(alloc);
+    /// let mesh = guarded.allocate(300).unwrap();
+    /// assert!(names.put(&guarded, mesh, "mesh").is_ok());
+    /// names.clear();
+    /// assert_eq!(names.get(mesh), None);
+    /// # Ok::<(), AllocError>(())
+    /// ```
+    pub fn clear(&mut self) {
+        empty(&mut self.cells);
+        self.kept = 0;
+    }
+}
+
+impl<'a, V> IntoIterator for &'a Beside<V> {
+    type Item = (Ticket, &'a V);
+
+    type IntoIter = BesideIter<'a, V>;
+
+    fn into_iter(self) -> BesideIter<'a, V> {
+        self.iter()
+    }
+}
+
+/// The text is that of a map from tickets to values.
+impl<V: fmt::Debug> fmt::Debug for Beside<V> {
+    fn fmt(&self, f: &mut fmt::Formatter<'_>) -> fmt::Result {
+        f.debug_map().entries(self.iter()).finish()
+    }
+}
+
+/// The values of a `Beside` with their tickets, by name, seen as the list of those that are left.
+pub struct BesideIter<'a, V> {
+    cells: &'a [Option<(Ticket, V)>],
+    // how many values are left
+    left: usize,
+}
+
+impl<'a, V> Clone for BesideIter<'a, V> {
+    fn clone(&self) -> Self {
+        BesideIter {
+            cells: self.cells,
+            left: self.left,
+        }
+    }
+}
+
+impl<'a, V> Iterator for BesideIter<'a, V> {
+    type Item = (Ticket, &'a V);
+
+    fn next(&mut self) -> Option<(Ticket, &'a V)> {
+        while let Some((cell, rest)) = self.cells.split_first() {
+            self.cells = rest;
+            if let Some((ticket, value)) = cell {
+                self.left -= 1;
+                return Some((*ticket, value));
+            }
+        }
+        None
+    }
+
+    fn size_hint(&self) -> (usize, Option<usize>) {
+        (self.left, Some(self.left))
+    }
+}
+
+impl<'a, V> ExactSizeIterator for BesideIter<'a, V> {
+    fn len(&self) -> usize {
+        self.left
+    }
+}
+
+impl<'a, V> FusedIterator for BesideIter<'a, V> {}
+
+impl<'a, V> fmt::Debug for BesideIter<'a, V> {
+    fn fmt(&self, f: &mut fmt::Formatter<'_>) -> fmt::Result {
+        f.debug_struct("BesideIter")
+            .field("remaining", &self.len())
+            .finish()
     }
 }

@@ -26,10 +26,11 @@ fn values_are_those_of_a_map() {
     let mut names = Beside::new(Global);
     let mut model: HashMap<Key, (Ticket, String)> = HashMap::new();
     let mut tickets = Vec::new();
-    let (mut stale, mut replaced) = (0, 0);
+    let (mut stale, mut replaced, mut changed, mut cleared) = (0, 0, 0, 0);
     for step in 0..100_000u32 {
         let number = numbers.next() >> 11;
-        match number % 4 {
+        assert_eq!((names.len(), names.is_empty()), (model.len(), model.is_empty()));
+        match number % 5 {
             0 => {
                 if let Some(ticket) = space.allocate(1 + (number / 4 % 60) as u32) {
                     tickets.push(ticket);
@@ -38,7 +39,7 @@ fn values_are_those_of_a_map() {
                     assert_eq!(names.put(&space, ticket, step.to_string()), Ok(was));
                     model.insert(key(ticket), (ticket, step.to_string()));
                     // the same ticket again has the same name
-                    if number % 64 == 0 {
+                    if number % 32 == 0 {
                         let was = model.insert(key(ticket), (ticket, "again".to_string()));
                         assert_eq!(names.put(&space, ticket, "again".to_string()), Ok(was));
                         replaced += 1;
@@ -48,7 +49,7 @@ fn values_are_those_of_a_map() {
             1 if !tickets.is_empty() => {
                 let ticket = recent(&tickets, number / 4);
                 // one in four values is not taken where its range is freed, nor where it was
-                if space.free(ticket) && number % 16 != 1 {
+                if space.free(ticket) && number / 5 % 4 != 0 {
                     let value = model.remove(&key(ticket)).map(|(_, value)| value);
                     assert_eq!(names.take(ticket), value);
                     assert_eq!(names.take(ticket), None);
@@ -65,14 +66,51 @@ fn values_are_those_of_a_map() {
                 assert_eq!(names.get(Ticket::from_parts(offset, name, serial, 2).unwrap()), None);
                 stale += u32::from(value.is_none());
             }
+            3 if !tickets.is_empty() => {
+                let ticket = recent(&tickets, number / 4);
+                let value = model.get_mut(&key(ticket)).map(|(_, value)| value);
+                assert_eq!(names.get_mut(ticket), value);
+                if let (Some(value), Some(there)) = (value, names.get_mut(ticket)) {
+                    value.push('!');
+                    there.push('!');
+                    changed += 1;
+                }
+            }
+            4 if number % 1_000 == 4 => {
+                assert_same(&names, &model);
+                if number % 20_000 == 4 {
+                    let cells = names.leaks().len();
+                    names.clear();
+                    model.clear();
+                    assert_eq!(names.leaks(), vec![None; cells]);
+                    cleared += 1;
+                }
+            }
             _ => {}
         }
     }
-    assert!(stale > 1_000 && replaced > 100);
-    let mut left: Vec<(Ticket, String)> = model.into_values().collect();
+    assert!(stale > 1_000 && replaced > 100 && changed > 1_000 && cleared > 0);
+    assert_same(&names, &model);
+}
+
+// Whether the values are those of a map, in the order of names.
+fn assert_same(names: &Beside<String>, model: &HashMap<Key, (Ticket, String)>) {
+    let mut left: Vec<(Ticket, &String)> = model.values().map(|(ticket, value)| (*ticket, value)).collect();
     left.sort_by_key(|(ticket, _)| ticket.name());
-    let leaks: Vec<(Ticket, String)> = names.leaks().iter().flatten().cloned().collect();
-    assert_eq!(leaks, left);
+    assert_eq!(names.iter().collect::<Vec<_>>(), left);
+    assert_eq!(names.into_iter().collect::<Vec<_>>(), left);
+    assert!(names.leaks().iter().flatten().map(|(ticket, value)| (*ticket, value)).eq(left.iter().copied()));
+    assert_eq!(names.iter().len(), left.len());
+    let mut walk = names.iter();
+    for (seen, entry) in left.iter().enumerate() {
+        assert_eq!((walk.len(), walk.size_hint().1), (left.len() - seen, Some(left.len() - seen)));
+        assert!(walk.clone().eq(left[seen..].iter().copied()));
+        assert_eq!(walk.next(), Some(*entry));
+    }
+    assert_eq!((walk.next(), walk.next()), (None, None));
+    let text: std::collections::BTreeMap<u32, _> = left.iter().map(|entry| (entry.0.name(), entry)).collect();
+    let lines: Vec<String> = text.values().map(|(ticket, value)| format!("{ticket:?}: {value:?}")).collect();
+    assert_eq!(format!("{names:?}"), format!("{{{}}}", lines.join(", ")));
 }
 
 #[test]
@@ -93,6 +131,12 @@ fn no_value_is_lost_or_dropped_twice() {
     space.free(one);
     drop(values.put(&space, one, value.clone()));
     assert_eq!(Rc::strong_count(&value), 2);
+    // one that is changed in place drops what was there, and `clear` all
+    *values.get_mut(two).unwrap() = value.clone();
+    assert_eq!(Rc::strong_count(&value), 2);
+    values.clear();
+    assert_eq!((Rc::strong_count(&value), values.len(), values.take(two)), (1, 0, None));
+    assert_eq!(values.put(&space, two, value.clone()), Ok(None));
     drop(values);
     assert_eq!(Rc::strong_count(&value), 1);
 }

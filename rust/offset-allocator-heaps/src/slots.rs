@@ -26,7 +26,7 @@ fn room_at<T: Tables>(heap: &GuardedOf<T>, number: u32, limits: Limits, align: u
 }
 
 // The heap of a slot that has one, to be changed.
-fn heap_in<T: Tables>(slot: &mut Option<GuardedOf<T>>) -> &mut GuardedOf<T> {
+fn heap_in<H>(slot: &mut Option<H>) -> &mut H {
     match slot {
         Some(heap) => heap,
         None => unreachable!(),

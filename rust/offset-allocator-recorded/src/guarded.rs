@@ -56,9 +56,9 @@ impl<T: Tables, W: Write> Recorded<GuardedOf<T>, W> {
     /// assert_eq!(heap.finish().1.unwrap(), b"space 1000 nodes 16 index 32\nalloc 100\n#! name 1 mesh: rock\n");
     /// ```
     pub fn name_all<V>(&mut self, beside: &Beside<V>, name: impl Fn(&V) -> &str) {
-        for (ticket, value) in beside.leaks().iter().flatten() {
+        for (ticket, value) in beside {
             if !self.tape.is_named(ticket.name()) {
-                self.name_live(*ticket, name(value));
+                self.name_live(ticket, name(value));
             }
         }
     }

@@ -338,10 +338,10 @@ impl<T: Tables, W: Write> RecordedHeaps<T, W> {
     /// ```
     pub fn name_all<V>(&mut self, heap: u32, beside: &Beside<V>, name: impl Fn(&V) -> &str) {
         let realm = self.heaps.realm();
-        for (ticket, value) in beside.leaks().iter().flatten() {
+        for (ticket, value) in beside {
             let is_named = self.grants.get(&heap).is_some_and(|grants| grants.1.contains_key(&ticket.name()));
             if !is_named {
-                self.name_live(Place::from_ticket(heap, realm, *ticket), name(value));
+                self.name_live(Place::from_ticket(heap, realm, ticket), name(value));
             }
         }
     }

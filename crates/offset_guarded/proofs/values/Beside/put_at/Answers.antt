@@ -1,22 +1,21 @@
-use Rattle.std.proofs.Common.{◌∙◌, ◌+◌, ◌≤◌, None, length, ap, arith, sym}
-use Rattle.std.proofs.lemmas.List.{get_or-set_other, get_or_read}
+use Rattle.std.proofs.Common.{◌∙◌, ◌+◌, ◌≤◌, None, length, ap, arith}
+use Rattle.std.proofs.lemmas.List.{get_or-set_other}
 use Rattle.offset_guarded.specs.Values.{entry}
-use Rattle.offset_guarded.proofs.Entries.{if_ok, named_set, put_there}
+use Rattle.offset_guarded.proofs.Entries.{if_ok, put_there}
 use Rattle.offset_guarded.proofs.values.Beside.put_at.Goals as goal
 
-pub invariant_of-self : goal.invariant_of-self
-invariant_of-self g c = named_set _ _ _ c.self.invariant (λ e q. cc)
+pub exchange-requires-clause-cell : goal.exchange-requires-clause-cell
+exchange-requires-clause-cell g c =
+    omega (arith, if_ok (c.name-name.result + 1 ≤ length c.cover.new.self) c.cover.result c.cover.ensures.covers c.if-is_err.ensures.negation)
 
 pub returns-clause-put : goal.returns-clause-put
 returns-clause-put g c =
     let l = if_ok (c.name-name.result + 1 ≤ length c.cover.new.self) c.cover.result c.cover.ensures.covers c.if-is_err.ensures.negation in
-    put_there None c.self.inside.cells.items _ c.name-name.result _ c.name-name.ensures.name (omega (arith, l, ap length c.self.view_is)) ∙ c.replace.ensures.after
+    ap (entry c.args.ticket.name) c.exchange.ensures.after ∙ put_there None c.cover.new.self _ c.name-name.result _ c.name-name.ensures.name (omega (arith, l))
 
 pub returns-clause-was : goal.returns-clause-was
-returns-clause-was g c =
-    let l = if_ok (c.name-name.result + 1 ≤ length c.cover.new.self) c.cover.result c.cover.ensures.covers c.if-is_err.ensures.negation in
-    rw (sym c.name-name.ensures.name) (c.replace.ensures.value ∙ get_or_read c.self.inside.cells.items _ _ (omega (arith, l, ap length c.self.view_is)) c.index_mut.ensures.value None
-    ∙ ap (entry c.name-name.result) c.self.view_is ∙ c.cover.ensures.same c.name-name.result)
+returns-clause-was g c = c.exchange.ensures.was ∙ ap (λ x. entry x c.cover.new.self) c.name-name.ensures.name ∙ c.cover.ensures.same c.args.ticket.name
 
 pub returns-clause-others : goal.returns-clause-others
-returns-clause-others g c y n = get_or-set_other c.self.inside.cells.items _ y _ None (λ e. n (e ∙ c.name-name.ensures.name)) ∙ ap (entry y) c.self.view_is ∙ c.cover.ensures.same y
+returns-clause-others g c y n =
+    ap (entry y) c.exchange.ensures.after ∙ get_or-set_other c.cover.new.self _ y _ None (λ e. n (e ∙ c.name-name.ensures.name)) ∙ c.cover.ensures.same y
