@@ -9,7 +9,7 @@ use Rattle.offset_allocator.specs.AtOffset.{AllocatesAt}
 use Rattle.offset_allocator.specs.Moving.Budget.{CompactsWithin}
 use Rattle.offset_allocator.specs.Moving.BySteps.{CompactsBy}
 use Rattle.offset_allocator.specs.Moving.Compacting.{Compacts, Move}
-use Rattle.offset_allocator.specs.Moving.Relocating.{RelocatesAligned, offset_of}
+use Rattle.offset_allocator.specs.Moving.Relocating.{Relocates, RelocatesAligned, offset_of}
 use Rattle.offset_allocator.specs.Ranges.{size_of}
 use Rattle.offset_allocator.specs.Moving.Room.{MakesRoom}
 use Rattle.offset_allocator.specs.Moving.RoomBySteps.{MakesRoomBy}
@@ -56,6 +56,10 @@ at offset n v w (Some g) a = both v w (ap (λ (z : View). z.size) a.split.view) 
 pub relocates : (x align : ℕ) (v w : View) (r : Option Handle) → RelocatesAligned x align v w r → SameLimits v w
 relocates x align v w None a = stays v w a.1
 relocates x align v w (Some g) a = both v w (ap (λ (z : View). z.size) a.0.1.view) (ap (λ (z : View). z.max_allocs) a.0.1.view)
+
+pub second : (x : ℕ) (v w : View) (r : Option Handle) → Relocates x v w r → SameLimits v w
+second x v w None a = stays v w a.1
+second x v w (Some g) a = allocates (size_of x v) v w (Some g) a.0
 
 pub frees : (x : ℕ) (v w : View) → Frees x v w → SameLimits v w
 frees x v w f = both v w (ap (λ (z : View). z.size) f.view) (ap (λ (z : View). z.max_allocs) f.view)

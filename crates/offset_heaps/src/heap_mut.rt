@@ -10,9 +10,10 @@ ghost use Rattle.offset_allocator.specs.Classes.{down, up, value};
 ghost use Rattle.offset_allocator.specs.Moving.Budget.{CompactsWithin};
 ghost use Rattle.offset_allocator.specs.Moving.BySteps.{CompactsBy, moves_by};
 ghost use Rattle.offset_allocator.specs.Moving.Compacting.{Compacts, IsCalledWith, moves};
-ghost use Rattle.offset_allocator.specs.Moving.Relocating.{RelocatesAligned, offset_of};
+ghost use Rattle.offset_allocator.specs.Moving.Relocating.{Relocates, RelocatesAligned, offset_of};
 ghost use Rattle.offset_allocator.specs.Moving.Room.{IsLeastCost, MakesRoom, ranges_of};
 ghost use Rattle.offset_allocator.specs.Moving.RoomBySteps.{IsLeastCostBy, MakesRoomBy, names_short};
+ghost use Rattle.offset_allocator.specs.Ranges.{size_of};
 ghost use Rattle.offset_allocator.specs.Relations.{Aligns, Allocates, CanExtend, Extends, Frees, Resets};
 ghost use Rattle.offset_allocator.specs.Requests.{CanGrant, blocks_needed, units_needed};
 ghost use Rattle.offset_allocator.specs.Resizing.{CanGrow, CanShrink, Grows, Shrinks};
@@ -170,6 +171,33 @@ impl<T: Tables> HeapMut<'_, T> {
         result
     }
 
+    /// As `GuardedOf::free` in this heap.
+    ///
+    /// ```
+    /// let mesh = heaps.allocate(300).unwrap();
+    /// assert!(heaps.heap_mut(0).unwrap().free(mesh.place.ticket(mesh.offset)));
+    /// assert!(!heaps.is_live(mesh.place));
+    /// ```
+    pub fn free(&mut self, ticket: Ticket) -> bool
+        ensures number { self.new.number ≡ self.old.number }
+        ensures same_reference { self.new.heaps.ghost_name ≡ self.old.heaps.ghost_name }
+        ensures change { Alters self.old.number (λ g h. Takes (calls.Call.Free ticket) g h None
+            × (IsTrue result ↔ IsLive ticket g)
+            × (result ≡ false → h ≡ g)
+            × (result ≡ true → Frees ticket.name g.space h.space)
+            × (h.space.accesses ≤ g.space.accesses + 128))
+            self.old.heaps.now self.new.heaps.now }
+        ensures accesses { TakesFewAccesses self.old.heaps.now self.new.heaps.now }
+    {
+        let heaps = &mut *self.heaps;
+        let result = heaps
+            .slots
+            .heap_mut(self.number, &mut heaps.accesses)
+            .free(ticket);
+        heaps.index.note(&heaps.slots, self.number, heaps.limits, &mut heaps.accesses);
+        result
+    }
+
     /// As `GuardedOf::allocate_tight` in this heap.
     ///
     /// ```
@@ -242,33 +270,6 @@ impl<T: Tables> HeapMut<'_, T> {
             .slots
             .heap_mut(self.number, &mut heaps.accesses)
             .allocate_at(offset, size);
-        heaps.index.note(&heaps.slots, self.number, heaps.limits, &mut heaps.accesses);
-        result
-    }
-
-    /// As `GuardedOf::free` in this heap.
-    ///
-    /// ```
-    /// let mesh = heaps.allocate(300).unwrap();
-    /// assert!(heaps.heap_mut(0).unwrap().free(mesh.place.ticket(mesh.offset)));
-    /// assert!(!heaps.is_live(mesh.place));
-    /// ```
-    pub fn free(&mut self, ticket: Ticket) -> bool
-        ensures number { self.new.number ≡ self.old.number }
-        ensures same_reference { self.new.heaps.ghost_name ≡ self.old.heaps.ghost_name }
-        ensures change { Alters self.old.number (λ g h. Takes (calls.Call.Free ticket) g h None
-            × (IsTrue result ↔ IsLive ticket g)
-            × (result ≡ false → h ≡ g)
-            × (result ≡ true → Frees ticket.name g.space h.space)
-            × (h.space.accesses ≤ g.space.accesses + 128))
-            self.old.heaps.now self.new.heaps.now }
-        ensures accesses { TakesFewAccesses self.old.heaps.now self.new.heaps.now }
-    {
-        let heaps = &mut *self.heaps;
-        let result = heaps
-            .slots
-            .heap_mut(self.number, &mut heaps.accesses)
-            .free(ticket);
         heaps.index.note(&heaps.slots, self.number, heaps.limits, &mut heaps.accesses);
         result
     }
@@ -394,22 +395,21 @@ impl<T: Tables> HeapMut<'_, T> {
         result
     }
 
-    /// As `GuardedOf::extend` in this heap. `extend_heap` of `Heaps` raises its node limit too, where that is needed.
+    /// As `GuardedOf::relocate_unaligned` in this heap: **the second range keeps no alignment**; that of `relocate` keeps all.
     ///
     /// ```
-    /// assert!(heap.extend(24));
-    /// assert_eq!(heap.size(), 1024);
+    /// let hole = heap.allocate(320).unwrap();
+    /// let mesh = heap.allocate(320).unwrap();
+    /// heap.free(hole);
+    /// assert_eq!(heap.relocate_unaligned(mesh).unwrap().offset, 0);
     /// ```
-    pub fn extend(&mut self, more: u32) -> bool
+    pub fn relocate_unaligned(&mut self, ticket: Ticket) -> Option<Ticket>
         ensures number { self.new.number ≡ self.old.number }
         ensures same_reference { self.new.heaps.ghost_name ≡ self.old.heaps.ghost_name }
-        ensures change { Alters self.old.number (λ g h. KeepsAll g h
-            × KeepsSerials g h
-            × (IsTrue result ↔ (1 ≤ more → CanExtend more g.space))
-            × (result ≡ false → IsSame g h)
-            × (IsTrue result → h.space.size ≡ g.space.size + more)
-            × Extends more g.space h.space result
-            × (h.space.accesses ≤ g.space.accesses + 128))
+        ensures change { Alters self.old.number (λ g h. Takes (calls.Call.Allocate (size_of ticket.name g.space)) g h result
+            × (IsSome result → IsLive ticket g × HasSerialLeft g)
+            × (IsLive ticket g → HasSerialLeft g → Relocates ticket.name g.space h.space (option_map handle_in result))
+            × (h.space.accesses ≤ g.space.accesses + 67))
             self.old.heaps.now self.new.heaps.now }
         ensures accesses { TakesFewAccesses self.old.heaps.now self.new.heaps.now }
     {
@@ -417,55 +417,9 @@ impl<T: Tables> HeapMut<'_, T> {
         let result = heaps
             .slots
             .heap_mut(self.number, &mut heaps.accesses)
-            .extend(more);
+            .relocate_unaligned(ticket);
         heaps.index.note(&heaps.slots, self.number, heaps.limits, &mut heaps.accesses);
         result
-    }
-
-    /// As `GuardedOf::raise_step` in this heap, by an alignment from 1 on.
-    ///
-    /// ```
-    /// heap.raise_step(256);
-    /// assert_eq!(heap.step(), Some(256));
-    /// ```
-    pub fn raise_step(&mut self, align: u32)
-        requires alignment { 1 ≤ align }
-        ensures number { self.new.number ≡ self.old.number }
-        ensures same_reference { self.new.heaps.ghost_name ≡ self.old.heaps.ghost_name }
-        ensures change { Alters self.old.number (λ g h. Takes (calls.Call.Raise_step align) g h None)
-            self.old.heaps.now self.new.heaps.now }
-        ensures accesses { TakesFewAccesses self.old.heaps.now self.new.heaps.now }
-    {
-        let heaps = &mut *self.heaps;
-        heaps
-            .slots
-            .heap_mut(self.number, &mut heaps.accesses)
-            .raise_step(align);
-        heaps.index.note(&heaps.slots, self.number, heaps.limits, &mut heaps.accesses);
-    }
-
-    /// As `GuardedOf::reset` in this heap.
-    ///
-    /// ```
-    /// let mesh = heaps.allocate(300).unwrap().place;
-    /// heaps.heap_mut(0).unwrap().reset();
-    /// assert!(!heaps.is_live(mesh));
-    /// ```
-    pub fn reset(&mut self)
-        ensures number { self.new.number ≡ self.old.number }
-        ensures same_reference { self.new.heaps.ghost_name ≡ self.old.heaps.ghost_name }
-        ensures change { Alters self.old.number (λ g h. Takes calls.Call.Reset g h None
-            × Resets g.space h.space
-            × (h.space.accesses ≤ g.space.accesses + min (130 * count_used g.space.blocks + 2) 270))
-            self.old.heaps.now self.new.heaps.now }
-        ensures accesses { TakesFewAccesses self.old.heaps.now self.new.heaps.now }
-    {
-        let heaps = &mut *self.heaps;
-        heaps
-            .slots
-            .heap_mut(self.number, &mut heaps.accesses)
-            .reset();
-        heaps.index.note(&heaps.slots, self.number, heaps.limits, &mut heaps.accesses);
     }
 
     /// As `GuardedOf::compact` in this heap: **each range keeps every alignment that was asked for**.
@@ -644,6 +598,40 @@ impl<T: Tables> HeapMut<'_, T> {
         result
     }
 
+    /// As `GuardedOf::make_room` in this heap: **each range that moves keeps every alignment that was asked for**.
+    ///
+    /// ```
+    /// let hole = heap.allocate(300).unwrap();
+    /// heap.allocate(100).unwrap();
+    /// heap.free(hole);
+    /// heap.make_room(800, &mut |it| assert_eq!((it.from, it.to, it.size), (300, 0, 100)));
+    /// assert!(heap.allocate(800).is_some());
+    /// ```
+    pub fn make_room<F: FnMut(Move<T::Index>)>(
+        &mut self,
+        size: u32,
+        moved: &mut F,
+    ) -> Option<RoomCost>
+        requires callable { F.IsAlwaysCallable moved.old }
+        ensures number { self.new.number ≡ self.old.number }
+        ensures same_reference { self.new.heaps.ghost_name ≡ self.old.heaps.ghost_name }
+        ensures change { Alters self.old.number (λ g h. KeepsSizes g h
+            × (h ≡ record g { space = h.space })
+            × KeepsAlignments g h
+            × (1 ≤ g.step → IsLeastCostBy g.step (value (up (units_needed size 1)))
+            (names_short (blocks_needed 1) g.space) g.space.blocks result)
+            × IfSome result (λ c. CanGrant (blocks_needed 1) (units_needed size 1) h.space)
+            × (g.step ≡ 0 → (result ≡ None) × (h ≡ g) × (moved.new ≡ moved.old))
+            × (1 ≤ g.step → MakesRoomBy (IsCalledWith T.Index.NonMax.number (λ f range g. F.step f range tt g))
+            g.step (value (up (units_needed size 1))) (names_short (blocks_needed 1) g.space)
+            g.space moved.old result h.space moved.new)
+            × (h.space.accesses ≤ g.space.accesses + 7 * length g.space.blocks + 36 * ranges_of result + 60))
+            self.old.heaps.now self.new.heaps.now }
+        ensures accesses { TakesFewAccesses self.old.heaps.now self.new.heaps.now }
+    {
+        self.make_room_aligned(size, 1, moved)
+    }
+
     /// As `GuardedOf::make_room_aligned` in this heap, for an alignment from 1 on: **each range that moves keeps every alignment
     /// that was asked for**.
     ///
@@ -765,5 +753,79 @@ impl<T: Tables> HeapMut<'_, T> {
             .make_room_unaligned(size, moved);
         heaps.index.note(&heaps.slots, self.number, heaps.limits, &mut heaps.accesses);
         result
+    }
+
+    /// As `GuardedOf::extend` in this heap. `extend_heap` of `Heaps` raises its node limit too, where that is needed.
+    ///
+    /// ```
+    /// assert!(heap.extend(24));
+    /// assert_eq!(heap.size(), 1024);
+    /// ```
+    pub fn extend(&mut self, more: u32) -> bool
+        ensures number { self.new.number ≡ self.old.number }
+        ensures same_reference { self.new.heaps.ghost_name ≡ self.old.heaps.ghost_name }
+        ensures change { Alters self.old.number (λ g h. KeepsAll g h
+            × KeepsSerials g h
+            × (IsTrue result ↔ (1 ≤ more → CanExtend more g.space))
+            × (result ≡ false → IsSame g h)
+            × (IsTrue result → h.space.size ≡ g.space.size + more)
+            × Extends more g.space h.space result
+            × (h.space.accesses ≤ g.space.accesses + 128))
+            self.old.heaps.now self.new.heaps.now }
+        ensures accesses { TakesFewAccesses self.old.heaps.now self.new.heaps.now }
+    {
+        let heaps = &mut *self.heaps;
+        let result = heaps
+            .slots
+            .heap_mut(self.number, &mut heaps.accesses)
+            .extend(more);
+        heaps.index.note(&heaps.slots, self.number, heaps.limits, &mut heaps.accesses);
+        result
+    }
+
+    /// As `GuardedOf::raise_step` in this heap, by an alignment from 1 on.
+    ///
+    /// ```
+    /// heap.raise_step(256);
+    /// assert_eq!(heap.step(), Some(256));
+    /// ```
+    pub fn raise_step(&mut self, align: u32)
+        requires alignment { 1 ≤ align }
+        ensures number { self.new.number ≡ self.old.number }
+        ensures same_reference { self.new.heaps.ghost_name ≡ self.old.heaps.ghost_name }
+        ensures change { Alters self.old.number (λ g h. Takes (calls.Call.Raise_step align) g h None)
+            self.old.heaps.now self.new.heaps.now }
+        ensures accesses { TakesFewAccesses self.old.heaps.now self.new.heaps.now }
+    {
+        let heaps = &mut *self.heaps;
+        heaps
+            .slots
+            .heap_mut(self.number, &mut heaps.accesses)
+            .raise_step(align);
+        heaps.index.note(&heaps.slots, self.number, heaps.limits, &mut heaps.accesses);
+    }
+
+    /// As `GuardedOf::reset` in this heap.
+    ///
+    /// ```
+    /// let mesh = heaps.allocate(300).unwrap().place;
+    /// heaps.heap_mut(0).unwrap().reset();
+    /// assert!(!heaps.is_live(mesh));
+    /// ```
+    pub fn reset(&mut self)
+        ensures number { self.new.number ≡ self.old.number }
+        ensures same_reference { self.new.heaps.ghost_name ≡ self.old.heaps.ghost_name }
+        ensures change { Alters self.old.number (λ g h. Takes calls.Call.Reset g h None
+            × Resets g.space h.space
+            × (h.space.accesses ≤ g.space.accesses + min (130 * count_used g.space.blocks + 2) 270))
+            self.old.heaps.now self.new.heaps.now }
+        ensures accesses { TakesFewAccesses self.old.heaps.now self.new.heaps.now }
+    {
+        let heaps = &mut *self.heaps;
+        heaps
+            .slots
+            .heap_mut(self.number, &mut heaps.accesses)
+            .reset();
+        heaps.index.note(&heaps.slots, self.number, heaps.limits, &mut heaps.accesses);
     }
 }

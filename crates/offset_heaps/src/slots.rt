@@ -451,8 +451,11 @@ impl<T: Tables> Slots<T> {
         requires there { IsSome (slot number self.old) }
         ensures* lends { sem 𝓛 (LendsHeap T.row T.Index.row T.Index.NonMax.row T.Tables
             (record { MAX = T.Index.MAX; number = T.Index.number }) T.Index.Default
-            (record { number = T.Index.NonMax.number; of_number = T.Index.NonMax.of_number;
-            limit = T.Index.NonMax.limit }) T.Index.NonMax.PartialEq T.Index.NonMax.Default
+            (record {
+              number = T.Index.NonMax.number;
+              of_number = T.Index.NonMax.of_number;
+              limit = T.Index.NonMax.limit;
+            }) T.Index.NonMax.PartialEq T.Index.NonMax.Default
             T.Index.NonMax.Debug T.Index.NonMax.Display self.entry number result) }
         ensures heap { slot number self.old ≡ Some result.now }
         ensures accesses { count.new ≡ count.old + 1 }

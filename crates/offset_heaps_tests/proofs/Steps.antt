@@ -23,7 +23,7 @@ use Rattle.offset_heaps.specs.Extending.{ExtendsHeap, ExtendsIf}
 use Rattle.offset_heaps.specs.Histories.{IsStep, KeepsIn}
 use Rattle.offset_heaps.specs.Places.{Place, ticket_of}
 use Rattle.offset_heaps.specs.Tight.{GrantsTight}
-use Rattle.offset_heaps.proofs.{Changes.undone_twin, Longer.range_longer, Longer.realm_longer, Twins.range_twin}
+use Rattle.offset_heaps.proofs.{Changes.undone_twin, InPlace.units, Longer.range_longer, Longer.realm_longer, Twins.range_twin}
 
 -- what stays where it is
 stays_aligned : (g h : Guard) → (g.step ∣ h.step) → ((t : Ticket) (r q : Range) → guarded.range_of t g ≡ Some r → guarded.range_of t h ≡ Some q → q.offset ≡ r.offset) → guarded.KeepsAlignments g h
@@ -38,8 +38,8 @@ sized (Some r) (Some s) e l = refl
 slid : (g h : Guard) → h ≡ record g { space = h.space } → guarded.KeepsSizes g h → guarded.KeepsAlignments g h → KeepsIn g h
 slid g h serials sizes aligned = record {
   realm = ap (λ (z : Guard). z.realm) serials;
-  given = ap (λ (z : Guard). z.given) serials;
-  live = λ t live. sized (guarded.range_of t h) (guarded.range_of t g) (sizes t) live;
+  given = omega (arith, ap (λ (z : Guard). z.given) serials);
+  live = λ t early live. sized (guarded.range_of t h) (guarded.range_of t g) (sizes t) live;
   aligned = aligned;
 }
 
@@ -51,41 +51,19 @@ one_range : (o q : Option Range) (r s : Range) → q ≡ o → o ≡ Some r → 
 one_range o q r s e f k = let same : Some s ≡ Some r = sym k ∙ e ∙ f in ap (λ (z : Range). z.offset) (let one : s ≡ r = cc in one)
 
 resized : (how : NewSize) (t : Ticket) (d : Bool) (g h : Guard) → Resizes how t d g h → KeepsIn g h
-resized how t d g h r = record {
+resized how t true g h r = units t (units_wanted how) g h r.others r.kept r.serials (r.range refl)
+resized how t false g h r = record {
   realm = r.serials.realm;
-  given = r.serials.given;
-  live = λ u live. sym (r.kept u) ∙ live;
-  aligned = stayed g h r.serials.step (λ u p q e f. go d r u p q e f);
+  given = omega (arith, r.serials.given);
+  live = λ u early live. sym (r.kept u) ∙ live;
+  aligned = stayed g h r.serials.step (λ u p q e f. one_range (guarded.range_of u g) (guarded.range_of u h) p q (range_twin u g h (undone_twin how t g h r)) e f);
 }
-  where
-    alike_range : (u t : Ticket) (z : Guard) → guarded.AreAlike u t → guarded.range_of u z ≡ guarded.range_of t z
-    alike_range u t z a = ap₂ (λ (x : ℕ) (b : Bool). if b then named.range_of x z.space else None) a.0
-        (ap₂ (λ (n : ℕ) (b : Bool). nat_eq n z.realm && b) a.2 (ap₂ nat_eq a.1 (ap (λ (x : ℕ). guarded.serial_of x z) a.0)))
-
-    go : (d : Bool) → Resizes how t d g h → (u : Ticket) (p q : Range) → guarded.range_of u g ≡ Some p → guarded.range_of u h ≡ Some q → q.offset ≡ p.offset
-    go false r u p q e f = one_range (guarded.range_of u g) (guarded.range_of u h) p q (range_twin u g h (undone_twin how t g h r)) e f
-    go true r u p q e f = elim (cases_eq u.name t.name) [
-      | inr n ↦ one_range (guarded.range_of u g) (guarded.range_of u h) p q (r.others u (λ a. n a.0)) e f
-      | inl name ↦
-          let fit = live_fits u g (subst IsSome (sym e) refl) in
-          elim (cases_eq u.serial t.serial) [
-            | inr n ↦ one_range (guarded.range_of u g) (guarded.range_of u h) p q (r.others u (λ a. n a.1)) e f
-            | inl serial ↦ elim (cases_eq u.realm t.realm) [
-              | inr n ↦ one_range (guarded.range_of u g) (guarded.range_of u h) p q (r.others u (λ a. n a.2)) e f
-              | inl realm ↦
-                  let was : guarded.range_of t g ≡ Some p = sym (alike_range u t g (name, serial, realm)) ∙ e in
-                  let now : guarded.range_of u h ≡ Some (record p { size = units_wanted how }) = alike_range u t h (name, serial, realm) ∙ r.range refl p was in
-                  let same : Some q ≡ Some (record p { size = units_wanted how }) = sym f ∙ now in
-                  ap (λ (z : Range). z.offset) (let one : q ≡ record p { size = units_wanted how } = cc in one)
-            ]
-          ]
-    ]
 
 extended : (limits : Limits) (k more : ℕ) (d : Bool) (g h : Guard) → ExtendsIf limits k more d g h → KeepsIn g h
 extended limits k more d g h e = record {
   realm = realm_longer limits k more d g h e;
-  given = (serials d e).given;
-  live = λ u live. subst IsSome (range_longer limits k more d g h e u) live;
+  given = omega (arith, (serials d e).given);
+  live = λ u early live. subst IsSome (range_longer limits k more d g h e u) live;
   aligned = stayed g h (serials d e).step (λ u p q f s. one_range (guarded.range_of u g) (guarded.range_of u h) p q (range_longer limits k more d g h e u) f s);
 }
   where

@@ -3,4 +3,5 @@
 #![tactic(auto)]
 
 mod histories;
+mod one_heap;
 mod taking;

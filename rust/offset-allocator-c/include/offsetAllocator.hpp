@@ -273,7 +273,7 @@ public:
 
 private:
     friend class Allocator;
-    friend class GuardedAllocator;
+    template <class Of> friend class TicketQuestions;
     explicit Blocks(const oa_walk &walk) : start(walk) {}
     oa_walk start;
 };
@@ -520,9 +520,97 @@ struct Ticket {
 inline bool operator==(Ticket a, Ticket b) { return a.serial == b.serial && a.name == b.name && a.realm == b.realm; }
 inline bool operator!=(Ticket a, Ticket b) { return !(a == b); }
 
+namespace detail {
+inline Ticket of(const oag_ticket &from) {
+    Ticket ticket;
+    ticket.serial = from.serial;
+    ticket.name = from.name;
+    ticket.realm = from.realm;
+    return ticket;
+}
+inline oag_ticket in(Ticket ticket) { return {ticket.serial, ticket.name, ticket.realm}; }
+} // namespace detail
+
+// What is asked of one space with tickets: of a GuardedAllocator, and of the heap of a number. As of Allocator, by tickets.
+template <class Of>
+class TicketQuestions {
+public:
+    bool isFreeAt(uint32 offset, uint32 size) const { return oag_is_free_at(asked(), offset, size); }
+    Ticket liveAt(uint32 offset) const { return detail::of(oag_live_at(asked(), offset)); }
+    Ticket inTheWay(uint32 offset, uint32 size) const { return detail::of(oag_in_the_way(asked(), offset, size)); }
+    bool isLive(Ticket ticket) const { return oag_is_live(asked(), detail::in(ticket)); }
+    uint32 sizeOf(Ticket ticket) const { return oag_size_of(asked(), detail::in(ticket)); }
+    uint32 offsetOf(Ticket ticket) const { return oag_offset_of(asked(), detail::in(ticket)); }
+    Ticket firstLive() const { return detail::of(oag_first_live(asked())); }
+    Ticket lastLive() const { return detail::of(oag_last_live(asked())); }
+    Ticket liveBefore(Ticket ticket) const { return detail::of(oag_live_before(asked(), detail::in(ticket))); }
+    Ticket liveAfter(Ticket ticket) const { return detail::of(oag_live_after(asked(), detail::in(ticket))); }
+    template <class F> void eachLive(F &&seen) const {
+        for (Ticket at = firstLive(); at;) {
+            const Ticket next = liveAfter(at);
+            if (!seen(at)) return;
+            at = next;
+        }
+    }
+    template <class F> void eachLiveBack(F &&seen) const {
+        for (Ticket at = lastLive(); at;) {
+            const Ticket next = liveBefore(at);
+            if (!seen(at)) return;
+            at = next;
+        }
+    }
+
+    // The ticket of the allocation of a block or of a move; it converts to false where that is not live.
+    Ticket ticketOf(Allocation allocation) const { return detail::of(oag_ticket_of(asked(), detail::in(allocation))); }
+    template <class F> bool eachBlock(F &&seen) const { return detail::each(oag_blocks_new(asked()), seen); }
+    Blocks blocks() const {
+        oa_walk walk;
+        oag_walk_start(asked(), &walk);
+        return Blocks(walk);
+    }
+    std::string json() const { return detail::of(oag_json(asked())); }
+    std::string vmaJson() const { return detail::of(oag_vma_json(asked())); }
+    uint32 size() const { return oag_size(asked()); }
+    uint32 maxAllocs() const { return oag_max_allocs(asked()); }
+    uint32 blockCount() const { return oag_block_count(asked()); }
+    bool isFull() const { return oag_is_full(asked()); }
+    bool isEmpty() const { return oag_is_empty(asked()); }
+    uint32 freeUnits() const { return oag_free_units(asked()); }
+    uint32 liveUnits() const { return oag_live_units(asked()); }
+    Statistics statistics() const { return detail::of(oag_statistics(asked())); }
+    StorageReport storageReport() const { return detail::of(oag_storage_report(asked())); }
+    StorageReportFull storageReportFull() const { return detail::of(oag_storage_report_full(asked())); }
+    Beginning wouldBegin(uint32 size, uint32 align) const { return detail::of(oag_would_begin(asked(), size, align)); }
+    Refusal refusal(uint32 size) const { return Refusal(oag_refusal(asked(), size)); }
+    Refusal refusalAligned(uint32 size, uint32 align) const { return Refusal(oag_refusal_aligned(asked(), size, align)); }
+    Refusal refusalTight(uint32 size) const { return Refusal(oag_refusal_tight(asked(), size)); }
+    Refusal refusalTightAligned(uint32 size, uint32 align) const {
+        return Refusal(oag_refusal_tight_aligned(asked(), size, align));
+    }
+    RoomCost roomCost(uint32 size) const { return detail::of(oag_room_cost(asked(), size)); }
+    RoomCost roomCostAligned(uint32 size, uint32 align) const {
+        return detail::of(oag_room_cost_aligned(asked(), size, align));
+    }
+    RoomCost roomCostBy(uint32 size, uint32 align, uint32 step) const {
+        return detail::of(oag_room_cost_by(asked(), size, align, step));
+    }
+    RoomCost roomCostUnaligned(uint32 size) const { return detail::of(oag_room_cost_unaligned(asked(), size)); }
+    CompactCost compactCost() const { return detail::of(oag_compact_cost(asked())); }
+    CompactCost compactCostBy(uint32 step) const { return detail::of(oag_compact_cost_by(asked(), step)); }
+    bool isSpent() const { return oag_is_spent(asked()); }
+    uint32 realm() const { return oag_realm(asked()); }
+
+    // By multiples of it ranges move and keep the alignments that were asked for; 0: there is none, and no call that goes by it
+    // moves a range.
+    uint32 step() const { return oag_step(asked()); }
+
+private:
+    const oag_allocator *asked() const { return static_cast<const Of *>(this)->asked(); }
+};
+
 // An allocator whose tickets are refused once stale: a ticket is live exactly until its grant is freed or reset. Every call takes
 // any ticket, and one that is not live changes nothing. It refuses the tickets of an allocator with another realm.
-class GuardedAllocator {
+class GuardedAllocator : public TicketQuestions<GuardedAllocator> {
 public:
     // With a realm of its own, which no other made so has: the next number of one counter, as oag_new has it. Where memory is
     // out, or the limit is not 2 to 4294967293, it is empty: every request is refused.
@@ -582,13 +670,7 @@ public:
 
     // As of Allocator; where there is none, the ticket converts to false.
     Ticket allocateAt(uint32 offset, uint32 size) { return of(oag_allocate_at(space, offset, size)); }
-    bool isFreeAt(uint32 offset, uint32 size) const { return oag_is_free_at(space, offset, size); }
-    Ticket liveAt(uint32 offset) const { return of(oag_live_at(space, offset)); }
-    Ticket inTheWay(uint32 offset, uint32 size) const { return of(oag_in_the_way(space, offset, size)); }
 
-    bool isLive(Ticket ticket) const { return oag_is_live(space, in(ticket)); }
-    uint32 sizeOf(Ticket ticket) const { return oag_size_of(space, in(ticket)); }
-    uint32 offsetOf(Ticket ticket) const { return oag_offset_of(space, in(ticket)); }
     bool shrink(Ticket ticket, uint32 size) { return oag_shrink(space, in(ticket), size); }
     bool growInPlace(Ticket ticket, uint32 size) { return oag_grow_in_place(space, in(ticket), size); }
     bool extend(uint32 more) { return oag_extend(space, more); }
@@ -599,27 +681,6 @@ public:
     Ticket relocate(Ticket ticket) { return of(oag_relocate(space, in(ticket))); }
     Ticket relocateAligned(Ticket ticket, uint32 align) { return of(oag_relocate_aligned(space, in(ticket), align)); }
     Ticket relocateUnaligned(Ticket ticket) { return of(oag_relocate_unaligned(space, in(ticket))); }
-    Ticket firstLive() const { return of(oag_first_live(space)); }
-    Ticket lastLive() const { return of(oag_last_live(space)); }
-    Ticket liveBefore(Ticket ticket) const { return of(oag_live_before(space, in(ticket))); }
-    Ticket liveAfter(Ticket ticket) const { return of(oag_live_after(space, in(ticket))); }
-    template <class F> void eachLive(F &&seen) const {
-        for (Ticket at = firstLive(); at;) {
-            const Ticket next = liveAfter(at);
-            if (!seen(at)) return;
-            at = next;
-        }
-    }
-    template <class F> void eachLiveBack(F &&seen) const {
-        for (Ticket at = lastLive(); at;) {
-            const Ticket next = liveBefore(at);
-            if (!seen(at)) return;
-            at = next;
-        }
-    }
-
-    // The ticket of the allocation of a block or of a move; it converts to false where that is not live.
-    Ticket ticketOf(Allocation allocation) const { return of(oag_ticket_of(space, detail::in(allocation))); }
 
     // Ranges that move keep every alignment that was asked for: they go by step(). Where there is none, compact returns
     // false, compactWithin is not done, makeRoom and makeRoomAligned are not possible, and nothing moves. moved is as of
@@ -681,63 +742,18 @@ public:
         each.finish();
         return cost;
     }
-    template <class F> bool eachBlock(F &&seen) const { return detail::each(oag_blocks_new(space), seen); }
-    Blocks blocks() const {
-        oa_walk walk;
-        oag_walk_start(space, &walk);
-        return Blocks(walk);
-    }
-    std::string json() const { return detail::of(oag_json(space)); }
-    std::string vmaJson() const { return detail::of(oag_vma_json(space)); }
-    uint32 size() const { return oag_size(space); }
-    uint32 maxAllocs() const { return oag_max_allocs(space); }
-    uint32 blockCount() const { return oag_block_count(space); }
-    bool isFull() const { return oag_is_full(space); }
-    bool isEmpty() const { return oag_is_empty(space); }
-    uint32 freeUnits() const { return oag_free_units(space); }
-    uint32 liveUnits() const { return oag_live_units(space); }
-    Statistics statistics() const { return detail::of(oag_statistics(space)); }
-    StorageReport storageReport() const { return detail::of(oag_storage_report(space)); }
-    StorageReportFull storageReportFull() const { return detail::of(oag_storage_report_full(space)); }
-    Beginning wouldBegin(uint32 size, uint32 align) const { return detail::of(oag_would_begin(space, size, align)); }
-    Refusal refusal(uint32 size) const { return Refusal(oag_refusal(space, size)); }
-    Refusal refusalAligned(uint32 size, uint32 align) const { return Refusal(oag_refusal_aligned(space, size, align)); }
-    Refusal refusalTight(uint32 size) const { return Refusal(oag_refusal_tight(space, size)); }
-    Refusal refusalTightAligned(uint32 size, uint32 align) const {
-        return Refusal(oag_refusal_tight_aligned(space, size, align));
-    }
-    RoomCost roomCost(uint32 size) const { return detail::of(oag_room_cost(space, size)); }
-    RoomCost roomCostAligned(uint32 size, uint32 align) const {
-        return detail::of(oag_room_cost_aligned(space, size, align));
-    }
-    RoomCost roomCostBy(uint32 size, uint32 align, uint32 step) const {
-        return detail::of(oag_room_cost_by(space, size, align, step));
-    }
-    RoomCost roomCostUnaligned(uint32 size) const { return detail::of(oag_room_cost_unaligned(space, size)); }
-    CompactCost compactCost() const { return detail::of(oag_compact_cost(space)); }
-    CompactCost compactCostBy(uint32 step) const { return detail::of(oag_compact_cost_by(space, step)); }
 
-    bool isSpent() const { return oag_is_spent(space); }
-    uint32 realm() const { return oag_realm(space); }
-    // By multiples of it ranges move and keep the alignments that were asked for; 0: there is none, and no call that goes by it
-    // moves a range.
-    uint32 step() const { return oag_step(space); }
     bool raiseStep(uint32 align) { return oag_raise_step(space, align); }
 
 private:
     template <class V> friend class Beside;
+    friend class TicketQuestions<GuardedAllocator>;
     explicit GuardedAllocator(oag_allocator *made) noexcept : space(made) {}
+    const oag_allocator *asked() const { return space; }
     oag_allocator *space;
 
-    static Ticket of(oag_ticket from) {
-        Ticket ticket;
-        ticket.serial = from.serial;
-        ticket.name = from.name;
-        ticket.realm = from.realm;
-        return ticket;
-    }
-
-    static oag_ticket in(Ticket ticket) { return {ticket.serial, ticket.name, ticket.realm}; }
+    static Ticket of(oag_ticket from) { return detail::of(from); }
+    static oag_ticket in(Ticket ticket) { return detail::in(ticket); }
 };
 
 inline void swap(GuardedAllocator &a, GuardedAllocator &b) noexcept { a.swap(b); }

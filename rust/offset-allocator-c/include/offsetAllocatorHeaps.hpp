@@ -62,6 +62,100 @@ struct HeapTotals {
     uint64_t freeUnits;
 };
 
+// The heap of a number, for every call of one space: each does in this heap what it does in a GuardedAllocator, and no other
+// heap changes. Where the number has no heap it converts to false, and every call is refused. It must not be used once the
+// heaps are dropped.
+class Heap : public TicketQuestions<Heap> {
+public:
+    explicit operator bool() const noexcept { return asked() != nullptr; }
+    uint32 number() const { return index; }
+
+    // The place of a ticket here, for the calls of Heaps.
+    Place place(Ticket ticket) const {
+        Place at;
+        at.ticket = ticket;
+        at.heap = index;
+        at.realm = oah_realm(heaps);
+        return at;
+    }
+
+    void reset() { oah_heap_reset(heaps, index); }
+    Ticket allocate(uint32 size) { return detail::of(oah_heap_allocate(heaps, index, size)); }
+    Ticket allocateAligned(uint32 size, uint32 align) { return detail::of(oah_heap_allocate_aligned(heaps, index, size, align)); }
+    Ticket allocateTight(uint32 size) { return detail::of(oah_heap_allocate_tight(heaps, index, size)); }
+    Ticket allocateTightAligned(uint32 size, uint32 align) { return detail::of(oah_heap_allocate_tight_aligned(heaps, index, size, align)); }
+    bool free(Ticket ticket) { return oah_heap_free(heaps, index, detail::in(ticket)); }
+    Ticket allocateAt(uint32 offset, uint32 size) { return detail::of(oah_heap_allocate_at(heaps, index, offset, size)); }
+    bool shrink(Ticket ticket, uint32 size) { return oah_heap_shrink(heaps, index, detail::in(ticket), size); }
+    bool growInPlace(Ticket ticket, uint32 size) { return oah_heap_grow_in_place(heaps, index, detail::in(ticket), size); }
+    bool extend(uint32 more) { return oah_heap_extend(heaps, index, more); }
+    Ticket relocate(Ticket ticket) { return detail::of(oah_heap_relocate(heaps, index, detail::in(ticket))); }
+    Ticket relocateAligned(Ticket ticket, uint32 align) { return detail::of(oah_heap_relocate_aligned(heaps, index, detail::in(ticket), align)); }
+    Ticket relocateUnaligned(Ticket ticket) { return detail::of(oah_heap_relocate_unaligned(heaps, index, detail::in(ticket))); }
+    template <class F> bool compact(F &&moved) {
+        detail::Calling<F> each(moved);
+        const bool done = oah_heap_compact(heaps, index, detail::Calling<F>::moved, &each);
+        each.finish();
+        return done;
+    }
+    template <class F> Progress compactWithin(uint32 from, uint32 mostUnits, uint32 mostRanges, F &&moved) {
+        detail::Calling<F> each(moved);
+        Progress done = detail::of(oah_heap_compact_within(heaps, index, from, mostUnits, mostRanges, detail::Calling<F>::moved, &each));
+        each.finish();
+        return done;
+    }
+    template <class F> RoomCost makeRoom(uint32 size, F &&moved) {
+        detail::Calling<F> each(moved);
+        RoomCost cost = detail::of(oah_heap_make_room(heaps, index, size, detail::Calling<F>::moved, &each));
+        each.finish();
+        return cost;
+    }
+    template <class F> RoomCost makeRoomAligned(uint32 size, uint32 align, F &&moved) {
+        detail::Calling<F> each(moved);
+        RoomCost cost = detail::of(oah_heap_make_room_aligned(heaps, index, size, align, detail::Calling<F>::moved, &each));
+        each.finish();
+        return cost;
+    }
+    template <class F> bool compactBy(uint32 step, F &&moved) {
+        detail::Calling<F> each(moved);
+        const bool done = oah_heap_compact_by(heaps, index, step, detail::Calling<F>::moved, &each);
+        each.finish();
+        return done;
+    }
+    template <class F> Progress compactWithinBy(uint32 step, uint32 from, uint32 mostUnits, uint32 mostRanges, F &&moved) {
+        detail::Calling<F> each(moved);
+        Progress done = detail::of(oah_heap_compact_within_by(heaps, index, step, from, mostUnits, mostRanges, detail::Calling<F>::moved, &each));
+        each.finish();
+        return done;
+    }
+    template <class F> RoomCost makeRoomBy(uint32 size, uint32 align, uint32 step, F &&moved) {
+        detail::Calling<F> each(moved);
+        RoomCost cost = detail::of(oah_heap_make_room_by(heaps, index, size, align, step, detail::Calling<F>::moved, &each));
+        each.finish();
+        return cost;
+    }
+    template <class F> void compactUnaligned(F &&moved) {
+        detail::Calling<F> each(moved);
+        oah_heap_compact_unaligned(heaps, index, detail::Calling<F>::moved, &each);
+        each.finish();
+    }
+    template <class F> RoomCost makeRoomUnaligned(uint32 size, F &&moved) {
+        detail::Calling<F> each(moved);
+        RoomCost cost = detail::of(oah_heap_make_room_unaligned(heaps, index, size, detail::Calling<F>::moved, &each));
+        each.finish();
+        return cost;
+    }
+    bool raiseStep(uint32 align) { return oah_heap_raise_step(heaps, index, align); }
+
+private:
+    friend class Heaps;
+    friend class TicketQuestions<Heap>;
+    Heap(oah_heaps *of, uint32 number) noexcept : heaps(of), index(number) {}
+    const oag_allocator *asked() const { return oah_heap(heaps, index); }
+    oah_heaps *heaps;
+    uint32 index;
+};
+
 class Heaps {
 public:
     // With a realm of their own, which no others made so have. Where memory is out, or a limit is out of range, it has none:
@@ -199,6 +293,12 @@ public:
     }
 
     bool dropHeap(uint32 number) { return oah_drop_heap(heaps, number); }
+
+    // The realm of the places.
+    uint32 realm() const { return oah_realm(heaps); }
+
+    // The heap of a number, to be asked and changed.
+    Heap at(uint32 number) { return Heap(heaps, number); }
 
     bool has(uint32 number) const { return oah_has(heaps, number); }
     StorageReport storageReport(uint32 number) const { return detail::of(oah_storage_report(heaps, number)); }

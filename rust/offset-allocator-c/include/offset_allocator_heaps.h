@@ -265,6 +265,47 @@ uint32_t oah_drop_empty(oah_heaps *heaps, uint32_t keep);
 /* Drops the heap of a number, if it is empty. True if it did: then drop its buffer. */
 bool oah_drop_heap(oah_heaps *heaps, uint32_t number);
 
+/* The realm of the places, or 0 where the heaps are null. */
+uint32_t oah_realm(const oah_heaps *heaps);
+
+/* The heap of a number, for every question of offset_allocator.h that takes a const oag_allocator; null where the number has
+ * no heap. It is valid until the next call that changes the heaps. */
+const oag_allocator *oah_heap(const oah_heaps *heaps, uint32_t number);
+
+/* The calls of one space on the heap of a number: each does in this heap what the oag_ call of its name does, under the node
+ * limit that the heap has now, and no other heap changes. Where the number has no heap, or the heaps are null, it is refused as
+ * by a null allocator. A ticket here and a place are of one grant: {ticket, number, oah_realm(heaps)} is the place. */
+oag_ticket oah_heap_allocate(oah_heaps *heaps, uint32_t number, uint32_t size);
+oag_ticket oah_heap_allocate_aligned(oah_heaps *heaps, uint32_t number, uint32_t size, uint32_t align);
+oag_ticket oah_heap_allocate_tight(oah_heaps *heaps, uint32_t number, uint32_t size);
+oag_ticket oah_heap_allocate_tight_aligned(oah_heaps *heaps, uint32_t number, uint32_t size, uint32_t align);
+oag_ticket oah_heap_allocate_at(oah_heaps *heaps, uint32_t number, uint32_t offset, uint32_t size);
+bool oah_heap_free(oah_heaps *heaps, uint32_t number, oag_ticket ticket);
+bool oah_heap_shrink(oah_heaps *heaps, uint32_t number, oag_ticket ticket, uint32_t size);
+bool oah_heap_grow_in_place(oah_heaps *heaps, uint32_t number, oag_ticket ticket, uint32_t size);
+bool oah_heap_extend(oah_heaps *heaps, uint32_t number, uint32_t more);
+oag_ticket oah_heap_relocate(oah_heaps *heaps, uint32_t number, oag_ticket ticket);
+oag_ticket oah_heap_relocate_aligned(oah_heaps *heaps, uint32_t number, oag_ticket ticket, uint32_t align);
+oag_ticket oah_heap_relocate_unaligned(oah_heaps *heaps, uint32_t number, oag_ticket ticket);
+bool oah_heap_compact(oah_heaps *heaps, uint32_t number, void (*moved)(void *user, oa_move range), void *user);
+bool oah_heap_compact_by(oah_heaps *heaps, uint32_t number, uint32_t step, void (*moved)(void *user, oa_move range),
+    void *user);
+void oah_heap_compact_unaligned(oah_heaps *heaps, uint32_t number, void (*moved)(void *user, oa_move range), void *user);
+oa_progress oah_heap_compact_within(oah_heaps *heaps, uint32_t number, uint32_t from, uint32_t most_units,
+    uint32_t most_ranges, void (*moved)(void *user, oa_move range), void *user);
+oa_progress oah_heap_compact_within_by(oah_heaps *heaps, uint32_t number, uint32_t step, uint32_t from,
+    uint32_t most_units, uint32_t most_ranges, void (*moved)(void *user, oa_move range), void *user);
+oa_room oah_heap_make_room(oah_heaps *heaps, uint32_t number, uint32_t size, void (*moved)(void *user, oa_move range),
+    void *user);
+oa_room oah_heap_make_room_aligned(oah_heaps *heaps, uint32_t number, uint32_t size, uint32_t align,
+    void (*moved)(void *user, oa_move range), void *user);
+oa_room oah_heap_make_room_by(oah_heaps *heaps, uint32_t number, uint32_t size, uint32_t align, uint32_t step,
+    void (*moved)(void *user, oa_move range), void *user);
+oa_room oah_heap_make_room_unaligned(oah_heaps *heaps, uint32_t number, uint32_t size, void (*moved)(void *user,
+    oa_move range), void *user);
+bool oah_heap_raise_step(oah_heaps *heaps, uint32_t number, uint32_t align);
+void oah_heap_reset(oah_heaps *heaps, uint32_t number);
+
 /* Whether a number has a heap. */
 bool oah_has(const oah_heaps *heaps, uint32_t number);
 

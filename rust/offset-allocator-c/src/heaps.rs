@@ -7,8 +7,8 @@ use offset_allocator_heaps::{json_of, Global, Granted, Heaps, Limits, Place, Rea
 use offset_allocator_proved::Move;
 
 use crate::{
-    boxed, calls, guard, guarded_fault, room, seen, short, text, ticket, totals, Callback, Found, Guard, Moved, Report, Room, State, Text, Totals, NO_REPORT,
-    NO_SPACE, NO_TICKET,
+    boxed, calls, guard, guarded_fault, room, seen, short, text, ticket, totals, Callback, Found, Guard, GuardedSpace, Moved, Report, Room, State, Text, Totals,
+    NO_REPORT, NO_SPACE, NO_TICKET,
 };
 
 /// Many heaps, as C holds them.
@@ -327,6 +327,12 @@ exports! {
     } else NO_SPACE;
 
     fn oah_drop_heap([heaps: &mut ManyHeaps], number: u32) -> bool { heaps.drop_heap(number) } else false;
+
+    fn oah_heap<'a>([heaps: &'a ManyHeaps], number: u32) -> Option<&'a GuardedSpace> {
+        heaps.heap(number).map(core::array::from_ref)
+    } else None;
+
+    fn oah_realm([heaps: &ManyHeaps],) -> u32 { heaps.realm() } else 0;
 
     fn oah_has([heaps: &ManyHeaps], number: u32) -> bool { heaps.heap(number).is_some() } else false;
 

@@ -796,26 +796,6 @@ exports! {
         guarded_read(state, most_allocs)
     } else GuardedRead { space: None, found: Found::Length, at: 0 };
 
-    fn oag_reset([space: &mut GuardedSpace],) -> () { space.reset() } else ();
-
-    fn oag_allocate([space: &mut GuardedSpace], size: u32) -> Guard { guard(space.allocate(size)) } else NO_TICKET;
-
-    fn oag_allocate_aligned([space: &mut GuardedSpace], size: u32, align: u32) -> Guard {
-        guard(if align != 0 { space.allocate_aligned(size, align) } else { None })
-    } else NO_TICKET;
-
-    fn oag_allocate_tight([space: &mut GuardedSpace], size: u32) -> Guard {
-        guard(space.allocate_tight(size))
-    } else NO_TICKET;
-
-    fn oag_allocate_tight_aligned([space: &mut GuardedSpace], size: u32, align: u32) -> Guard {
-        guard(if align != 0 { space.allocate_tight_aligned(size, align) } else { None })
-    } else NO_TICKET;
-
-    fn oag_allocate_at([space: &mut GuardedSpace], offset: u32, size: u32) -> Guard {
-        guard(space.allocate_at(offset, size))
-    } else NO_TICKET;
-
     fn oag_is_free_at([space: &GuardedSpace], offset: u32, size: u32) -> bool {
         space.allocator().is_free_at(offset, size)
     } else false;
@@ -825,8 +805,6 @@ exports! {
     fn oag_in_the_way([space: &GuardedSpace], offset: u32, size: u32) -> Guard {
         guard(space.in_the_way(offset, size))
     } else NO_TICKET;
-
-    fn oag_free([space: &mut GuardedSpace], allocation: Guard) -> bool { space.free(ticket(allocation)) } else false;
 
     fn oag_is_live([space: &GuardedSpace], allocation: Guard) -> bool { space.is_live(ticket(allocation)) } else false;
 
@@ -838,29 +816,7 @@ exports! {
         space.offset_of(ticket(allocation)).unwrap_or(NO_SPACE)
     } else NO_SPACE;
 
-    fn oag_shrink([space: &mut GuardedSpace], allocation: Guard, size: u32) -> bool {
-        space.shrink(ticket(allocation), size).unwrap_or(false)
-    } else false;
-
-    fn oag_grow_in_place([space: &mut GuardedSpace], allocation: Guard, size: u32) -> bool {
-        space.grow_in_place(ticket(allocation), size).unwrap_or(false)
-    } else false;
-
-    fn oag_extend([space: &mut GuardedSpace], more: u32) -> bool { space.extend(more) } else false;
-
     fn oag_retract([space: &mut GuardedSpace], less: u32) -> bool { space.retract(less) } else false;
-
-    fn oag_relocate([space: &mut GuardedSpace], allocation: Guard) -> Guard {
-        guard(space.relocate(ticket(allocation)))
-    } else NO_TICKET;
-
-    fn oag_relocate_unaligned([space: &mut GuardedSpace], allocation: Guard) -> Guard {
-        guard(space.relocate_unaligned(ticket(allocation)))
-    } else NO_TICKET;
-
-    fn oag_relocate_aligned([space: &mut GuardedSpace], allocation: Guard, align: u32) -> Guard {
-        guard(if align != 0 { space.relocate_aligned(ticket(allocation), align) } else { None })
-    } else NO_TICKET;
 
     fn oag_first_live([space: &GuardedSpace],) -> Guard { guard(space.first_live()) } else NO_TICKET;
 
@@ -873,102 +829,6 @@ exports! {
     fn oag_live_after([space: &GuardedSpace], allocation: Guard) -> Guard {
         guard(space.live_after(ticket(allocation)))
     } else NO_TICKET;
-
-    fn oag_compact(
-        [space: &mut GuardedSpace],
-        moved: Option<Callback>,
-        user: Option<NonNull<c_void>>
-    ) -> bool {
-        space.compact(calls(moved, user))
-    } else false;
-
-    fn oag_compact_unaligned(
-        [space: &mut GuardedSpace],
-        moved: Option<Callback>,
-        user: Option<NonNull<c_void>>
-    ) -> () {
-        space.compact_unaligned(calls(moved, user))
-    } else ();
-
-    fn oag_compact_by(
-        [space: &mut GuardedSpace],
-        step: u32,
-        moved: Option<Callback>,
-        user: Option<NonNull<c_void>>
-    ) -> bool {
-        step != 0 && space.compact_by(step, calls(moved, user))
-    } else false;
-
-    fn oag_compact_within(
-        [space: &mut GuardedSpace],
-        from: u32,
-        most_units: u32,
-        most_ranges: u32,
-        moved: Option<Callback>,
-        user: Option<NonNull<c_void>>
-    ) -> Progressed {
-        progressed(space.compact_within(from, most_units, most_ranges, calls(moved, user)))
-    } else Progressed::default();
-
-    fn oag_compact_within_by(
-        [space: &mut GuardedSpace],
-        step: u32,
-        from: u32,
-        most_units: u32,
-        most_ranges: u32,
-        moved: Option<Callback>,
-        user: Option<NonNull<c_void>>
-    ) -> Progressed {
-        if step == 0 {
-            return Progressed::default();
-        }
-        progressed(space.compact_within_by(step, from, most_units, most_ranges, calls(moved, user)))
-    } else Progressed::default();
-
-    fn oag_make_room(
-        [space: &mut GuardedSpace],
-        size: u32,
-        moved: Option<Callback>,
-        user: Option<NonNull<c_void>>
-    ) -> Room {
-        room(space.make_room(size, calls(moved, user)))
-    } else Room::default();
-
-    fn oag_make_room_aligned(
-        [space: &mut GuardedSpace],
-        size: u32,
-        align: u32,
-        moved: Option<Callback>,
-        user: Option<NonNull<c_void>>
-    ) -> Room {
-        if align == 0 {
-            return Room::default();
-        }
-        room(space.make_room_aligned(size, align, calls(moved, user)))
-    } else Room::default();
-
-    fn oag_make_room_unaligned(
-        [space: &mut GuardedSpace],
-        size: u32,
-        moved: Option<Callback>,
-        user: Option<NonNull<c_void>>
-    ) -> Room {
-        room(space.make_room_unaligned(size, calls(moved, user)))
-    } else Room::default();
-
-    fn oag_make_room_by(
-        [space: &mut GuardedSpace],
-        size: u32,
-        align: u32,
-        step: u32,
-        moved: Option<Callback>,
-        user: Option<NonNull<c_void>>
-    ) -> Room {
-        if align == 0 || step == 0 {
-            return Room::default();
-        }
-        room(space.make_room_by(size, align, step, calls(moved, user)))
-    } else Room::default();
 
     fn oag_size([space: &GuardedSpace],) -> u32 { space.allocator().size() } else 0;
 
@@ -991,13 +851,6 @@ exports! {
     fn oag_realm([space: &GuardedSpace],) -> u32 { space.realm() } else 0;
 
     fn oag_step([space: &GuardedSpace],) -> u32 { space.step().unwrap_or(0) } else 0;
-
-    fn oag_raise_step([space: &mut GuardedSpace], align: u32) -> bool {
-        if align != 0 {
-            space.raise_step(align);
-        }
-        align != 0
-    } else false;
 
     fn oag_ticket_of([space: &GuardedSpace], allocation: Handle) -> Guard {
         guard(Allocation::from_parts(allocation.offset, allocation.metadata).and_then(|live| space.ticket(live)))
@@ -1059,4 +912,167 @@ exports! {
     fn oag_would_begin([space: &GuardedSpace], size: u32, align: u32) -> Beginning {
         beginning(if align != 0 { space.would_begin(size, align) } else { None })
     } else Beginning::default();
+}
+
+// A call of a space with tickets, and the same on the heap of a number.
+macro_rules! on_both { ($(
+    fn $one:ident, $many:ident([$space:ident], $($argument:ident: $of:ty),*) -> $returned:ty { $($body:tt)* } else $other:expr;
+)*) => { exports! { $(
+    fn $one([$space: &mut GuardedSpace], $($argument: $of),*) -> $returned { $($body)* } else $other;
+
+    fn $many([heaps: &mut heaps::ManyHeaps], number: u32 $(, $argument: $of)*) -> $returned {
+        let Some(mut $space) = heaps.heap_mut(number) else {
+            return $other;
+        };
+        $($body)*
+    } else $other;
+)* } } }
+
+on_both! {
+    fn oag_allocate, oah_heap_allocate([space], size: u32) -> Guard { guard(space.allocate(size)) } else NO_TICKET;
+
+    fn oag_allocate_aligned, oah_heap_allocate_aligned([space], size: u32, align: u32) -> Guard {
+        guard(if align != 0 { space.allocate_aligned(size, align) } else { None })
+    } else NO_TICKET;
+
+    fn oag_allocate_tight, oah_heap_allocate_tight([space], size: u32) -> Guard {
+        guard(space.allocate_tight(size))
+    } else NO_TICKET;
+
+    fn oag_allocate_tight_aligned, oah_heap_allocate_tight_aligned([space], size: u32, align: u32) -> Guard {
+        guard(if align != 0 { space.allocate_tight_aligned(size, align) } else { None })
+    } else NO_TICKET;
+
+    fn oag_allocate_at, oah_heap_allocate_at([space], offset: u32, size: u32) -> Guard {
+        guard(space.allocate_at(offset, size))
+    } else NO_TICKET;
+
+    fn oag_free, oah_heap_free([space], allocation: Guard) -> bool { space.free(ticket(allocation)) } else false;
+
+    fn oag_shrink, oah_heap_shrink([space], allocation: Guard, size: u32) -> bool {
+        space.shrink(ticket(allocation), size).unwrap_or(false)
+    } else false;
+
+    fn oag_grow_in_place, oah_heap_grow_in_place([space], allocation: Guard, size: u32) -> bool {
+        space.grow_in_place(ticket(allocation), size).unwrap_or(false)
+    } else false;
+
+    fn oag_extend, oah_heap_extend([space], more: u32) -> bool { space.extend(more) } else false;
+
+    fn oag_relocate, oah_heap_relocate([space], allocation: Guard) -> Guard {
+        guard(space.relocate(ticket(allocation)))
+    } else NO_TICKET;
+
+    fn oag_relocate_unaligned, oah_heap_relocate_unaligned([space], allocation: Guard) -> Guard {
+        guard(space.relocate_unaligned(ticket(allocation)))
+    } else NO_TICKET;
+
+    fn oag_relocate_aligned, oah_heap_relocate_aligned([space], allocation: Guard, align: u32) -> Guard {
+        guard(if align != 0 { space.relocate_aligned(ticket(allocation), align) } else { None })
+    } else NO_TICKET;
+
+    fn oag_compact, oah_heap_compact(
+        [space],
+        moved: Option<Callback>,
+        user: Option<NonNull<c_void>>
+    ) -> bool {
+        space.compact(calls(moved, user))
+    } else false;
+
+    fn oag_compact_unaligned, oah_heap_compact_unaligned(
+        [space],
+        moved: Option<Callback>,
+        user: Option<NonNull<c_void>>
+    ) -> () {
+        space.compact_unaligned(calls(moved, user))
+    } else ();
+
+    fn oag_compact_by, oah_heap_compact_by(
+        [space],
+        step: u32,
+        moved: Option<Callback>,
+        user: Option<NonNull<c_void>>
+    ) -> bool {
+        step != 0 && space.compact_by(step, calls(moved, user))
+    } else false;
+
+    fn oag_compact_within, oah_heap_compact_within(
+        [space],
+        from: u32,
+        most_units: u32,
+        most_ranges: u32,
+        moved: Option<Callback>,
+        user: Option<NonNull<c_void>>
+    ) -> Progressed {
+        progressed(space.compact_within(from, most_units, most_ranges, calls(moved, user)))
+    } else Progressed::default();
+
+    fn oag_compact_within_by, oah_heap_compact_within_by(
+        [space],
+        step: u32,
+        from: u32,
+        most_units: u32,
+        most_ranges: u32,
+        moved: Option<Callback>,
+        user: Option<NonNull<c_void>>
+    ) -> Progressed {
+        if step == 0 {
+            return Progressed::default();
+        }
+        progressed(space.compact_within_by(step, from, most_units, most_ranges, calls(moved, user)))
+    } else Progressed::default();
+
+    fn oag_make_room, oah_heap_make_room(
+        [space],
+        size: u32,
+        moved: Option<Callback>,
+        user: Option<NonNull<c_void>>
+    ) -> Room {
+        room(space.make_room(size, calls(moved, user)))
+    } else Room::default();
+
+    fn oag_make_room_aligned, oah_heap_make_room_aligned(
+        [space],
+        size: u32,
+        align: u32,
+        moved: Option<Callback>,
+        user: Option<NonNull<c_void>>
+    ) -> Room {
+        if align == 0 {
+            return Room::default();
+        }
+        room(space.make_room_aligned(size, align, calls(moved, user)))
+    } else Room::default();
+
+    fn oag_make_room_unaligned, oah_heap_make_room_unaligned(
+        [space],
+        size: u32,
+        moved: Option<Callback>,
+        user: Option<NonNull<c_void>>
+    ) -> Room {
+        room(space.make_room_unaligned(size, calls(moved, user)))
+    } else Room::default();
+
+    fn oag_make_room_by, oah_heap_make_room_by(
+        [space],
+        size: u32,
+        align: u32,
+        step: u32,
+        moved: Option<Callback>,
+        user: Option<NonNull<c_void>>
+    ) -> Room {
+        if align == 0 || step == 0 {
+            return Room::default();
+        }
+        room(space.make_room_by(size, align, step, calls(moved, user)))
+    } else Room::default();
+
+    fn oag_raise_step, oah_heap_raise_step([space], align: u32) -> bool {
+        if align != 0 {
+            space.raise_step(align);
+        }
+        align != 0
+    } else false;
+
+    fn oag_reset, oah_heap_reset([space],) -> () { space.reset() } else ();
 }

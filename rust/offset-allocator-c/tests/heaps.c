@@ -444,7 +444,129 @@ static void nulls(void) {
     oah_drop(NULL);
 }
 
+/* What a closure was called with, added up. */
+static uint64_t seen;
+static void sees(void *user, oa_move range) {
+    (void)user;
+    seen = seen * 31 + range.from + 7 * (uint64_t)range.to + 11 * (uint64_t)range.size;
+}
+
+static uint32_t state = 1;
+static uint32_t below(uint32_t n) {
+    state = state * 1664525u + 1013904223u;
+    return (state >> 8) % n;
+}
+
+static int alike(oag_ticket a, oag_ticket b) { return a.serial == b.serial && a.name == b.name && a.realm == b.realm; }
+
+/* The same call of tickets on both. */
+#define BOTH(call, ...) do { \
+    bool one = oag_##call(space, __VA_ARGS__), other = oah_heap_##call(heaps, 1, __VA_ARGS__); CHECK(one == other); } while (0)
+#define GRANT(call, ...) do { a = oag_##call(space, __VA_ARGS__); b = oah_heap_##call(heaps, 1, __VA_ARGS__); CHECK(alike(a, b)); } while (0)
+#define ROOM(call, ...) do { \
+    r = oag_##call(space, __VA_ARGS__, sees, NULL); uint64_t was = seen; seen = 0; \
+    q = oah_heap_##call(heaps, 1, __VA_ARGS__, sees, NULL); \
+    CHECK(was == seen && r.possible == q.possible && r.units == q.units && r.ranges == q.ranges); } while (0)
+#define WITHIN(call, ...) do { \
+    p = oag_##call(space, __VA_ARGS__, sees, NULL); uint64_t was = seen; seen = 0; \
+    o = oah_heap_##call(heaps, 1, __VA_ARGS__, sees, NULL); \
+    CHECK(was == seen && p.done == o.done && p.units == o.units && p.ranges == o.ranges && p.next == o.next); } while (0)
+
+/* Each call on a heap returns what it returns of a space with tickets, and leaves the same; no other heap changes. */
+static void one_heap(void) {
+    oah_limits limits = {.size = 1024, .max_allocs = 64, .most = 2, .most_larger = 0};
+    oah_heaps *heaps = oah_with_realm(limits, 9);
+    oah_granted first = oah_allocate(heaps, 1000), second = oah_allocate(heaps, 1000);
+    CHECK(first.place.heap == 0 && second.place.heap == 1 && oah_realm(heaps) == 9);
+    oag_allocator *space = oag_with_realm(1024, 64, second.place.ticket.realm);
+    oag_ticket tickets[64] = {oag_allocate(space, 1000)};
+    CHECK(alike(tickets[0], second.place.ticket));
+    for (uint32_t count = 1, turn = 0; turn < 20000; turn++) {
+        uint32_t size = 1 + below(200), align = 1u << below(8), step = 1u << below(9), at = below(1024);
+        oag_ticket t = tickets[below(count)], a = {0, 0, 0}, b = {0, 0, 0};
+        oa_room r, q;
+        oa_progress p, o;
+        seen = 0;
+        switch (below(26)) {
+        case 0: case 1: case 2: GRANT(allocate, size); break;
+        case 3: GRANT(allocate_aligned, size, align); break;
+        case 4: GRANT(allocate_tight, size); break;
+        case 5: GRANT(allocate_tight_aligned, size, align); break;
+        case 6: GRANT(allocate_at, at, size); break;
+        case 7: GRANT(relocate, t); break;
+        case 8: GRANT(relocate_aligned, t, align); break;
+        case 9: GRANT(relocate_unaligned, t); break;
+        case 10: BOTH(shrink, t, size); break;
+        case 11: BOTH(grow_in_place, t, size); break;
+        case 12: {
+            bool was = oag_compact(space, sees, NULL);
+            uint64_t moves = seen;
+            seen = 0;
+            CHECK(was == oah_heap_compact(heaps, 1, sees, NULL) && moves == seen);
+            break;
+        }
+        case 13: {
+            bool was = oag_compact_by(space, step, sees, NULL);
+            uint64_t moves = seen;
+            seen = 0;
+            CHECK(was == oah_heap_compact_by(heaps, 1, step, sees, NULL) && moves == seen);
+            break;
+        }
+        case 14: {
+            oag_compact_unaligned(space, sees, NULL);
+            uint64_t moves = seen;
+            seen = 0;
+            oah_heap_compact_unaligned(heaps, 1, sees, NULL);
+            CHECK(moves == seen);
+            break;
+        }
+        case 15: WITHIN(compact_within, at, size, 3); break;
+        case 16: WITHIN(compact_within_by, step, at, size, 3); break;
+        case 17: ROOM(make_room, size); break;
+        case 18: ROOM(make_room_aligned, size, align); break;
+        case 19: ROOM(make_room_by, size, align, step); break;
+        case 20: ROOM(make_room_unaligned, size); break;
+        case 21:
+            if (below(50) == 0) {
+                oag_reset(space);
+                oah_heap_reset(heaps, 1);
+            } else {
+                BOTH(raise_step, align);
+            }
+            break;
+        case 22:
+            if (below(50) == 0) BOTH(extend, size);
+            break;
+        default: BOTH(free, t); break;
+        }
+        if (a.serial != 0) {
+            if (count == 64) count = 1;
+            tickets[count++] = a;
+        }
+        /* the questions of a space are asked of the heap */
+        const oag_allocator *heap = oah_heap(heaps, 1);
+        CHECK(heap && oag_step(heap) == oag_step(space) && oag_size(heap) == oag_size(space) && oag_block_count(heap) == oag_block_count(space));
+        CHECK(oag_free_units(heap) == oag_free_units(space) && oag_is_live(heap, t) == oag_is_live(space, t));
+        CHECK(oag_offset_of(heap, t) == oag_offset_of(space, t) && oag_refusal_aligned(heap, size, align) == oag_refusal_aligned(space, size, align));
+        CHECK(oag_would_begin(heap, size, align).offset == oag_would_begin(space, size, align).offset);
+        CHECK(oag_room_cost(heap, size).units == oag_room_cost(space, size).units);
+        oah_place place = {t, 1, oah_realm(heaps)};
+        CHECK(oah_is_live(heaps, place) == oag_is_live(space, t) && oah_offset_of(heaps, place) == oag_offset_of(space, t));
+        CHECK(oah_totals(heaps).live_units == 1000 + oag_live_units(space));
+    }
+    CHECK(oah_offset_of(heaps, first.place) == 0 && oag_block_count(oah_heap(heaps, 0)) == 2);
+    /* a number without a heap, and no heaps */
+    oag_ticket none = {0, 0, 0};
+    CHECK(!oah_heap(heaps, 2) && !oah_heap(NULL, 0) && oah_realm(NULL) == 0);
+    CHECK(oah_heap_allocate(heaps, 2, 1).serial == 0 && oah_heap_allocate(NULL, 0, 1).serial == 0 && !oah_heap_free(heaps, 2, none));
+    CHECK(!oah_heap_compact(heaps, 2, sees, NULL) && !oah_heap_make_room(heaps, 2, 1, sees, NULL).possible && !oah_heap_extend(heaps, 7, 1));
+    CHECK(oah_heap_allocate_aligned(heaps, 1, 1, 0).serial == 0 && !oah_heap_compact_by(heaps, 1, 0, sees, NULL) && !oah_heap_raise_step(heaps, 1, 0));
+    oag_drop(space);
+    oah_drop(heaps);
+}
+
 int main(void) {
+    one_heap();
     grows_and_drops();
     aligned_pages();
     relocates();

@@ -18,7 +18,70 @@ static_assert(!std::is_copy_constructible<Heaps>::value, "heaps are not copied")
 static_assert(std::is_nothrow_move_constructible<Heaps>::value && std::is_nothrow_move_assignable<Heaps>::value, "they are moved");
 static_assert(sizeof(Place) == 24, "a place is as in C");
 
+// What each call of one space returns and leaves, one after the other.
+template <class Space> std::vector<uint64_t> trace(Space &space, Ticket all) {
+    std::vector<uint64_t> found;
+    const auto note = [&](uint64_t x) { found.push_back(x); };
+    const auto moved = [&](Move range) {
+        note(range.from);
+        note(range.to);
+        note(range.size);
+    };
+    note(space.free(all) && !space.free(all));
+    const Ticket hole = space.allocate(300), mesh = space.allocateAligned(100, 64), tight = space.allocateTight(20);
+    const Ticket placed = space.allocateAt(700, 100), uneven = space.allocateTightAligned(12, 12);
+    for (Ticket ticket : {hole, mesh, tight, placed, uneven}) {
+        note(ticket.serial);
+        note(space.offsetOf(ticket));
+    }
+    note(space.step());
+    note(space.raiseStep(128) && space.shrink(hole, 200) && space.growInPlace(hole, 250));
+    note(space.refusalAligned(900, 64) == Refusal::fragmented);
+    note(space.free(hole));
+    for (Ticket second : {space.relocate(tight), space.relocateAligned(uneven, 4), space.relocateUnaligned(placed)}) note(space.offsetOf(second));
+    note(space.compactCost().units);
+    const Progress progress = space.compactWithin(0, 64, 1, moved);
+    note(progress.done);
+    note(progress.units);
+    note(space.compact(moved));
+    note(space.free(mesh));
+    note(space.roomCostAligned(400, 16).units);
+    note(space.makeRoomAligned(400, 16, moved).ranges);
+    note(space.makeRoom(410, moved).units);
+    note(space.makeRoomBy(420, 1, 4, moved).units);
+    note(space.makeRoomUnaligned(430, moved).units);
+    note(space.compactBy(2, moved));
+    note(space.compactWithinBy(1, 0, 1000, 9, moved).ranges);
+    space.compactUnaligned(moved);
+    note(space.extend(100));
+    note(space.size());
+    for (const Block &block : space.blocks()) note(block.offset + 5000 * uint64_t(block.size));
+    space.eachLive([&](Ticket ticket) {
+        note(ticket.serial);
+        return true;
+    });
+    note(space.statistics().freeUnits);
+    space.reset();
+    note(space.isEmpty());
+    return found;
+}
+
+// A heap answers as a space with tickets does.
+void oneHeap() {
+    Heaps heaps = Heaps::withRealm({1024, 64, 2, 0}, 5);
+    const Granted granted = heaps.allocate(1000);
+    GuardedAllocator space = GuardedAllocator::withRealm(1024, 64, granted.place.ticket.realm);
+    const Ticket first = space.allocate(1000);
+    Heap heap = heaps.at(0);
+    CHECK(heap && heap.number() == 0 && first == granted.place.ticket && heaps.realm() == 5);
+    CHECK(heaps.isLive(heap.place(first)) && !heaps.at(1) && !heaps.at(1).allocate(1));
+    const std::vector<uint64_t> one = trace(space, first), other = trace(heap, first);
+    CHECK(one == other && one.size() > 45);
+    CHECK(!heaps.isLive(granted.place) && heaps.totals().units == 1124 && heaps.totals().liveUnits == 0);
+}
+
 int main() {
+    oneHeap();
     Heaps heaps = Heaps::withRealm({1024, 64, 4, 2}, 5);
     CHECK(heaps);
     std::map<uint32, std::vector<char>> buffers;

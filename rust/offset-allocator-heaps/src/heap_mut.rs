@@ -158,6 +158,28 @@ impl<T: Tables> HeapMut<'_, T> {
         result
     }
 
+    /// As `GuardedOf::free` in this heap.
+    ///
+    /// ```
+    /// # use offset_allocator_heaps::*;
+    /// # let alloc = Global;
+    /// let limits = Limits { size: 1000, first_size: 1000, max_allocs: 100, first_allocs: 8, most: 2, most_larger: 1 };
+    /// let mut heaps = Heaps::<u32>::new(alloc, limits)?;
+    /// let mesh = heaps.allocate(300).unwrap();
+    /// assert!(heaps.heap_mut(0).unwrap().free(mesh.place.ticket(mesh.offset)));
+    /// assert!(!heaps.is_live(mesh.place));
+    /// # Ok::<(), AllocError>(())
+    /// ```
+    pub fn free(&mut self, ticket: Ticket) -> bool {
+        let heaps = &mut *self.heaps;
+        let result = heaps
+            .slots
+            .heap_mut(self.number, &mut heaps.accesses)
+            .free(ticket);
+        heaps.index.note(&heaps.slots, self.number, heaps.limits, &mut heaps.accesses);
+        result
+    }
+
     /// As `GuardedOf::allocate_tight` in this heap.
     ///
     /// ```
@@ -232,28 +254,6 @@ impl<T: Tables> HeapMut<'_, T> {
             .slots
             .heap_mut(self.number, &mut heaps.accesses)
             .allocate_at(offset, size);
-        heaps.index.note(&heaps.slots, self.number, heaps.limits, &mut heaps.accesses);
-        result
-    }
-
-    /// As `GuardedOf::free` in this heap.
-    ///
-    /// ```
-    /// # use offset_allocator_heaps::*;
-    /// # let alloc = Global;
-    /// let limits = Limits { size: 1000, first_size: 1000, max_allocs: 100, first_allocs: 8, most: 2, most_larger: 1 };
-    /// let mut heaps = Heaps::<u32>::new(alloc, limits)?;
-    /// let mesh = heaps.allocate(300).unwrap();
-    /// assert!(heaps.heap_mut(0).unwrap().free(mesh.place.ticket(mesh.offset)));
-    /// assert!(!heaps.is_live(mesh.place));
-    /// # Ok::<(), AllocError>(())
-    /// ```
-    pub fn free(&mut self, ticket: Ticket) -> bool {
-        let heaps = &mut *self.heaps;
-        let result = heaps
-            .slots
-            .heap_mut(self.number, &mut heaps.accesses)
-            .free(ticket);
         heaps.index.note(&heaps.slots, self.number, heaps.limits, &mut heaps.accesses);
         result
     }
@@ -365,7 +365,7 @@ impl<T: Tables> HeapMut<'_, T> {
         result
     }
 
-    /// As `GuardedOf::extend` in this heap. `extend_heap` of `Heaps` raises its node limit too, where that is needed.
+    /// As `GuardedOf::relocate_unaligned` in this heap: **the second range keeps no alignment**; that of `relocate` keeps all.
     ///
     /// ```
     /// # use offset_allocator_heaps::*;
@@ -375,68 +375,20 @@ impl<T: Tables> HeapMut<'_, T> {
     /// let first = heaps.allocate(1).unwrap().place;
     /// heaps.free(first);
     /// let mut heap = heaps.heap_mut(0).unwrap();
-    /// assert!(heap.extend(24));
-    /// assert_eq!(heap.size(), 1024);
+    /// let hole = heap.allocate(320).unwrap();
+    /// let mesh = heap.allocate(320).unwrap();
+    /// heap.free(hole);
+    /// assert_eq!(heap.relocate_unaligned(mesh).unwrap().offset, 0);
     /// # Ok::<(), AllocError>(())
     /// ```
-    pub fn extend(&mut self, more: u32) -> bool {
+    pub fn relocate_unaligned(&mut self, ticket: Ticket) -> Option<Ticket> {
         let heaps = &mut *self.heaps;
         let result = heaps
             .slots
             .heap_mut(self.number, &mut heaps.accesses)
-            .extend(more);
+            .relocate_unaligned(ticket);
         heaps.index.note(&heaps.slots, self.number, heaps.limits, &mut heaps.accesses);
         result
-    }
-
-    /// As `GuardedOf::raise_step` in this heap, by an alignment from 1 on.
-    ///
-    /// # Panics
-    ///
-    /// It panics unless the alignment is at least 1.
-    ///
-    /// ```
-    /// # use offset_allocator_heaps::*;
-    /// # let alloc = Global;
-    /// let limits = Limits { size: 1000, first_size: 1000, max_allocs: 100, first_allocs: 8, most: 2, most_larger: 1 };
-    /// let mut heaps = Heaps::<u32>::new(alloc, limits)?;
-    /// let first = heaps.allocate(1).unwrap().place;
-    /// heaps.free(first);
-    /// let mut heap = heaps.heap_mut(0).unwrap();
-    /// heap.raise_step(256);
-    /// assert_eq!(heap.step(), Some(256));
-    /// # Ok::<(), AllocError>(())
-    /// ```
-    #[track_caller]
-    pub fn raise_step(&mut self, align: u32) {
-        assert!(1 <= align, "the alignment must be at least 1");
-        let heaps = &mut *self.heaps;
-        heaps
-            .slots
-            .heap_mut(self.number, &mut heaps.accesses)
-            .raise_step(align);
-        heaps.index.note(&heaps.slots, self.number, heaps.limits, &mut heaps.accesses);
-    }
-
-    /// As `GuardedOf::reset` in this heap.
-    ///
-    /// ```
-    /// # use offset_allocator_heaps::*;
-    /// # let alloc = Global;
-    /// let limits = Limits { size: 1000, first_size: 1000, max_allocs: 100, first_allocs: 8, most: 2, most_larger: 1 };
-    /// let mut heaps = Heaps::<u32>::new(alloc, limits)?;
-    /// let mesh = heaps.allocate(300).unwrap().place;
-    /// heaps.heap_mut(0).unwrap().reset();
-    /// assert!(!heaps.is_live(mesh));
-    /// # Ok::<(), AllocError>(())
-    /// ```
-    pub fn reset(&mut self) {
-        let heaps = &mut *self.heaps;
-        heaps
-            .slots
-            .heap_mut(self.number, &mut heaps.accesses)
-            .reset();
-        heaps.index.note(&heaps.slots, self.number, heaps.limits, &mut heaps.accesses);
     }
 
     /// As `GuardedOf::compact` in this heap: **each range keeps every alignment that was asked for**.
@@ -597,6 +549,31 @@ impl<T: Tables> HeapMut<'_, T> {
         result
     }
 
+    /// As `GuardedOf::make_room` in this heap: **each range that moves keeps every alignment that was asked for**.
+    ///
+    /// ```
+    /// # use offset_allocator_heaps::*;
+    /// # let alloc = Global;
+    /// let limits = Limits { size: 1000, first_size: 1000, max_allocs: 100, first_allocs: 8, most: 2, most_larger: 1 };
+    /// let mut heaps = Heaps::<u32>::new(alloc, limits)?;
+    /// let first = heaps.allocate(1).unwrap().place;
+    /// heaps.free(first);
+    /// let mut heap = heaps.heap_mut(0).unwrap();
+    /// let hole = heap.allocate(300).unwrap();
+    /// heap.allocate(100).unwrap();
+    /// heap.free(hole);
+    /// heap.make_room(800, |it| assert_eq!((it.from, it.to, it.size), (300, 0, 100)));
+    /// assert!(heap.allocate(800).is_some());
+    /// # Ok::<(), AllocError>(())
+    /// ```
+    pub fn make_room<F: FnMut(Move<T::Index>)>(
+        &mut self,
+        size: u32,
+        mut moved: F,
+    ) -> Option<RoomCost> {
+        self.make_room_aligned(size, 1, &mut moved)
+    }
+
     /// As `GuardedOf::make_room_aligned` in this heap, for an alignment from 1 on: **each range that moves keeps every alignment
     /// that was asked for**.
     ///
@@ -706,5 +683,79 @@ impl<T: Tables> HeapMut<'_, T> {
             .make_room_unaligned(size, &mut moved);
         heaps.index.note(&heaps.slots, self.number, heaps.limits, &mut heaps.accesses);
         result
+    }
+
+    /// As `GuardedOf::extend` in this heap. `extend_heap` of `Heaps` raises its node limit too, where that is needed.
+    ///
+    /// ```
+    /// # use offset_allocator_heaps::*;
+    /// # let alloc = Global;
+    /// let limits = Limits { size: 1000, first_size: 1000, max_allocs: 100, first_allocs: 8, most: 2, most_larger: 1 };
+    /// let mut heaps = Heaps::<u32>::new(alloc, limits)?;
+    /// let first = heaps.allocate(1).unwrap().place;
+    /// heaps.free(first);
+    /// let mut heap = heaps.heap_mut(0).unwrap();
+    /// assert!(heap.extend(24));
+    /// assert_eq!(heap.size(), 1024);
+    /// # Ok::<(), AllocError>(())
+    /// ```
+    pub fn extend(&mut self, more: u32) -> bool {
+        let heaps = &mut *self.heaps;
+        let result = heaps
+            .slots
+            .heap_mut(self.number, &mut heaps.accesses)
+            .extend(more);
+        heaps.index.note(&heaps.slots, self.number, heaps.limits, &mut heaps.accesses);
+        result
+    }
+
+    /// As `GuardedOf::raise_step` in this heap, by an alignment from 1 on.
+    ///
+    /// # Panics
+    ///
+    /// It panics unless the alignment is at least 1.
+    ///
+    /// ```
+    /// # use offset_allocator_heaps::*;
+    /// # let alloc = Global;
+    /// let limits = Limits { size: 1000, first_size: 1000, max_allocs: 100, first_allocs: 8, most: 2, most_larger: 1 };
+    /// let mut heaps = Heaps::<u32>::new(alloc, limits)?;
+    /// let first = heaps.allocate(1).unwrap().place;
+    /// heaps.free(first);
+    /// let mut heap = heaps.heap_mut(0).unwrap();
+    /// heap.raise_step(256);
+    /// assert_eq!(heap.step(), Some(256));
+    /// # Ok::<(), AllocError>(())
+    /// ```
+    #[track_caller]
+    pub fn raise_step(&mut self, align: u32) {
+        assert!(1 <= align, "the alignment must be at least 1");
+        let heaps = &mut *self.heaps;
+        heaps
+            .slots
+            .heap_mut(self.number, &mut heaps.accesses)
+            .raise_step(align);
+        heaps.index.note(&heaps.slots, self.number, heaps.limits, &mut heaps.accesses);
+    }
+
+    /// As `GuardedOf::reset` in this heap.
+    ///
+    /// ```
+    /// # use offset_allocator_heaps::*;
+    /// # let alloc = Global;
+    /// let limits = Limits { size: 1000, first_size: 1000, max_allocs: 100, first_allocs: 8, most: 2, most_larger: 1 };
+    /// let mut heaps = Heaps::<u32>::new(alloc, limits)?;
+    /// let mesh = heaps.allocate(300).unwrap().place;
+    /// heaps.heap_mut(0).unwrap().reset();
+    /// assert!(!heaps.is_live(mesh));
+    /// # Ok::<(), AllocError>(())
+    /// ```
+    pub fn reset(&mut self) {
+        let heaps = &mut *self.heaps;
+        heaps
+            .slots
+            .heap_mut(self.number, &mut heaps.accesses)
+            .reset();
+        heaps.index.note(&heaps.slots, self.number, heaps.limits, &mut heaps.accesses);
     }
 }
