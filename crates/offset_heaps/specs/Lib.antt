@@ -10,6 +10,7 @@ pub mod Maxima
 pub mod Numbering
 pub mod Places
 pub mod Relocating
+pub mod Resting
 pub mod Slots
 pub mod Soundness
 pub mod State

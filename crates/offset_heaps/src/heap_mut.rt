@@ -55,6 +55,8 @@ pub struct HeapMut<'a, T: Tables> {
 }
 
 impl<T: Tables> HeapsOf<T> {
+    ghost use Rattle.offset_heaps.specs.Resting.{Rests};
+
     /// The heap of a number, to be changed by the calls of one space with tickets, or `None` where the number has no heap.
     ///
     /// ```
@@ -67,6 +69,15 @@ impl<T: Tables> HeapsOf<T> {
         ensures some { IsSome result ↔ IsSome (heap_at number self.old) }
         ensures there { IfSome result (λ h. (h.number ≡ number) × (h.heaps.now ≡ self.old)) }
         ensures same_reference { IfSome result (λ h. h.heaps.ghost_name ≡ self.entry.ghost_name) }
+        // Where the number has no heap, nothing changes.
+        ensures* rests { sem 𝓛 (Rests T.row T.Index.row T.Index.NonMax.row T.Tables
+            (record { MAX = T.Index.MAX; number = T.Index.number }) T.Index.Default
+            (record {
+              number = T.Index.NonMax.number;
+              of_number = T.Index.NonMax.of_number;
+              limit = T.Index.NonMax.limit;
+            }) T.Index.NonMax.PartialEq T.Index.NonMax.Default
+            T.Index.NonMax.Debug T.Index.NonMax.Display self.entry result) }
     {
         if self.slots.has(number, &mut Accesses::new()) {
             Some(HeapMut {

@@ -71,6 +71,10 @@ extended limits k more d g h e = record {
     serials true e = e.serials
     serials false e = e.1
 
+-- a heap is changed by less than what is known
+pub part_of : (k : ℕ) (P Q : Guard → Guard → Type 0) (hs ks : Heaps) → ((g h : Guard) → P g h → Q g h) → Alters k P hs ks → Alters k Q hs ks
+part_of k P Q hs ks weaker a = record { before = a.before; after = a.after; heap = a.heap; by = weaker a.before a.after a.by; heaps = a.heaps }
+
 module _ (hs ks : Heaps) where
   pub grants : (size align : ℕ) (r : Result Granted Refusal) → OnErr r (IsSame hs ks) → IfOk r (Grants size align hs ks) → IsStep hs ks
   grants size align (Ok g) same step = inr (inl (size, align, g, step))
