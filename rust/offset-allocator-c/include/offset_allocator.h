@@ -744,7 +744,8 @@ uint64_t *oab_get_mut(oab_words *words, oag_ticket ticket);
 /* Takes out the word beside a ticket. Not found, and nothing changes, where it has none. */
 oab_entry oab_take(oab_words *words, oag_ticket ticket);
 
-/* The word of the smallest name that is at least `name`. It reads the cells up to that. All words, by name:
+/* The word of the smallest name that is at least `name`. It reads the cells up to that. Of a range that moves, by its `metadata`:
+ * where the ticket has that name, and each grant gets a word, it is that of the range. All words, by name:
  *     for (oab_entry it = oab_from(words, 0); it.found; it = oab_from(words, it.ticket.name + 1)) */
 oab_entry oab_from(const oab_words *words, uint32_t name);
 
