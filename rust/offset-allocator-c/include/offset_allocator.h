@@ -708,7 +708,7 @@ oag_ticket oag_ticket_of(const oag_allocator *space, oa_allocation allocation);
 
 /* A word of yours beside each of some tickets: an index, or a pointer by way of uintptr_t. Put one where a range is granted,
  * and take it where the range is freed: what is there in the end was never freed. Use one for each space. It has a cell of
- * 40 bytes for each name up to the largest that was given, and each call but oab_put, oab_from, oab_clear and oab_drop takes
+ * 32 bytes for each name up to the largest that was given, and each call but oab_put, oab_from, oab_clear and oab_drop takes
  * constant time. Any ticket may be given, and one of another grant has no word here.
  *
  *     oab_words *meshes = oab_new();
