@@ -108,7 +108,6 @@ LINTS = {
         "clippy::question_mark": "a step of a proof stands before the return, and is left out here",
         "clippy::manual_find": "a loop over places needs no closure, whose calls would need a proof",
         "clippy::manual_map": "a `match` needs no closure, whose calls would need a proof",
-        "clippy::needless_range_loop": "a loop over places lends no cell, whose last value would need a proof",
     },
     "offset_heaps": {
         "clippy::len_zero": "the proof speaks of the length, which no call hides",

@@ -41,7 +41,7 @@ cleared d (c ∷ cells) (suc x) = cleared d cells x
 pub put_there : {X : Type 0} (d : X) (cells : List X) (x y : ℕ) (v : X) → y ≡ x → y < length cells → slice_index_or (slice_set cells y v) x d ≡ v
 put_there d cells x y v e l = ap (λ z. slice_index_or (slice_set cells y v) z d) (sym e) ∙ get_or-set_same cells y v d l
 
--- how many values there are before a cell
+-- one cell before others adds its value, if it has one
 len_cons : {X : Type 0} (c : Option X) (l : List X) → length (cons_option c l) ≡ length l + cond (is_some c) 1 0
 len_cons None l = omega arith
 len_cons (Some x) l = omega arith

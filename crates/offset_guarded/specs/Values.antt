@@ -20,9 +20,13 @@ module _ {V : Type 0} where
   abbrev pub entries : List (Option (Ticket × V)) → List (Ticket × V)
   entries cells = filter_map (λ c. c) cells
 
+  -- an entry with another value beside its ticket
+  abbrev pub revalued : V → Option (Ticket × V) → Option (Ticket × V)
+  revalued v = option_map (λ e. (e.0, v))
+
   -- the cells with another value beside the ticket of a name
   abbrev pub with_value : List (Option (Ticket × V)) → ℕ → V → List (Option (Ticket × V))
-  with_value cells x v = slice_set cells x (option_map (λ e. (e.0, v)) (entry x cells))
+  with_value cells x v = slice_set cells x (revalued v (entry x cells))
 
   -- every entry has its ticket's name
   abbrev pub AreNamed : List (Option (Ticket × V)) → Type 0

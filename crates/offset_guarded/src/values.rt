@@ -210,6 +210,33 @@ impl<V> Beside<V> {
         }
     }
 
+    /// The value under a name, with its ticket, or `None` where there is none: of a range that moves, where the
+    /// space itself cannot be asked, that of `range.allocation().name()`.
+    ///
+    /// It is the last that was put under that name. So where each grant gets a value, it is that of the range
+    /// that has the name; where one got none, it may be one of an earlier grant that was not taken.
+    ///
+    /// ```
+    /// let mut names = Beside::new(alloc);
+    /// let rock = guarded.allocate(300).unwrap();
+    /// let mesh = guarded.allocate(300).unwrap();
+    /// assert!(names.put(&guarded, mesh, "mesh").is_ok());
+    /// guarded.free(rock);
+    /// guarded.compact_unaligned(|range| {
+    ///     assert_eq!(names.under(range.allocation().name()), Some((mesh, &"mesh")));
+    /// });
+    /// ```
+    pub fn under(&self, name: u32) -> Option<(Ticket, &V)>
+        ensures entry { option_map (λ e. (e.0, e.1.now)) result ≡ entry name self.now }
+        // The ticket has this name, as each has the name of its cell.
+        ensures named { AreNamed self.now }
+    {
+        match self.cells.get(name as usize) {
+            Some(Some((ticket, value))) => Some((*ticket, value)),
+            _ => None,
+        }
+    }
+
     /// The value beside a ticket, to be changed in place, or `None` where it has none.
     ///
     /// ```

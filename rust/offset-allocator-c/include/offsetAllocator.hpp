@@ -822,6 +822,13 @@ public:
     }
     bool has(Ticket ticket) const { return oab_get(words, GuardedAllocator::in(ticket)) != nullptr; }
 
+    // The value under a name, or `other` where there is none: that of the range that has the name, as `metadata` of a move,
+    // where each grant gets one; else it may be one of an earlier grant that was not taken.
+    V under(uint32 name, V other = V()) const {
+        const oab_entry found = oab_from(words, name);
+        return found.found && found.ticket.name == name ? unpacked(found.word) : other;
+    }
+
     // Changes the value beside a ticket. False, and nothing changes, where it has none.
     bool set(Ticket ticket, V value) {
         uint64_t *found = oab_get_mut(words, GuardedAllocator::in(ticket));

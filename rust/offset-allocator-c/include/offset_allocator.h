@@ -708,7 +708,7 @@ oag_ticket oag_ticket_of(const oag_allocator *space, oa_allocation allocation);
 
 /* A word of yours beside each of some tickets: an index, or a pointer by way of uintptr_t. Put one where a range is granted,
  * and take it where the range is freed: what is there in the end was never freed. Use one for each space. It has a cell of
- * 40 bytes for each name up to the largest that was given, and each call but oab_put, oab_from, oab_clear and oab_drop takes
+ * 32 bytes for each name up to the largest that was given, and each call but oab_put, oab_from, oab_clear and oab_drop takes
  * constant time. Any ticket may be given, and one of another grant has no word here.
  *
  *     oab_words *meshes = oab_new();
@@ -744,7 +744,8 @@ uint64_t *oab_get_mut(oab_words *words, oag_ticket ticket);
 /* Takes out the word beside a ticket. Not found, and nothing changes, where it has none. */
 oab_entry oab_take(oab_words *words, oag_ticket ticket);
 
-/* The word of the smallest name that is at least `name`. It reads the cells up to that. All words, by name:
+/* The word of the smallest name that is at least `name`. It reads the cells up to that. Of a range that moves, by its `metadata`:
+ * where the ticket has that name, and each grant gets a word, it is that of the range. All words, by name:
  *     for (oab_entry it = oab_from(words, 0); it.found; it = oab_from(words, it.ticket.name + 1)) */
 oab_entry oab_from(const oab_words *words, uint32_t name);
 

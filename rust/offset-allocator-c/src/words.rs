@@ -1,11 +1,14 @@
 //! The C interface of `Beside`, of words of 64 bits. `include/offset_allocator.h` documents each function.
 
-use offset_allocator_guarded::{Beside, Global};
+use offset_allocator_guarded::{Beside, Global, Ticket};
 
 use crate::{boxed, guard, ticket, Guard, GuardedSpace, NO_TICKET};
 
 /// A word beside each of some tickets, as C holds them.
 pub type Words = [Beside<u64>; 1];
+
+// the header says what a cell takes
+const _: () = assert!(size_of::<Option<(Ticket, u64)>>() == 32);
 
 /// A word, if one was found, and its ticket.
 #[repr(C)]

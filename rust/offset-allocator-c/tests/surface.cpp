@@ -150,19 +150,25 @@ static void values() {
     int once = 0;
     meshes.each([&](Ticket, const char *) { return ++once < 1; });
     CHECK(once == 1);
+    heap.compactUnaligned([&](Move) { CHECK(false); });
+    CHECK(heap.free(leaf) && meshes.take(leaf, nullptr));
+    heap.compactUnaligned([&](Move range) { CHECK(!std::strcmp(meshes.under(range.allocation.metadata), "oak") && !meshes.under(rock.name)); });
+    CHECK(heap.offsetOf(tree) == 0);
+    const Ticket last = heap.allocate(10);
+    CHECK(last && !meshes.under(last.name) && meshes.put(heap, last, "last") && !std::strcmp(meshes.under(last.name), "last"));
     // a smaller value, and one that is neither pointer nor number
     struct Pair {
         uint16_t first, second;
     };
     Beside<Pair> pairs;
-    CHECK(pairs.put(heap, leaf, Pair{1, 2}) && pairs.get(leaf).second == 2 && pairs.get(tree).first == 0 && pairs.get(tree, Pair{3, 4}).first == 3);
+    CHECK(pairs.put(heap, last, Pair{1, 2}) && pairs.get(last).second == 2 && pairs.get(tree).first == 0 && pairs.get(tree, Pair{3, 4}).first == 3);
     Beside<double> weights;
-    CHECK(weights.put(heap, leaf, 0.5) && weights.get(leaf) == 0.5 && weights.take(tree, -1.0) == -1.0);
+    CHECK(weights.put(heap, last, 0.5) && weights.get(last) == 0.5 && weights.take(tree, -1.0) == -1.0);
     Beside<const char *> gone(std::move(meshes));
-    CHECK(!meshes && !meshes.put(heap, leaf, "leaf") && meshes.size() == 0 && gone.size() == 2);
+    CHECK(!meshes && !meshes.put(heap, last, "last") && meshes.size() == 0 && gone.size() == 2);
     meshes = std::move(gone);
     meshes.clear();
-    CHECK(meshes && meshes.isEmpty() && !gone && meshes.put(heap, leaf, "leaf"));
+    CHECK(meshes && meshes.isEmpty() && !gone && meshes.put(heap, last, "last"));
 }
 
 // A walk from either end meets each live range once, also one at 0, and ends where none is at 0.

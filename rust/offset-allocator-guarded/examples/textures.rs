@@ -58,15 +58,15 @@ impl Heap {
 
     /// Copies what a frame may copy, and returns which textures a view has to be made anew of.
     fn compact(&mut self) -> Vec<usize> {
-        let mut moves = Vec::new();
-        let done = self.space.compact_within(self.from, MOST.0, MOST.1, |it| moves.push(it));
-        self.from = done.and_then(|it| it.next).unwrap_or(0);
-        moves.iter().map(|it| {
-            self.bytes.copy_within(it.from as usize..(it.from + it.size) as usize, it.to as usize);
-            self.copied += u64::from(it.size);
-            let ticket = self.space.ticket(it.allocation()).expect("what moved is live");
-            *self.places.get(ticket).expect("each texture has its place")
-        }).collect()
+        let Heap { bytes, space, places, from, copied, .. } = self;
+        let mut moved = Vec::new();
+        let done = space.compact_within(*from, MOST.0, MOST.1, |it| {
+            bytes.copy_within(it.from as usize..(it.from + it.size) as usize, it.to as usize);
+            *copied += u64::from(it.size);
+            moved.push(*places.under(it.allocation().name()).expect("each texture has its place").1);
+        });
+        *from = done.and_then(|it| it.next).unwrap_or(0);
+        moved
     }
 
     fn check(&self) {

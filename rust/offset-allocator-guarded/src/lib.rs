@@ -24,7 +24,6 @@
 #![expect(clippy::question_mark)] // a step of a proof stands before the return, and is left out here
 #![expect(clippy::manual_find)] // a loop over places needs no closure, whose calls would need a proof
 #![expect(clippy::manual_map)] // a `match` needs no closure, whose calls would need a proof
-#![expect(clippy::needless_range_loop)] // a loop over places lends no cell, whose last value would need a proof
 
 mod realms;
 mod traits;

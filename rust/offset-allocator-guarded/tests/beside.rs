@@ -59,6 +59,9 @@ fn values_are_those_of_a_map() {
                 let ticket = recent(&tickets, number / 4);
                 let value = model.get(&key(ticket)).map(|(_, value)| value);
                 assert_eq!(names.get(ticket), value);
+                // by the name alone it is the last that was put there, of whatever grant
+                let under = model.values().find(|(kept, _)| kept.name() == ticket.name());
+                assert_eq!(names.under(ticket.name()), under.map(|(kept, value)| (*kept, value)));
                 // a ticket counts by name, serial and realm
                 let (offset, name, serial, realm) = ticket.to_parts();
                 let moved = Ticket::from_parts(offset ^ 1, name, serial, realm).unwrap();
@@ -153,6 +156,25 @@ fn closures_are_taken_and_lent() {
     let mut again = |_| unreachable!();
     space.compact_unaligned(&mut again);
     space.compact_by(8, &mut again);
+}
+
+#[test]
+fn a_move_finds_its_value() {
+    let mut space = Guarded::<u32>::with_realm(Global, 100, 10, 1).unwrap();
+    let mut names = Beside::new(Global);
+    let [one, two, three] = [10, 20, 30].map(|size| space.allocate(size).unwrap());
+    for (ticket, name) in [(one, "one"), (two, "two"), (three, "three")] {
+        assert_eq!(names.put(&space, ticket, name), Ok(None));
+    }
+    assert!(space.free(one) && names.take(one) == Some("one"));
+    let mut moved = Vec::new();
+    space.compact_unaligned(|range| moved.push((range.to, names.under(range.allocation().name()))));
+    assert_eq!(moved, [(0, Some((two, &"two"))), (20, Some((three, &"three")))]);
+    // a name without a cell, one without a value, and one whose value is of an earlier grant
+    assert_eq!((names.under(9), names.under(u32::MAX), names.under(one.name())), (None, None, None));
+    assert!(space.free(two));
+    let later = space.allocate(5).unwrap();
+    assert_eq!((later.name(), names.get(later), names.under(later.name())), (two.name(), None, Some((two, &"two"))));
 }
 
 #[test]
