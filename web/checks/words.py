@@ -106,8 +106,10 @@ def figures_name_their_heap(b):
     for j, name, size in ((0, "meshes", "1,000 units (250 KiB)"), (1, "textures", "500 units (125 KiB)")):
         b.run("return openPart(arguments[0], 12)", j)
         holds(b.run(NOW)[2].startswith(f"In heap {j} “{name}”, of {size}: "), f"of heap {j}", b.run(NOW)[2])
+        same(b.run("return [...document.querySelectorAll('h2:has(.ofheap)')].map(e => e.textContent)"), [f"The space now: heap {j} “{name}”", f"Lives: heap {j} “{name}”"], "so do the heads")
     give(b, "space 1000 nodes 64 index 32\nalloc 300\n", "one.script")
     holds(b.run(NOW)[2].startswith("1,000 units: "), "of one space as before", b.run(NOW)[2])
+    same(b.run("return [...document.querySelectorAll('h2:has(.ofheap)')].map(e => e.textContent)"), ["The space now", "Lives"], "without a heap")
 
 
 def alignments_are_in_units(b):

@@ -128,6 +128,7 @@ const lineAt = (run, p) => p ? run.lines[Math.min(p, run.lines.length) - 1] || r
 function showHeaps() {
   const { file } = S.run, isShown = Boolean(file && isSeveral(file));
   $('heaps').hidden = !isShown; $('exportall').hidden = !isShown;
+  for (const of of document.querySelectorAll('.ofheap')) of.textContent = isShown ? `: ${nameOfPart(file, S.part)}` : '';
   if (!isShown) return;
   const { parts, others } = file;
   file.refused ??= others.filter(isUngranted).length; file.left ??= parts.reduce((sum, of) => sum + of.seen.live, 0);
