@@ -124,7 +124,7 @@ def heaps_are_asked(b):
                 holds(granted_there(HEAPS, part, line, calls).startswith("grant "), f"{helps[j]}: is so in that heap", calls)
     b.run("return toUngranted(0)")
     tried(b)
-    same(b.run(STATE)[3:5], ["Line 16: alloc 700 “sky” is refused by all heaps", ["no heap grants it, and the limits admit no other heap", "in 2 heaps too few units are free", "asked: 700 units, rounded up to 704",
+    same(b.run(STATE)[3:5], ["Line 16: alloc 700 “sky” is refused by all heaps", ["no heap grants it, and the limits admit no other heap", "in 1 heap the request is too large for the space, in 1 heap too few units are free", "asked: 700 units, rounded up to 704",
          "there were 2 heaps, with 850 units free in all; the largest request without alignment that one granted was 384 units, of heap 0 “meshes”"]], "why")
     # heap 0 has 300 units at 0, 100 at 512; the step is 256. Heap 1 has 200 units free at 0, 100 at 200, 250 at 300, and 50 free
     same(said[0], ["a larger limit on heaps, “most” (“most_larger”, where it is too large for a usual heap): then one more heap is made, and grants it",
@@ -228,13 +228,13 @@ def advice_keeps_alignments(b):
     play(b, text)
     to(b, 4)
     facts, helps = b.run(STATE)[4:]
-    same(facts[-1], "alignments are kept where ranges slide by multiples of 256 (the step): compact 256 moves no range: each free block before one is smaller than that", "holes below the step")
+    same(facts[-1], "alignments are kept where ranges slide by multiples of 256 units (the step): compact 256 moves no range: each free block before one is smaller than that", "holes below the step")
     same([facts[0], helps[0]], ["no free block is large enough: for the request rounded up. A tight request (allocate_tight) would be granted", "compact: after it the request is granted; but it breaks the alignment of grant 2 (256), grant 3 (256)"], "what a plain one would break")
     play(b, "space 1024 nodes 32 index 32\nalloc 200\nalign 200 64\nalloc 200\nalign 100 64\nfree 1\nfree 3\nalign 500 64\n")
     to(b, 7)
     helps = b.run(STATE)[5]
-    holds(helps[0] == "compact 64: after it the request is granted; ranges slide by multiples of 64, so each keeps its alignment" and not any(help.startswith("compact:") for help in helps), "the step", helps)
-    holds(any(help.startswith("move ") and help.endswith("; by multiples of 64, so each keeps its alignment") for help in helps), "room by the step", helps)
+    holds(helps[0] == "compact 64: after it the request is granted; ranges slide by multiples of 64 units, so each keeps its alignment" and not any(help.startswith("compact:") for help in helps), "the step", helps)
+    holds(any(help.startswith("move ") and help.endswith("; by multiples of 64 units, so each keeps its alignment") for help in helps), "room by the step", helps)
     b.run("[...document.querySelectorAll('#helps button')].find(e => e.textContent.startsWith('move')).click()")
     until(b, "S.run !== S.base", "room")
     same(b.run("return [said(...S.run.call(6)), answered(S.run, S.p - 1).slice(0, 6)]"), ["room 500 64 64", "grant "], "which is shown")

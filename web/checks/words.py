@@ -170,6 +170,14 @@ def names_are_beside_their_request(b):
     same(b.run("return $('whytitle').textContent"), "Row 1: alloc 10 “sky” is refused", "of one space too")
 
 
+def a_click_is_named(b):
+    """Beside what would have helped it is said that a click shows it, where one does."""
+    b.open()
+    give(b, "space 100 nodes 16 index 32\nalloc 60\nalloc 50\nrelocate 1\n", "one.script")
+    found = b.run("return [2, 3].map(p => { go(p); return [$('helped').innerText.split('\\n')[0], $('helps').querySelectorAll('button').length > 0]; })")
+    same(found, [["What would have helped (a click shows it):", True], ["What would have helped:", False]], "what helps can be shown, or is none")
+
+
 def lists_and_labels_are_whole(b):
     """Nothing of the list of what no heap granted is over another; labels of offsets, and the words of an axis, are whole."""
     text = TIGHT.replace("none align 290 4 full\n", "# a texture of which the name is long\nnone align 290000000 4096 full\n") + \
@@ -200,4 +208,4 @@ def lists_and_labels_are_whole(b):
 
 
 ALL = [a_tight_request_is_named, the_largest_request_has_its_alignment, advice_says_which_limit, why_in_each_heap, figures_name_their_heap, alignments_are_in_units,
-       ranges_are_called_ranges, the_refusal_has_its_number, names_are_beside_their_request, lists_and_labels_are_whole]
+       ranges_are_called_ranges, the_refusal_has_its_number, names_are_beside_their_request, a_click_is_named, lists_and_labels_are_whole]

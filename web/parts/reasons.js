@@ -68,7 +68,7 @@ function brokenBy(run, moved) {
 function* compacted(out, run, p, then, calls = [out.call]) {
   const step = stepAt(run, p - 1);
   if (step > 1 && (yield* granted(run, p, [[OP.compactBy, step], ...calls])))
-    return out.help(`compact ${step}: after it ${then}; ranges slide by multiples of ${amount(step)}, so each keeps its alignment`, [[OP.compactBy, step], ...calls], { kind: 'compact' });
+    return out.help(`compact ${step}: after it ${then}; ranges slide by multiples of ${units(step)}, so each keeps its alignment`, [[OP.compactBy, step], ...calls], { kind: 'compact' });
   const moved = yield* granted(run, p, [[OP.compact], ...calls]), broken = moved && brokenBy(run, moved);
   if (moved) out.help(`compact: after it ${then}${broken ? `; but it ${broken}` : step === 1 ? '' : '; here each range keeps its alignment'}`, [[OP.compact], ...calls], { kind: 'compact', breaks: Boolean(broken) });
 }
@@ -89,7 +89,7 @@ function* stepFact(out, run, p) {
   const moved = yield* granted(run, p, [slideOf(step)]);
   if (!moved) return;
   const largest = run.copy.play(Uint32Array.from(filled([OP.report])))[5];
-  out.facts.push(`alignments are kept where ranges slide by multiples of ${amount(step)} (the step): ` + (moved.length ?
+  out.facts.push(`alignments are kept where ranges slide by multiples of ${units(step)} (the step): ` + (moved.length ?
     `compact ${step} moves ${counted(moved.length / 2, 'range')}, and the largest request granted without alignment is ${units(largest)} then` : `compact ${step} moves no range: each free block before one is smaller than that`));
 }
 const ofName = name => name ? ` “${name}”` : '';
@@ -156,7 +156,7 @@ function* evicted(out, run, p, before, need, fits, request, isOut = run.row(p - 
   for (const room of byStep ? [byStep, [OP.room, need]] : [[OP.room, need]]) {
     const moved = need <= LARGEST && !kept ? yield* granted(run, p, [room, out.call]) : null;
     if (!moved) continue;
-    const broken = room === byStep ? '' : brokenBy(run, moved), said = room !== byStep ? (broken ? `; but it ${broken}` : '') : step > 1 ? `; by multiples of ${amount(step)}, so each keeps its alignment` : '';
+    const broken = room === byStep ? '' : brokenBy(run, moved), said = room !== byStep ? (broken ? `; but it ${broken}` : '') : step > 1 ? `; by multiples of ${units(step)}, so each keeps its alignment` : '';
     if (moved.length) one('move', [...moved].filter((_, i) => i % 2 === 0).map(k => run.rangeOf(k, p - 1)), [room, out.call], 'outlined', said, 'move', broken);
     break;
   }

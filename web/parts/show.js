@@ -140,6 +140,7 @@ function told(e) {
     button.onclick = () => showHelp(help);
     return button;
   }));
+  $('clicks').hidden = !$('helps').querySelector('button');
   helps = e.helps; showSpace();
 }
 // The space as it would be with what helps: its calls in place of the refused one, or the run with more nodes beside this one.
