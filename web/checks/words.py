@@ -72,6 +72,14 @@ def the_largest_request_has_its_alignment(b):
     same(fact, "largest free block: 900 units; free in all: 900 units; largest request granted now at a multiple of 16 units: 881 units; without alignment: 896 units, since requests are rounded up", "of one space too")
     before = "space 1000 nodes 32 index 32\nalloc 100\n"
     same([recorded(f"{before}align {n} 16\n")[0].splitlines()[-1] == "none" for n in (881, 882)], [False, True], "which is so")
+    # an aligned request may need one block more: of a limit of 4, with two blocks, none is granted
+    small = "space 1000 nodes 4 index 32\nalloc 100\n"
+    same([recorded(f"{small}{call}\n")[0].splitlines()[-1] == "none" for call in ("align 1 16", "alloc 896")], [True, False], "at the node limit")
+    give(b, f"{small}align 950 16\n", "small.script")
+    b.run("go(2)")
+    holds("granted now at a multiple of 16 units: 0 units; without alignment: 896 units" in b.run("return $('facts').textContent") and "a smaller request" not in b.run("return $('helps').textContent"), "none is said to be", b.run(STATE))
+    give(b, "heap 0 " + small.replace("alloc", "heap 0 alloc") + "none align 950 16 full\n", "small.script")
+    holds("there was 1 heap, with 900 units free in all; none granted a request at a multiple of 16 units" in at(b, 0)[1], "of heaps too", b.run(STATE))
 
 
 def advice_says_which_limit(b):

@@ -53,7 +53,7 @@ async function surveyed(file, bytes, work) {
       for (; i < of.lines.length && step(of.lines[i]) <= s; i++) { before = run.used.list[i]; highest = Math.max(highest, before); }
       curve[s] = highest / size;
     }
-    of.used = run.used.copy(run.count).whole(); of.largest = Uint32Array.from(of.lines, (_, i) => run.rows.list[8 * i + 5]); of.sizes = run.sizes;
+    of.used = run.used.copy(run.count).whole(); [of.largest, of.blocks] = [5, 6].map(word => Uint32Array.from(of.lines, (_, i) => run.rows.list[8 * i + word])); of.sizes = run.sizes;
     of.seen = { size: run.sizeAt(run.count), most: most(run.used.list, run.count, 1, 0), live: of.end ? 0 : run.lifeCount - run.ends.length, units: of.end ? 0 : run.usedAt(run.count), refused: run.refusals.length, curve };
   }
 }

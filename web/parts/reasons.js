@@ -22,6 +22,8 @@ const amount = n => whole(n) + (S.unit ? ` (${inBytes(n)})` : '');
 // What an alignment adds to a request in words; and what the numbers of an aligned request are, within parentheses.
 const atMultiple = a => a > 1 ? ` at a multiple of ${units(a)}` : '';
 const meaning = (n, a) => a > 1 ? ` (${[n, a].map(v => counted(v, 'unit') + (S.unit ? `, ${inBytes(v)}` : '')).join(`${S.unit ? ',' : ''} at a multiple of `)})` : '';
+// The largest request at a multiple of `align` where `largest` is that without alignment: it may need one block more.
+const largestAt = (align, largest, blocks, limit) => align === 1 ? largest : blocks + 3 > limit ? 0 : Math.max(0, largest - align + 1);
 // The call that asks for as many units from any free block that holds them, and the name that it has in a program.
 const tightOf = (n, align) => align > 1 ? [OP.tightAligned, n, align] : [OP.tight, n];
 const tightName = align => align > 1 ? 'allocate_tight_aligned' : 'allocate_tight';
@@ -180,10 +182,10 @@ function* asked(out, run, p, n, align, before, size) {
   const step = stepAt(run, p - 1), reason = why === 4 && step !== 1 ? 'no free block is large enough' : REASONS[why];
   const tightCall = tightOf(n, align), isTightGranted = why !== 1 && n > 0 && (align > 1 || big >= n) && (yield* granted(run, p, [tightCall]));
   out.facts.push(isTightGranted ? `${reason}: for the request rounded up${align > 1 ? ' with its alignment' : ''}. A tight request (${tightName(align)}) would be granted` : reason);
-  const aligned = align > 1 ? `${atMultiple(align)}, so a block for ${amount(need)}` : '', most = largest - align + 1;
+  const aligned = align > 1 ? `${atMultiple(align)}, so a block for ${amount(need)}` : '', most = largestAt(align, largest, count, limit);
   out.facts.push(`asked: ${units(n)}${aligned}; rounded up to class ${c}: ` +
     (c < BINS ? units(value) : 'more than any block has'));
-  out.facts.push(`largest free block: ${units(big)}; free in all: ${units(all)}; largest request granted now${align > 1 ? `${atMultiple(align)}: ${units(Math.max(0, most))}; without alignment` : ' without alignment'}: ${units(largest)}${largest > 0 && largest < big ? ', since requests are rounded up' : ''}`);
+  out.facts.push(`largest free block: ${units(big)}; free in all: ${units(all)}; largest request granted now${align > 1 ? `${atMultiple(align)}: ${units(most)}; without alignment` : ' without alignment'}: ${units(largest)}${largest > 0 && largest < big ? ', since requests are rounded up' : ''}`);
   out.facts.push(`blocks: ${whole(count)} of at most ${whole(limit - 1)}`);
   if (why === 4) yield* stepFact(out, run, p);
   yield* compacted(out, run, p, 'the request is granted');

@@ -56,13 +56,13 @@ function toUngranted(i) {
   if (!there.length || there.some(h => h.j === S.part)) return jump(rowAtLine(S.run, line), i);
   return openPart(largestOf(file, there).j, line, false, null, i);
 }
-// The heaps that there were at a line, with their free units and the largest request that each granted then.
-function heapsAt(file, line) {
+// The heaps that there were at a line, with their free units and the largest request, at a multiple of `align`, that each granted then.
+function heapsAt(file, line, align = 1) {
   const there = [];
   for (const [j, of] of file.parts.entries()) {
     if (of.from > line || (of.to !== null && of.to <= line)) continue;
     const p = rowAtLine(of, line), size = of.sizes.findLast(([row]) => row <= p)[1];
-    there.push({ j, p, free: size - (p ? of.used[p - 1] : 0), largest: p ? of.largest[p - 1] : valueOf(classOf(size)) });
+    there.push({ j, p, free: size - (p ? of.used[p - 1] : 0), largest: largestAt(align, p ? of.largest[p - 1] : valueOf(classOf(size)), p ? of.blocks[p - 1] : 1, of.head[1]) });
   }
   return there;
 }
@@ -122,13 +122,13 @@ const titleOfUngranted = other => `Line ${whole(other.line)}: ${saidOf(other)[0]
 // Why no heap granted a request, and what would have helped, and in which heap.
 async function explainUngranted(file, i, turns) {
   const other = file.others[i], { line, n, a, why, isTight: tight } = other, isKept = other.kind === OTHER.kept;
-  const [, reason] = saidOf(other), there = heapsAt(file, line), free = addedUp(file, there.map(h => [h.j, h.free]));
+  const [, reason] = saidOf(other), there = heapsAt(file, line, a), free = addedUp(file, there.map(h => [h.j, h.free]));
   const out = { title: titleOfUngranted(other), facts: [reason], helps: [] };
   const best = largestOf(file, there), heap = j => nameOfPart(file, j), need = n + a - 1, value = valueOf(roundedUp(Math.min(LARGEST, need)));
-  const most = best && best.largest - a + 1, multiple = inUnitOf(unitOfRequest(file), () => atMultiple(a));
+  const multiple = inUnitOf(unitOfRequest(file), () => atMultiple(a));
   if (n) inUnitOf(unitOfRequest(file), () => out.facts.push(`asked: ${units(n)}${multiple}${tight ? ', not rounded up' : `${a > 1 ? `, so a block for ${amount(need)}` : ''}${value > need ? `, rounded up to ${amount(value)}` : ''}`}`));
   out.facts.push(`there ${there.length === 1 ? 'was' : 'were'} ${counted(there.length, 'heap')}${free ? `, with ${free} free in all` : ''}` +
-    (!best || tight ? '' : most > 0 ? `; the largest request${multiple || ' without alignment'} that one granted was ${units(most, unitOf(file, best.j))}, of ${heap(best.j)}` : `; none granted a request${multiple}`));
+    (!best || tight ? '' : best.largest ? `; the largest request${multiple || ' without alignment'} that one granted was ${units(best.largest, unitOf(file, best.j))}, of ${heap(best.j)}` : `; none granted a request${multiple}`));
   if (!isKept) out.helps.push(...inUnitOf(unitOfRequest(file), () => NO_HEAP[why](other)).map(text => ({ text })));
   if (n === 0 || (why === 0 && !isKept)) return out;
   const request = tight ? tightOf(n, a) : a > 1 ? [1, n, a] : [0, n], found = [], runs = [];
@@ -136,9 +136,9 @@ async function explainUngranted(file, i, turns) {
   const refusing = REASONS.map(() => 0);
   let block = null;
   for (const h of asked) {
-    const run = await askedOf(file, h, request, turns), row = run.row(run.count - 1), n = run.view(run.count - 1).free.largest;
+    const run = await askedOf(file, h, request, turns), row = run.row(run.count - 1), room = run.view(run.count - 1).free.largest;
     runs.push([h, run]);
-    if (!block || inAll(file, h.j, n) > inAll(file, block.j, block.n)) block = { j: h.j, n };
+    if (!block || inAll(file, h.j, room) > inAll(file, block.j, block.n)) block = { j: h.j, n: room };
     if (row[0] === ANSWER.grant) { out.facts.push(isKept ? `${heap(h.j)} has room for it, but a range is relocated neither within its heap nor to one with fewer live units` : `${heap(h.j)} would have granted it, though the file says that none did`); continue; }
     refusing[row[7]]++;
     for (const help of (await explainedBy(run, turns, unitOf(file, h.j))).helps) if (help.kind) found.push({ ...help, h });
