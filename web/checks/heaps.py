@@ -415,7 +415,7 @@ def each_heap_has_its_unit(b):
     give(b, UNITS.replace("#! unit 32 heap 0\n", ""), "one.script")
     same([b.run(shown)[0], b.run(shown)[3], b.run(cells)[0][0]], [0, "2 ranges, of units that differ, and are not added up.", "6,000"], "where one is not known nothing is added up")
     give(b, UNITS.replace(" heap 0\n", "\n").replace(" heap 1\n", "\n"), "before.script")
-    same([b.run(shown), b.run(cells)[0][0]], [[65536, "65536", "6,000 units (375 MiB)", "2 ranges, 1,040 units (65.0 MiB)."], "375 MiB"], "a mark without a heap is of all")
+    same([b.run(shown), b.run(cells)[0][0]], [[65536, "65536", "In heap 0 “meshes”, of 6,000 units (375 MiB)", "2 ranges, 1,040 units (65.0 MiB)."], "375 MiB"], "a mark without a heap is of all")
 
 
 REFUSING = """# meshes
