@@ -234,7 +234,7 @@ def places_and_classes_in_bytes(b):
     same([r[1] for r in b.run(ROWS, "#ranges")], [exactly(1600 * o) for o in range(0, 900, 100)], "the offsets of ranges, each exactly")
     titles = "return [...document.querySelectorAll(arguments[0])].map(r => [...r.children].map(c => c.title))"
     same(b.run(titles, "#ranges .row")[3][:3], ["", "offset 300", "100 units"], "with units as tooltips")
-    same(b.run("go(17); return [...document.querySelectorAll('#calls .row')].find(r => r.textContent.includes('align 100 256')).children[1].title"), "100 units (156 KiB), a multiple of 256 units (400 KiB)", "calls in bytes as tooltips")
+    same(b.run("go(17); return [...document.querySelectorAll('#calls .row')].find(r => r.textContent.includes('align 100 256')).children[1].title"), "100 units (156 KiB), at a multiple of 256 units (400 KiB)", "calls in bytes as tooltips")
     b.run("go(9); document.activeElement.blur()")
     b.keys("b", "b")
     same(b.run("return $('block').textContent"), "Grant 2 at 100 (156.25 KiB): 100 units (156 KiB), class 36 (96 to 103 units, 150 KiB to 161 KiB), live since row 2.", "the chosen block")
@@ -251,7 +251,7 @@ def places_and_classes_in_bytes(b):
     facts = b.run("return [3, 4, 5].map(p => { go(p); return [...$('facts').children].map(e => e.textContent); })")
     same([facts[0][0], facts[1], facts[2][1]],
          ["grant 1 has 100 units (156 KiB), at 0", ["asked: 100 units (156 KiB) from 150 (234.375 KiB) on; the space has 1,000 units (1.53 MiB)", "in its way: grant 2 at 100 (156.25 KiB), 100 units (156 KiB)"],
-          "asked: 900 units (1.37 MiB) at a multiple of 64 (100 KiB), so a block for 963 (1.47 MiB); rounded up to class 64: 1,024 units (1.56 MiB)"], "reasons")
+          "asked: 900 units (1.37 MiB) at a multiple of 64 units (100 KiB), so a block for 963 (1.47 MiB); rounded up to class 64: 1,024 units (1.56 MiB)"], "reasons")
     same(b.run("S.unit = 48; return [0, 1, 4, 1000, 4194304, 4294967295].map(place)"),
          ["0", "1 (48 B)", "4 (192 B)", f"1,000 ({exactly(48000)})", f"4,194,304 ({exactly(48 << 22)})", f"4,294,967,295 ({exactly(48 * 4294967295)})"], "from bytes on")
     b.run("$('unit').value = ''; return $('unit').onchange()")

@@ -105,7 +105,7 @@ def heaps_are_rows(b):
         for row_ in rows:
             live = {} if row_["end"] else lived(row_["calls"], of[id(row_)])
             size = row_["size"] + 9 * sum(a == "extended" for a in of[id(row_)])
-            expected.append([row_["name"], f"{size:,}", f"{len(live):,}, {sum(live.values()):,}", f"{len(row_['calls']):,}", row_["end"]])
+            expected.append([row_["name"], f"{size:,}", f"{len(live):,} range{'s' * (len(live) != 1)}, {sum(live.values()):,}", f"{len(row_['calls']):,}", row_["end"]])
         same([[c[0], c[1], c[2], c[4], c[6]] for c in listed], expected, f"a row for each of {len(rows)} heaps")
         same(b.run("return $('heapsum').textContent").split(". ")[-1], f"{refused} requests that no heap granted.", "and the requests that none granted")
         same(b.run("return L.others.count"), refused, "which are listed")
@@ -124,14 +124,15 @@ def heaps_are_rows(b):
     facts = "return [$('whytitle').textContent, ...[...$('facts').children].map(e => e.textContent)]"
     tried = lambda: until(b, "!Work.now && !/being tried/.test($('helps').textContent)", "what would have helped")
     tried()
-    same(b.run(facts), ["Line 5: alloc 800 is refused by all heaps", "no heap has room, and no other may be made", "asked: 800 units, rounded up to 832",
-         "there were 2 heaps, with 800 units free in all; the largest request that one granted was 640 units, of heap 0"], "what the heaps had when a request was refused")
+    same(b.run(facts), ["Line 5: alloc 800 is refused by all heaps", "no heap grants it, and the limits admit no other heap", "in 2 heaps too few units are free", "asked: 800 units, rounded up to 832",
+         "there were 2 heaps, with 800 units free in all; the largest request without alignment that one granted was 640 units, of heap 0"], "what the heaps had when a request was refused")
     b.run("showUngranted(1)")
     same(b.run("return $('told').textContent"), "Line 7: a place that is not live: gone.", "a place that is not live")
     b.run("showUngranted(2)")
     tried()
-    same(b.run(facts)[:4], ["Line 9: relocate 7 units at a multiple of 4 is refused", "no other heap takes it", "asked: 7 units at a multiple of 4, so a block for 10",
-         "there was 1 heap, with 1,000 units free in all; the largest request that one granted was 960 units, of heap 0"], "and when a range stayed")
+    same(b.run(facts), ["Line 9: relocate 7 units at a multiple of 4 units is refused", "no other heap takes it", "asked: 7 units at a multiple of 4 units, so a block for 10",
+         "there was 1 heap, with 1,000 units free in all; the largest request at a multiple of 4 units that one granted was 957 units, of heap 0",
+         "heap 0 has room for it, but a range is relocated neither within its heap nor to one with fewer live units"], "and when a range stayed")
     give(b, text, "many.script")
     b.run("return openPart(2)")
     b.run("go(2)")
@@ -395,26 +396,26 @@ def each_heap_has_its_unit(b):
     shown = "return [S.unit, $('unit').value, $('reports').textContent.split(':')[0], $('heapsum').textContent.split(': ').at(-1).split(' 1 request')[0]]"
     # the units of rows are in the cells of size, of what is live, and of the most
     cells = "return [...document.querySelectorAll('#heaprows .row')].map(r => [...r.querySelectorAll('.u')].map(c => c.textContent))"
-    ours = [["188 KiB", "1, 32.0 KiB", "32.0 KiB"], ["32.0 MiB", "1, 1.00 MiB", "1.00 MiB"]]
+    ours = [["188 KiB", "1 range, 32.0 KiB", "32.0 KiB"], ["32.0 MiB", "1 range, 1.00 MiB", "1.00 MiB"]]
     b.open()
     give(b, UNITS, "units.script")
-    same([b.run(shown), b.run(cells)], [[32, "32", "6,000 units (188 KiB)", "2 ranges, 1.03 MiB."], ours], "each heap is shown in its own unit, and the sum in bytes")
+    same([b.run(shown), b.run(cells)], [[32, "32", "In heap 0 “meshes”, of 6,000 units (188 KiB)", "2 ranges, 1.03 MiB."], ours], "each heap is shown in its own unit, and the sum in bytes")
     b.run("return openPart(1)")
-    same([b.run(shown), b.run(cells)], [[65536, "65536", "512 units (32.0 MiB)", "2 ranges, 1.03 MiB."], ours], "also where the other is open")
+    same([b.run(shown), b.run(cells)], [[65536, "65536", "In heap 1 “textures”, of 512 units (32.0 MiB)", "2 ranges, 1.03 MiB."], ours], "also where the other is open")
     b.run("return writeText(S.run, new Work('Writing')).then(made => made.text()).then(text => window.written = text)")
     same(b.run("return written.split('\\n').slice(0, 2)"), ["space 512 nodes 16 index 32", "#! unit 65536"], "what is saved of it has its unit")
     b.run("showUngranted(0)")
-    until(b, "$('why').textContent.includes('one more heap')", "what would have helped")
+    until(b, "$('why').textContent.includes('a larger limit on heaps')", "what would have helped")
     # 9,000 units are of no heap: 4,240 more of 32 bytes would do in the first, and it granted 4,608
-    same(b.run("return [$('whytitle').textContent, ...[...$('helps').children].map(e => e.textContent)]"), ["Line 9: alloc 9000 is refused by all heaps", "one more heap, of at least 9,000 units",
+    same(b.run("return [$('whytitle').textContent, ...[...$('helps').children].map(e => e.textContent)]"), ["Line 9: alloc 9000 is refused by all heaps", "a larger limit on heaps, “most” (“most_larger”, where it is too large for a usual heap): then one more heap is made, and grants it",
          "in heap 0 “meshes”: 4,240 units (133 KiB) more space (extend 4240): then it is granted", "in heap 0 “meshes”: a smaller request: at most 4,608 units (144 KiB)"], "each heap's units are its own in bytes")
-    same(b.run("return [...$('facts').children].map(e => e.textContent).find(text => text.startsWith('there'))"), "there were 2 heaps, with 31.2 MiB free in all; the largest request that one granted was 480 units (30.0 MiB), of heap 1 “textures”",
+    same(b.run("return [...$('facts').children].map(e => e.textContent).find(text => text.startsWith('there'))"), "there were 2 heaps, with 31.2 MiB free in all; the largest request without alignment that one granted was 480 units (30.0 MiB), of heap 1 “textures”",
          "of a request that no heap granted the largest is that in bytes")
     # without the unit of the first, and with one of all
     give(b, UNITS.replace("#! unit 32 heap 0\n", ""), "one.script")
     same([b.run(shown)[0], b.run(shown)[3], b.run(cells)[0][0]], [0, "2 ranges, of units that differ, and are not added up.", "6,000"], "where one is not known nothing is added up")
     give(b, UNITS.replace(" heap 0\n", "\n").replace(" heap 1\n", "\n"), "before.script")
-    same([b.run(shown), b.run(cells)[0][0]], [[65536, "65536", "6,000 units (375 MiB)", "2 ranges, 1,040 units (65.0 MiB)."], "375 MiB"], "a mark without a heap is of all")
+    same([b.run(shown), b.run(cells)[0][0]], [[65536, "65536", "In heap 0 “meshes”, of 6,000 units (375 MiB)", "2 ranges, 1,040 units (65.0 MiB)."], "375 MiB"], "a mark without a heap is of all")
 
 
 REFUSING = """# meshes

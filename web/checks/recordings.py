@@ -145,7 +145,7 @@ def each_line_is_played(b):
     same(listed, [[f"{i + 1}", call, answer] for i, (call, answer) in enumerate(zip(calls, rows))], "each is listed with its answer")
     state = "go(arguments[0]); const r = S.run, p = S.p, v = r.view(p), live = {}, lives = {}; for (const x of v.blocks) if (x.k) live[x.k] = x.o; " \
         "for (let l = 0; l < r.lifeCount; l++) { const f = r.life(l); if (f.from <= p && p < f.to) lives[f.k] = f.o; } " \
-        "return [live, lives, v.blocks.reduce((s, x) => s + x.n, 0) - r.sizeAt(p), $('now').textContent.startsWith(`Row ${p}: ${arguments[1]}: ${arguments[2]}`)]"
+        "return [live, lives, v.blocks.reduce((s, x) => s + x.n, 0) - r.sizeAt(p), $('now').textContent.replace(/ \\([\\d,]+ units? at a multiple of [\\d,]+ units?\\):/, ':').startsWith(`Row ${p}: ${arguments[1]}: ${arguments[2]}`)]"
     grants = sum(answer.startswith("grant ") for answer in rows)
     for p, (call, answer) in enumerate(zip(calls, rows), 1):
         asked = recorded("\n".join(lines[:p + 1] + [f"offset {k}" for k in range(1, grants + 1)]) + "\n")[0].splitlines()[-grants:]

@@ -65,7 +65,7 @@ def tried(head, before, call, helps, what):
         if outcome(more, [*before, call])[1] == outcome(head, [*before, call])[1]:
             assert is_done(more, [*before, call]), (what, n)
             assert not is_done(head.replace(f"nodes {nodes} ", f"nodes {n - 1} "), [*before, call]), (what, n - 1)
-    for n, a in re.findall(r"a smaller request: at most ([\d,]+) units?(?: at a multiple of ([\d,]+))?", said):
+    for n, a in re.findall(r"a smaller request: at most ([\d,]+) units?(?: at a multiple of ([\d,]+) units?)?", said):
         n, ask = int(n.replace(",", "")), (lambda n: f"align {n} {a}" if a else f"alloc {n}")
         assert n < int(numbers[0]) and a == (numbers[1] if name == "align" and numbers[1] != "1" else ""), (what, n, a)
         assert is_done(head, [*before, ask(n)]) and not is_done(head, [*before, ask(n + 1)]), (what, n)
@@ -161,7 +161,7 @@ def are_found(b):
     same(b.run("return $('whytitle').textContent"), "Row 14: alloc 300 is refused", "the refusal")
     same(b.run("return [...$('facts').children].map(e => e.textContent)"),
          ["no free block is large enough until the space is compacted", "asked: 300 units; rounded up to class 50: 320 units",
-          "largest free block: 100 units; free in all: 500 units; largest request granted now: 96 units, since requests are rounded up", "blocks: 10 of at most 31"],
+          "largest free block: 100 units; free in all: 500 units; largest request granted now without alignment: 96 units, since requests are rounded up", "blocks: 10 of at most 31"],
          "size, class, largest free block, and why")
     same(b.run("return [...$('helps').children].map(e => e.textContent)"),
          ["compact: after it the request is granted", "220 units more space (extend 220): then it is granted",
@@ -192,7 +192,7 @@ def tight_is_named(b):
     b.keys("r")
     same(b.run("return [...$('helps').children].map(e => e.textContent)"),
          ["4 units more space (extend 4): then it is granted",
-          "tight 100 in its place: a free block has the 100 units, but not the rounded ones",
+          "tight 100 in its place (allocate_tight): a free block has the 100 units, but not the rounded ones",
           "a smaller request: at most 96 units"], "a tight request is named where a free block has the units")
 
 

@@ -124,15 +124,15 @@ def heaps_are_asked(b):
                 holds(granted_there(HEAPS, part, line, calls).startswith("grant "), f"{helps[j]}: is so in that heap", calls)
     b.run("return toUngranted(0)")
     tried(b)
-    same(b.run(STATE)[3:5], ["Line 16: alloc 700 is refused by all heaps", ["no heap has room, and no other may be made", "asked: 700 units, rounded up to 704",
-         "there were 2 heaps, with 850 units free in all; the largest request that one granted was 384 units, of heap 0 “meshes”"]], "why")
+    same(b.run(STATE)[3:5], ["Line 16: alloc 700 “sky” is refused by all heaps", ["no heap grants it, and the limits admit no other heap", "in 1 heap the request is too large for the space, in 1 heap too few units are free", "asked: 700 units, rounded up to 704",
+         "there were 2 heaps, with 850 units free in all; the largest request without alignment that one granted was 384 units, of heap 0 “meshes”"]], "why")
     # heap 0 has 300 units at 0, 100 at 512; the step is 256. Heap 1 has 200 units free at 0, 100 at 200, 250 at 300, and 50 free
-    same(said[0], ["one more heap, of at least 700 units",
+    same(said[0], ["a larger limit on heaps, “most” (“most_larger”, where it is too large for a usual heap): then one more heap is made, and grants it",
                    "in heap 0 “meshes”: release 2 ranges of 400 units, from 0 to 612 (dashed): grant 1 “rock” of 300 units, grant 2 “tree” of 100 units; then it is granted",
                    "in heap 0 “meshes”: 316 units more space (extend 316): then it is granted", "in heap 0 “meshes”: a smaller request: at most 384 units"], "what would have helped in which heap")
     same(said[3], ["a request for at least 1 unit"], "for no unit")
-    holds(said[2][0].startswith("usual heaps of at least 2,000 units, or one more of the larger heaps"), "for a larger one", said[2])
-    holds(said[4][0].startswith("memory for another heap"), "for memory", said[4])
+    same(said[2][0], "a larger limit on heaps: “size” of at least 2,048 units, so that a usual heap has room for it; or “most_larger” of at least 1, so that a heap is made for it", "for a larger one")
+    same(said[4][0], "more memory for the program", "for memory")
     b.run("return toUngranted(0)")
     tried(b)
     b.run("[...document.querySelectorAll('#helps button')].find(e => e.textContent.includes('more space')).click()")
@@ -161,7 +161,7 @@ def heaps_are_asked(b):
         b.run("return toUngranted(0)")
         tried(b)
         count = 2 if "space" in end else 1
-        fact = b.run(STATE)[4][2]
+        fact = next(fact for fact in b.run(STATE)[4] if fact.startswith("there"))
         holds(fact.startswith(f"there {'were 2 heaps' if count == 2 else 'was 1 heap'}, with {150 if count == 2 else 100} units free") and "96 units" in fact, f"{end}: it is asked no more", fact)
     b.open()
     give(b, "heap 0 space 100 nodes 9 index 32\nheap 0 alloc 10\nheap 0 align 10 4\nnone tight 90 full\nnone tight 80 16 full\n", "tight.script")
@@ -228,13 +228,13 @@ def advice_keeps_alignments(b):
     play(b, text)
     to(b, 4)
     facts, helps = b.run(STATE)[4:]
-    same(facts[-1], "alignments are kept where ranges slide by multiples of 256 (the step): compact 256 moves no range: each free block before one is smaller than that", "holes below the step")
-    same([facts[0], helps[0]], ["no free block is large enough: for the request rounded up", "compact: after it the request is granted; but it breaks the alignment of grant 2 (256), grant 3 (256)"], "what a plain one would break")
+    same(facts[-1], "alignments are kept where ranges slide by multiples of 256 units (the step): compact 256 moves no range: each free block before one is smaller than that", "holes below the step")
+    same([facts[0], helps[0]], ["no free block is large enough: for the request rounded up. A tight request (allocate_tight) would be granted", "compact: after it the request is granted; but it breaks the alignment of grant 2 (256), grant 3 (256)"], "what a plain one would break")
     play(b, "space 1024 nodes 32 index 32\nalloc 200\nalign 200 64\nalloc 200\nalign 100 64\nfree 1\nfree 3\nalign 500 64\n")
     to(b, 7)
     helps = b.run(STATE)[5]
-    holds(helps[0] == "compact 64: after it the request is granted; ranges slide by multiples of 64, so each keeps its alignment" and not any(help.startswith("compact:") for help in helps), "the step", helps)
-    holds(any(help.startswith("move ") and help.endswith("; by multiples of 64, so each keeps its alignment") for help in helps), "room by the step", helps)
+    holds(helps[0] == "compact 64: after it the request is granted; ranges slide by multiples of 64 units, so each keeps its alignment" and not any(help.startswith("compact:") for help in helps), "the step", helps)
+    holds(any(help.startswith("move ") and help.endswith("; by multiples of 64 units, so each keeps its alignment") for help in helps), "room by the step", helps)
     b.run("[...document.querySelectorAll('#helps button')].find(e => e.textContent.startsWith('move')).click()")
     until(b, "S.run !== S.base", "room")
     same(b.run("return [said(...S.run.call(6)), answered(S.run, S.p - 1).slice(0, 6)]"), ["room 500 64 64", "grant "], "which is shown")

@@ -100,7 +100,7 @@ function spaceSheet(run, p, from, to, strip, w0, h, d, old, lines) {
   const [wide, high] = [w0, h].map(v => Math.max(1, Math.round(v * d))), sheet = old?.width === wide && old.height === high ? old : new OffscreenCanvas(wide, high), g = prepared(sheet, d);
   const w = w0 - GUTTER, rh = h / lines, span = (to - from) / lines, c = colors();
   g.textAlign = 'right';
-  for (let y = 0; y < lines && lines === ROWS; y++) g.fillText(short(Math.round(run.scale * (from + y * span))), GUTTER - 4, y * rh + rh / 2);
+  for (let y = 0; y < lines && lines === ROWS; y++) g.fillText(short(Math.round(run.scale * (from + y * span))), GUTTER - 4, y * rh + rh / 2, GUTTER - 6);
   const bar = (x, y, z) => g.fillRect(GUTTER + x, y * rh + 1, z, rh - 2);
   // what is not in the space is not free
   g.fillStyle = c.free; strip(0, run.sizeAt(p), bar);
@@ -193,7 +193,7 @@ function drawLives(id, run, at, isTurn = false) {
   g.fillStyle = c.dim;
   for (const x of flagTicks(run, p0, p1, w)) g.fillRect(GUTTER + Math.round(x), h - 6, 1, 6);
   g.textAlign = 'right';
-  for (const [part0, y] of [[1, 7], [0.5, h / 2], [0, h - 6]]) g.fillText(short(Math.round(run.scale * (o0 + (o1 - o0) * part0))), GUTTER - 4, y);
+  for (const [part0, y] of [[1, 7], [0.5, h / 2], [0, h - 6]]) g.fillText(short(Math.round(run.scale * (o0 + (o1 - o0) * part0))), GUTTER - 4, y, GUTTER - 6);
   g.textAlign = 'left'; g.fillText(`row ${whole(Math.round(p0))}`, GUTTER, h + 9); g.textAlign = 'right'; g.fillText(whole(Math.round(p1 - 1)), w0, h + 9);
 }
 // What comes after the position, in paler colours that still have 3:1 to the background.
@@ -245,7 +245,7 @@ function drawCurves(run, p) {
       for (let x = 0; x < list.length; x++) if (list[x] !== Infinity) s.lineTo(GUTTER + x + 0.5, y(list[x]));
       s.stroke();
     }
-    s.fillStyle = c.dim; s.textAlign = 'right'; s.fillText(short(most), GUTTER - 4, 7); s.fillText('0', GUTTER - 4, h - 6);
+    s.fillStyle = c.dim; s.textAlign = 'right'; s.fillText(short(most), GUTTER - 4, 7, GUTTER - 6); s.fillText('0', GUTTER - 4, h - 6);
     run.curves = { key, used, largest, sheet };
   }
   g.resetTransform(); g.drawImage(run.curves.sheet, 0, 0); g.scale(d, d);
@@ -292,12 +292,13 @@ function drawAxis(run) {
   run.axis.shown = lines;
   for (const [i, [name, labels]] of lines.entries()) {
     g.textAlign = 'right'; g.fillText(name, GUTTER - 4, 15 * i + 8); g.textAlign = 'left';
-    let free = -1;
+    let free = -1, covered = 0;
     for (const [p, text] of labels) {
       const x = (p + 1 - p0) / (p1 - p0) * w, wide = g.measureText(text).width;
-      if (x < 0 || x > w) continue;
+      // no tick within the words of the one before
+      if (x < covered || x > w) continue;
       g.fillRect(GUTTER + x, 15 * i, 1, 5);
-      if (x > free && x + wide + 4 < w) { g.fillText(text, GUTTER + x + 3, 15 * i + 8); free = x + wide + 12; }
+      if (x > free && x + wide + 4 < w) { g.fillText(text, GUTTER + x + 3, 15 * i + 8); covered = x + wide + 5; free = x + wide + 12; }
     }
   }
 }

@@ -1,5 +1,5 @@
 // Many heaps of one file: rows, of which each is opened as a space. Their time is that of the file, in its lines.
-const STEPS = 120, WHY_NOT = ['the request is for no unit', 'the request is larger than any heap may be', 'no heap has room, and no other may be made', 'no memory is left for another heap'];
+const STEPS = 120, WHY_NOT = ['the request is for no unit', 'no heap grants it, and the limits admit none that is large enough', 'no heap grants it, and the limits admit no other heap', 'memory for another heap, or for more nodes, was refused'];
 const nameOfPart = (file, i) => {
   const { heap, title, head, same } = file.parts[i];
   return (heap === null ? (same ? `limit ${whole(head[1])}` : 'as it began') : `heap ${whole(heap)}` + (same ? ` (${whole(same + 1)})` : '')) + (title ? ` “${title}”` : ''); };
@@ -11,6 +11,8 @@ function addedUp(file, list) {
   if (each.every(([, of]) => of === unit)) return units(sum(n => n), unit);
   return each.every(([, of]) => of) ? inBytes(sum((n, of) => n * of), 1) : '';
 }
+// Units of a part in what those of all are compared in: bytes, where units differ.
+const inAll = (file, i, n) => n * (file.units.size ? unitOf(file, i) || 1 : 1);
 const isSeveral = file => file.parts.length > 1 || file.isMany;
 // The ranges of a part that takes the place of another have the names that they had there: its first lines say where they are.
 function carryNames(of) {
@@ -51,13 +53,14 @@ async function surveyed(file, bytes, work) {
       for (; i < of.lines.length && step(of.lines[i]) <= s; i++) { before = run.used.list[i]; highest = Math.max(highest, before); }
       curve[s] = highest / size;
     }
-    of.used = run.used.copy(run.count).whole(); of.largest = Uint32Array.from(of.lines, (_, i) => run.rows.list[8 * i + 5]); of.sizes = run.sizes;
+    of.used = run.used.copy(run.count).whole(); [of.largest, of.blocks] = [5, 6].map(word => Uint32Array.from(of.lines, (_, i) => run.rows.list[8 * i + word])); of.sizes = run.sizes;
     of.seen = { size: run.sizeAt(run.count), most: most(run.used.list, run.count, 1, 0), live: of.end ? 0 : run.lifeCount - run.ends.length, units: of.end ? 0 : run.usedAt(run.count), refused: run.refusals.length, curve };
   }
 }
 function drawHeap(row, i) {
   const { file } = S.run, of = file.parts[i], { seen } = of, unit = unitOf(file, i);
-  cell(row, nameOfPart(file, i), 'h', nameOfPart(file, i)); cell(row, sized(seen.size, unit), 'u'); cell(row, `${whole(seen.live)}, ${sized(seen.units, unit)}`, 'u'); cell(row, sized(seen.most, unit), 'u');
+  cell(row, nameOfPart(file, i), 'h', nameOfPart(file, i)); cell(row, sized(seen.size, unit), 'u'); cell(row, whole(seen.live), 'u live');
+  cell(row.lastChild, seen.live === 1 ? ' range' : ' ranges', 'wide'); row.lastChild.append(`, ${sized(seen.units, unit)}`); cell(row, sized(seen.most, unit), 'u');
   cell(row, whole(of.lines.length), 'n'); cell(row, seen.refused ? whole(seen.refused) : '', seen.refused ? 'n bad first' : 'n bad', seen.refused ? 'Opens it at its first refusal' : ''); cell(row, of.end || '', 'e');
   const c = document.createElement('canvas'); c.className = 'strip'; row.append(c);
   if (i === S.part) row.classList.add('now');
@@ -97,13 +100,13 @@ function drawHeapsNow() {
   if (!file || !isSeveral(file) || !$('allnow').open) return;
   const line = lineNow(), there = [], c = colors(), { inks, names } = typeInks(file);
   for (const [j, of] of file.parts.entries()) if (of.from <= Math.max(line, 1) && (of.to === null || of.to > line)) there.push(j);
-  const shown = there.slice(0, MOST_BARS), sizeOf = j => file.parts[j].sizes.findLast(([p]) => p <= rowAtLine(file.parts[j], line))[1] * (file.units.size ? unitOf(file, j) || 1 : 1);
+  const shown = there.slice(0, MOST_BARS), sizeOf = j => inAll(file, j, file.parts[j].sizes.findLast(([p]) => p <= rowAtLine(file.parts[j], line))[1]);
   const most = shown.reduce((m, j) => Math.max(m, sizeOf(j)), 1), box = $('heapsnow');
   box.style.height = `${BAR * Math.max(1, shown.length)}px`;
   const [g, w0, , d] = canvas(box), left = Math.min(220, w0 / 3), w = w0 - left, drawn = new Coverage(Math.round(w * d), Math.max(1, shown.length), c.inks);
   file.now = shown;
   for (const [y, j] of shown.entries()) {
-    const of = file.parts[j], { o, n, from, to, type } = of.lives, scale = (file.units.size ? unitOf(file, j) || 1 : 1) / most * drawn.wide;
+    const of = file.parts[j], { o, n, from, to, type } = of.lives, scale = inAll(file, j, 1) / most * drawn.wide;
     g.fillStyle = c.free; g.fillRect(left, y * BAR + 2, Math.max(1, sizeOf(j) / most * w), BAR - 4);
     for (let l = 0; l < o.length && from[l] <= line; l++) if (to[l] > line) drawn.add(inks[type[l]], o[l] * scale, y, Math.min(drawn.wide, (o[l] + n[l]) * scale), y + 1);
     g.fillStyle = j === S.part ? c.fg : c.dim; g.fillText(nameOfPart(file, j), 2, y * BAR + BAR / 2, left - 8);
@@ -125,6 +128,7 @@ const lineAt = (run, p) => p ? run.lines[Math.min(p, run.lines.length) - 1] || r
 function showHeaps() {
   const { file } = S.run, isShown = Boolean(file && isSeveral(file));
   $('heaps').hidden = !isShown; $('exportall').hidden = !isShown;
+  for (const of of document.querySelectorAll('.ofheap')) of.textContent = isShown ? `: ${nameOfPart(file, S.part)}` : '';
   if (!isShown) return;
   const { parts, others } = file;
   file.refused ??= others.filter(isUngranted).length; file.left ??= parts.reduce((sum, of) => sum + of.seen.live, 0);
@@ -143,15 +147,16 @@ function showHeaps() {
   if (L.others.of !== file) { L.others.of = file; L.others.set(others.length); }
   $('nogranthead').textContent = `${counted(others.length, 'call')} that changed no heap`;
 }
+// In words: the request, why it was refused, and what its numbers are.
 const saidOf = other => inUnitOf(unitOfRequest(S.run.file), () => requestInWords(other));
 function requestInWords({ kind, n, a, why, isTight }) {
-  if (kind === OTHER.gone) return ['a place that is not live', 'gone'];
-  const request = said(a > 1 ? (isTight ? OP.tightAligned : 1) : isTight ? OP.tight : 0, n, a) + (S.unit && n ? ` (${inBytes(n)})` : '');
-  return kind === OTHER.kept ? [`relocate ${units(n)}${a > 1 ? ` at a multiple of ${whole(a)}` : ''}`, 'no other heap takes it'] : [request, WHY_NOT[why]];
+  if (kind === OTHER.gone) return ['a place that is not live', 'gone', ''];
+  if (kind === OTHER.kept) return [`relocate ${units(n)}${atMultiple(a)}`, 'no other heap takes it', ''];
+  return [said(...isTight ? tightOf(n, a) : a > 1 ? [1, n, a] : [0, n]) + (S.unit && n && a === 1 ? ` (${inBytes(n)})` : ''), WHY_NOT[why], meaning(n, a)];
 }
 function drawOther(row, i) {
-  const other = S.run.file.others[i], [what, why] = saidOf(other);
-  cell(row, whole(other.line), 'n', 'The line of the file'); cell(row, what, 'c'); cell(row, why, other.kind === OTHER.refused ? 'bad' : '', why);
+  const other = S.run.file.others[i], [what, why, means] = saidOf(other);
+  cell(row, whole(other.line), 'n', 'The line of the file'); cell(row, what, 'c', means.slice(2, -1)); cell(row, why, other.kind === OTHER.refused ? 'bad' : '', why);
   if (other.name) cell(row, other.name, 'dim', other.name);
 }
 // A call that changed no heap, where it is chosen.
@@ -159,7 +164,7 @@ function showUngranted(i) {
   const { file } = S.run, other = file.others[i];
   if (isUngranted(other)) return toUngranted(i);
   jump(rowAtLine(S.run, other.line));
-  return say(`Line ${whole(other.line)}: ${saidOf(other).join(': ')}.`);
+  return say(`Line ${whole(other.line)}: ${saidOf(other).slice(0, 2).join(': ')}.`);
 }
 // Opens another part, at the time of the file that is shown, at a line, or at its first refusal.
 async function openPart(i, line = lineAt(S.run, S.p), isAtRefusal = false, row = null, ungranted = null) {

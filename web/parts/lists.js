@@ -45,9 +45,9 @@ class List {
 }
 const cell = (row, text, name, title = '') => {
   const s = document.createElement('span'); s.textContent = text; if (title) s.title = title; if (name) s.className = name; row.append(s); };
-// What the numbers of a call are in bytes, where it is known how many a unit has.
-const AMOUNTS = { n: units, s: v => `multiples of ${units(v)}`, a: v => `a multiple of ${units(v)}` };
-const inWords = (op, of) => S.unit ? [...KINDS[op]].flatMap((kind, j) => kind === 'd' ? [(op === OP.at && j === 0) || (op === OP.within && j === 1) ? `at ${place(of[j])}` : units(of[j])] : AMOUNTS[kind] ? [AMOUNTS[kind](of[j])] : []).join(', ') : '';
+// What the numbers of a call are, where one is an alignment, or it is known how many bytes a unit has.
+const AMOUNTS = { n: units, s: v => `multiples of ${units(v)}`, a: v => `at a multiple of ${units(v)}` };
+const inWords = (op, of) => S.unit || KINDS[op].includes('a') ? [...KINDS[op]].flatMap((kind, j) => kind === 'd' ? [(op === OP.at && j === 0) || (op === OP.within && j === 1) ? `at ${place(of[j])}` : units(of[j])] : AMOUNTS[kind] ? [AMOUNTS[kind](of[j])] : []).join(', ') : '';
 // A row of the calls: its number, the call, its answer, and its name.
 function drawCall(row, i) {
   const run = S.run, p = callAt(i) - 1, [op, ...of] = run.call(p), r = run.row(p);

@@ -19,6 +19,14 @@ const atBytes = n => {
 const place = o => whole(o) + (S.unit && o ? ` (${atBytes(o)})` : '');
 // Numbers of units, as they are and in bytes.
 const amount = n => whole(n) + (S.unit ? ` (${inBytes(n)})` : '');
+// What an alignment adds to a request in words; and what the numbers of an aligned request are, within parentheses.
+const atMultiple = a => a > 1 ? ` at a multiple of ${units(a)}` : '';
+const meaning = (n, a) => a > 1 ? ` (${[n, a].map(v => counted(v, 'unit') + (S.unit ? `, ${inBytes(v)}` : '')).join(`${S.unit ? ',' : ''} at a multiple of `)})` : '';
+// The largest request at a multiple of `align` where `largest` is that without alignment: it may need one block more.
+const largestAt = (align, largest, blocks, limit) => align === 1 ? largest : blocks + 3 > limit ? 0 : Math.max(0, largest - align + 1);
+// The call that asks for as many units from any free block that holds them, and the name that it has in a program.
+const tightOf = (n, align) => align > 1 ? [OP.tightAligned, n, align] : [OP.tight, n];
+const tightName = align => align > 1 ? 'allocate_tight_aligned' : 'allocate_tight';
 const boundsOf = c => [valueOf(c), Math.min(LARGEST, valueOf(c + 1) - 1)], between = ([least, most], shown) => most > least ? `${shown(least)} to ${shown(most)}` : shown(least);
 const sizesOf = c => between(boundsOf(c), whole), bytesOf = c => S.unit ? between(boundsOf(c), inBytes) : '';
 const isRefusal = (run, p) => p > 0 && run.row(p - 1)[0] === ANSWER.refused;
@@ -62,7 +70,7 @@ function brokenBy(run, moved) {
 function* compacted(out, run, p, then, calls = [out.call]) {
   const step = stepAt(run, p - 1);
   if (step > 1 && (yield* granted(run, p, [[OP.compactBy, step], ...calls])))
-    return out.help(`compact ${step}: after it ${then}; ranges slide by multiples of ${amount(step)}, so each keeps its alignment`, [[OP.compactBy, step], ...calls], { kind: 'compact' });
+    return out.help(`compact ${step}: after it ${then}; ranges slide by multiples of ${units(step)}, so each keeps its alignment`, [[OP.compactBy, step], ...calls], { kind: 'compact' });
   const moved = yield* granted(run, p, [[OP.compact], ...calls]), broken = moved && brokenBy(run, moved);
   if (moved) out.help(`compact: after it ${then}${broken ? `; but it ${broken}` : step === 1 ? '' : '; here each range keeps its alignment'}`, [[OP.compact], ...calls], { kind: 'compact', breaks: Boolean(broken) });
 }
@@ -83,15 +91,17 @@ function* stepFact(out, run, p) {
   const moved = yield* granted(run, p, [slideOf(step)]);
   if (!moved) return;
   const largest = run.copy.play(Uint32Array.from(filled([OP.report])))[5];
-  out.facts.push(`alignments are kept where ranges slide by multiples of ${amount(step)} (the step): ` + (moved.length ?
-    `compact ${step} moves ${counted(moved.length / 2, 'range')}, and the largest request granted is ${units(largest)} then` : `compact ${step} moves no range: each free block before one is smaller than that`));
+  out.facts.push(`alignments are kept where ranges slide by multiples of ${units(step)} (the step): ` + (moved.length ?
+    `compact ${step} moves ${counted(moved.length / 2, 'range')}, and the largest request granted without alignment is ${units(largest)} then` : `compact ${step} moves no range: each free block before one is smaller than that`));
 }
+const ofName = name => name ? ` “${name}”` : '';
+const titleOfRefusal = (run, p) => `Row ${whole(p)}: ${said(...run.call(p - 1))}${ofName(run.callName(p - 1))} is refused`;
 // A refused call, p the row after it: what it asked for, why it was refused, and what would have helped: a text, the calls in its
 // place that show it, or the nodes that do, and the units that are outlined. A step at a time, as in a large space each takes
 // its time.
 function* explain(run, p) {
   const [op, a, b, ...more] = run.call(p - 1), before = run.view(p - 1), size = run.sizeAt(p - 1), name = NAMES[op];
-  const out = { title: `Row ${whole(p)}: ${said(op, a, b, ...more)} is refused`, facts: [], helps: [], call: [op, ...[a, b, ...more].slice(0, Math.max(2, KINDS[op].length))] };
+  const out = { title: titleOfRefusal(run, p), facts: [], helps: [], call: [op, ...[a, b, ...more].slice(0, Math.max(2, KINDS[op].length))] };
   out.help = (text, calls = null, more = {}) => out.helps.push({ text, calls, ...more });
   if (op <= 1) yield* asked(out, run, p, a, op ? b : 1, before, size);
   else if (op === OP.at) yield* placed(out, run, p, a, b, before, size);
@@ -148,7 +158,7 @@ function* evicted(out, run, p, before, need, fits, request, isOut = run.row(p - 
   for (const room of byStep ? [byStep, [OP.room, need]] : [[OP.room, need]]) {
     const moved = need <= LARGEST && !kept ? yield* granted(run, p, [room, out.call]) : null;
     if (!moved) continue;
-    const broken = room === byStep ? '' : brokenBy(run, moved), said = room !== byStep ? (broken ? `; but it ${broken}` : '') : step > 1 ? `; by multiples of ${amount(step)}, so each keeps its alignment` : '';
+    const broken = room === byStep ? '' : brokenBy(run, moved), said = room !== byStep ? (broken ? `; but it ${broken}` : '') : step > 1 ? `; by multiples of ${units(step)}, so each keeps its alignment` : '';
     if (moved.length) one('move', [...moved].filter((_, i) => i % 2 === 0).map(k => run.rangeOf(k, p - 1)), [room, out.call], 'outlined', said, 'move', broken);
     break;
   }
@@ -165,16 +175,17 @@ function* asked(out, run, p, n, align, before, size) {
   const need = n + align - 1, call = run.call(p - 1), limit = run.head[1], [, , , , free, largest, count, why] = run.row(p - 1);
   const { largest: big, units: all } = before.free;
   if (need > LARGEST) {
-    out.facts.push(`${units(n)} at a multiple of ${amount(align)} need a block of ${amount(need)}: more than any space has`);
+    out.facts.push(`${units(n)}${atMultiple(align)} need a block of ${amount(need)}: more than any space has`);
     return;
   }
   const c = roundedUp(need), value = valueOf(c);
   const step = stepAt(run, p - 1), reason = why === 4 && step !== 1 ? 'no free block is large enough' : REASONS[why];
-  out.facts.push(why !== 1 && align === 1 && n > 0 && big >= n ? `${reason}: for the request rounded up` : reason);
-  const aligned = align > 1 ? ` at a multiple of ${amount(align)}, so a block for ${amount(need)}` : '';
+  const tightCall = tightOf(n, align), isTightGranted = why !== 1 && n > 0 && (align > 1 || big >= n) && (yield* granted(run, p, [tightCall]));
+  out.facts.push(isTightGranted ? `${reason}: for the request rounded up${align > 1 ? ' with its alignment' : ''}. A tight request (${tightName(align)}) would be granted` : reason);
+  const aligned = align > 1 ? `${atMultiple(align)}, so a block for ${amount(need)}` : '', most = largestAt(align, largest, count, limit);
   out.facts.push(`asked: ${units(n)}${aligned}; rounded up to class ${c}: ` +
     (c < BINS ? units(value) : 'more than any block has'));
-  out.facts.push(`largest free block: ${units(big)}; free in all: ${units(all)}; largest request granted now: ${units(largest)}${largest > 0 && largest < big ? ', since requests are rounded up' : ''}`);
+  out.facts.push(`largest free block: ${units(big)}; free in all: ${units(all)}; largest request granted now${align > 1 ? `${atMultiple(align)}: ${units(most)}; without alignment` : ' without alignment'}: ${units(largest)}${largest > 0 && largest < big ? ', since requests are rounded up' : ''}`);
   out.facts.push(`blocks: ${whole(count)} of at most ${whole(limit - 1)}`);
   if (why === 4) yield* stepFact(out, run, p);
   yield* compacted(out, run, p, 'the request is granted');
@@ -185,14 +196,10 @@ function* asked(out, run, p, n, align, before, size) {
   if (why === 1 && big >= value)
     out.help(`more nodes: a limit of ${whole(count + (align > 1 ? 3 : 2))} (it is ${whole(limit)}), where the calls before stay the same`, null, { nodes: count + (align > 1 ? 3 : 2) });
   if (why === 1 && big < value) out.help('more nodes alone would not do: no free block is large enough');
-  if (align === 1 && why !== 1 && n > 0 && big >= n && (yield* granted(run, p, [[OP.tight, n]])))
-    out.help(`tight ${n} in its place: a free block has the ${units(n)}, but not the rounded ones`, [[OP.tight, n]], { kind: 'tight' });
-  if (align > 1 && why !== 1 && n > 0 && (yield* granted(run, p, [[OP.tightAligned, n, align]])))
-    out.help(`tight ${n} ${align} in its place: a free block holds the ${units(n)} from a multiple of ${amount(align)} on`, [[OP.tightAligned, n, align]], { kind: 'tight' });
+  if (isTightGranted) out.help(`${said(...tightCall)} in its place (${tightName(align)}): a free block ${align > 1 ? `holds the ${units(n)} from a multiple of ${units(align)} on` : `has the ${units(n)}, but not the rounded ones`}`, [tightCall], { kind: 'tight' });
   if (align > 1 && why !== 1 && (yield* granted(run, p, [[0, n]])))
     out.help('no alignment: alloc of the same units is granted. A unit as large as the alignment needs none', [[0, n]]);
-  const most = largest - align + 1;
-  if (most > 0 && most < n) out.help(`a smaller request: at most ${units(most)}${align > 1 ? ` at a multiple of ${amount(align)}` : ''}`, [align > 1 ? [1, most, align] : [0, most]], { kind: 'smaller', cost: -most });
+  if (most > 0 && most < n) out.help(`a smaller request: at most ${units(most)}${atMultiple(align)}`, [align > 1 ? [1, most, align] : [0, most]], { kind: 'smaller', cost: -most });
   if (c < BINS) yield* evicted(out, run, p, before, need, (from, to) => to - from >= value, [n, align]);
 }
 // A compaction by the step, and as many units more as the end lacks after it, which a function of its free units says.
@@ -207,7 +214,7 @@ function* tight(out, run, p, n, align, before, size) {
   const call = run.call(p - 1), [, , , , , , count, why] = run.row(p - 1), { free, tail } = before, from = o => Math.ceil(o / align) * align, step = stepAt(run, p - 1);
   const lacks = from(size - tail) + n - size, later = from(size - free.units) + n - size;
   const isHeld = before.anyFree((o, room) => from(o) + n <= o + room);
-  out.facts.push(why === 4 && step !== 1 ? 'no free block holds it' : REASONS[why], `asked: ${units(n)}${align > 1 ? ` at a multiple of ${amount(align)}` : ''}, not rounded up`);
+  out.facts.push(why === 4 && step !== 1 ? 'no free block holds it' : REASONS[why], `asked: ${units(n)}${atMultiple(align)}, not rounded up`);
   out.facts.push(`largest free block: ${units(free.largest)}; free in all: ${units(free.units)}`);
   out.facts.push(`blocks: ${blocksOf(run, p)}`);
   if (why === 4) yield* stepFact(out, run, p);
@@ -283,7 +290,7 @@ function* unmoved(out, run, p, k, before) {
   if (o === 0) out.facts.push('it begins where the space begins: no place is before it');
   else if (!hasRoom) out.facts.push(`${lacks}: this is how emptying the end stops`);
   else if (!isOut) out.facts.push('a free block before it is large enough, but a request of as many units takes another, after it: of the least size class that serves, the newest');
-  if (o > 0) out.facts.push(`asked: ${units(n)}${align > 1 ? ` at a multiple of ${amount(align)}, so a block for ${amount(need)}` : ''}; ` +
+  if (o > 0) out.facts.push(`asked: ${units(n)}${align > 1 ? `${atMultiple(align)}, so a block for ${amount(need)}` : ''}; ` +
     `rounded up to class ${c}: ${c < BINS && need <= LARGEST ? units(value) : 'more than any block has'}; largest free block before it: ${units(largest)}`);
   out.facts.push(`blocks: ${blocksOf(run, p)}`);
   const nodes = count + (align > 1 ? 3 : 2);
@@ -337,7 +344,7 @@ function* resized(out, run, p, op, k, n, before, size) {
   yield* elsewhere(out, run, p, k, n);
 }
 // A grant as the page names it.
-const named = (run, k) => `grant ${k}${run.nameOf(k) ? ` “${run.nameOf(k)}”` : ''}`;
+const named = (run, k) => `grant ${k}${ofName(run.nameOf(k))}`;
 // A call whose grant is not live: since when.
 function whyGone(run, p) {
   const k = run.call(p - 1)[1];

@@ -3,6 +3,14 @@
 const isUngranted = other => other.kind === OTHER.refused || other.kind === OTHER.kept;
 // The line of the file at which the page is.
 const lineNow = () => S.ungranted !== null ? S.run.file.others[S.ungranted].line : S.p || S.part ? lineAt(S.run, S.p) : 0;
+// Which refusal of the file is shown, from 1 on; 0 where none is.
+function refusalNumber() {
+  const { run, p, ungranted } = S, { file } = run;
+  if (ungranted === null && !isRefusal(run, p)) return 0;
+  if (!file || !isSeveral(file) || run !== S.base) return firstOf(run.refusals.length, i => run.refusals[i] >= p) + 1;
+  const line = lineNow(), before = (count, lineOf) => firstOf(count, i => lineOf(i) >= line);
+  return file.parts.reduce((sum, of) => sum + before(of.refused.length, i => of.lines[of.refused[i] - 1]), 1) + before(file.ungranted.length, i => file.others[file.ungranted[i]].line);
+}
 // How many refusals the file has: in the open run, that no heap granted, and in other heaps.
 function refusalCounts() {
   const { run } = S, { file } = run, own = run.refusals.length;
@@ -48,20 +56,19 @@ function toUngranted(i) {
   if (!there.length || there.some(h => h.j === S.part)) return jump(rowAtLine(S.run, line), i);
   return openPart(largestOf(file, there).j, line, false, null, i);
 }
-// The heaps that there were at a line, with their free units and the largest request that each granted then.
-function heapsAt(file, line) {
+// The heaps that there were at a line, with their free units and the largest request, at a multiple of `align`, that each granted then.
+function heapsAt(file, line, align = 1) {
   const there = [];
   for (const [j, of] of file.parts.entries()) {
     if (of.from > line || (of.to !== null && of.to <= line)) continue;
     const p = rowAtLine(of, line), size = of.sizes.findLast(([row]) => row <= p)[1];
-    there.push({ j, p, free: size - (p ? of.used[p - 1] : 0), largest: p ? of.largest[p - 1] : valueOf(classOf(size)) });
+    there.push({ j, p, free: size - (p ? of.used[p - 1] : 0), largest: largestAt(align, p ? of.largest[p - 1] : valueOf(classOf(size)), p ? of.blocks[p - 1] : 1, of.head[1]) });
   }
   return there;
 }
 // The one that granted the largest request: where units differ, in bytes.
 function largestOf(file, there) {
-  const inAll = h => h.largest * (file.units.size ? unitOf(file, h.j) || 1 : 1);
-  return there.reduce((b, h) => !b || inAll(h) > inAll(b) ? h : b, null);
+  return there.reduce((b, h) => !b || inAll(file, h.j, h.largest) > inAll(file, b.j, b.largest) ? h : b, null);
 }
 // The rows of a run that have ticks: its refusals, and where requests that no heap granted come.
 function tickedRows(run) {
@@ -104,38 +111,48 @@ async function explainedBy(run, turns, unit) {
 // Does it as if a unit had so many bytes. Where units of heaps differ, a request that none granted has no bytes.
 function inUnitOf(unit, f) { const kept = S.unit; S.unit = unit; try { return f(); } finally { S.unit = kept; } }
 const unitOfRequest = file => file.units.size ? 0 : S.unit;
-// What an alignment adds to a request in words.
-const atMultiple = a => a > 1 ? ` at a multiple of ${amount(a)}` : '';
+// What helps where the limits on heaps are reached: a usual heap has room for a request rounded up, a larger one is as large as its
+// request, and the first range of each begins at 0.
 const NO_HEAP = [
   () => ['a request for at least 1 unit'],
-  ({ n, a }) => [`usual heaps of at least ${units(n + a - 1)}, or one more of the larger heaps`],
-  ({ n, a }) => [`one more heap, of at least ${units(n)}${a > 1 ? `: a fresh one begins at 0, a multiple of ${whole(a)}` : ''}`],
-  () => ['memory for another heap, or for more nodes: it was refused to the program']];
+  ({ n }) => [`a larger limit on heaps: “size” of at least ${units(valueOf(roundedUp(n)))}, so that a usual heap has room for it; or “most_larger” of at least 1, so that a heap is made for it`],
+  ({ n, a }) => [`a larger limit on heaps, “most” (“most_larger”, where it is too large for a usual heap): then one more heap is made, and grants it${a > 1 ? ' at offset 0' : ''}`],
+  () => ['more memory for the program']];
+const titleOfUngranted = other => `Line ${whole(other.line)}: ${saidOf(other)[0]}${ofName(other.name)} is refused${other.kind === OTHER.kept ? '' : ' by all heaps'}`;
 // Why no heap granted a request, and what would have helped, and in which heap.
 async function explainUngranted(file, i, turns) {
   const other = file.others[i], { line, n, a, why, isTight: tight } = other, isKept = other.kind === OTHER.kept;
-  const [what, reason] = saidOf(other), there = heapsAt(file, line), free = addedUp(file, there.map(h => [h.j, h.free]));
-  const out = { title: `Line ${whole(line)}: ${what} is refused${isKept ? '' : ' by all heaps'}`, facts: [reason], helps: [] };
+  const [, reason] = saidOf(other), there = heapsAt(file, line, a), free = addedUp(file, there.map(h => [h.j, h.free]));
+  const out = { title: titleOfUngranted(other), facts: [reason], helps: [] };
   const best = largestOf(file, there), heap = j => nameOfPart(file, j), need = n + a - 1, value = valueOf(roundedUp(Math.min(LARGEST, need)));
-  if (n && !tight) inUnitOf(unitOfRequest(file), () => out.facts.push(`asked: ${units(n)}${atMultiple(a)}${a > 1 ? `, so a block for ${amount(need)}` : ''}${value > need ? `, rounded up to ${amount(value)}` : ''}`));
+  const multiple = inUnitOf(unitOfRequest(file), () => atMultiple(a));
+  if (n) inUnitOf(unitOfRequest(file), () => out.facts.push(`asked: ${units(n)}${multiple}${tight ? ', not rounded up' : `${a > 1 ? `, so a block for ${amount(need)}` : ''}${value > need ? `, rounded up to ${amount(value)}` : ''}`}`));
   out.facts.push(`there ${there.length === 1 ? 'was' : 'were'} ${counted(there.length, 'heap')}${free ? `, with ${free} free in all` : ''}` +
-    (best ? `; the largest request that one granted was ${units(best.largest, unitOf(file, best.j))}, of ${heap(best.j)}` : ''));
+    (!best || tight ? '' : best.largest ? `; the largest request${multiple || ' without alignment'} that one granted was ${units(best.largest, unitOf(file, best.j))}, of ${heap(best.j)}` : `; none granted a request${multiple}`));
   if (!isKept) out.helps.push(...inUnitOf(unitOfRequest(file), () => NO_HEAP[why](other)).map(text => ({ text })));
   if (n === 0 || (why === 0 && !isKept)) return out;
-  const request = a > 1 ? [tight ? OP.tightAligned : 1, n, a] : [tight ? OP.tight : 0, n], found = [], runs = [];
+  const request = tight ? tightOf(n, a) : a > 1 ? [1, n, a] : [0, n], found = [], runs = [];
   const asked = [...there].sort((x, y) => y.free - x.free).slice(0, MOST_ASKED);
+  const refusing = REASONS.map(() => 0);
+  let block = null;
   for (const h of asked) {
-    const run = await askedOf(file, h, request, turns);
+    const run = await askedOf(file, h, request, turns), row = run.row(run.count - 1), room = run.view(run.count - 1).free.largest;
     runs.push([h, run]);
-    if (run.row(run.count - 1)[0] === ANSWER.grant) { out.facts.push(`${heap(h.j)} would have granted it, though the file says that none did`); continue; }
+    if (!block || inAll(file, h.j, room) > inAll(file, block.j, block.n)) block = { j: h.j, n: room };
+    if (row[0] === ANSWER.grant) { out.facts.push(isKept ? `${heap(h.j)} has room for it, but a range is relocated neither within its heap nor to one with fewer live units` : `${heap(h.j)} would have granted it, though the file says that none did`); continue; }
+    refusing[row[7]]++;
     for (const help of (await explainedBy(run, turns, unitOf(file, h.j))).helps) if (help.kind) found.push({ ...help, h });
   }
+  const inEach = refusing.flatMap((count, i) => count ? [`in ${counted(count, 'heap')} ${i === 4 ? 'no free block is large enough' : REASONS[i]}`] : []);
+  if (inEach.length) out.facts.splice(1, 0, inEach.join(', '));
+  if (tight && block) out.facts.push(`largest free block: ${units(block.n, unitOf(file, block.j))}, of ${heap(block.j)}`);
   if (asked.length < there.length) out.facts.push(`asked were the ${asked.length} heaps with the most free units`);
   // of each kind the one that costs least, of those that keep all alignments where there is one
-  for (const kind of ['compact', 'move', 'relocate', 'release', 'extend', 'tight', 'smaller']) {
+  for (const kind of ['tight', 'compact', 'move', 'relocate', 'release', 'extend', 'smaller']) {
     const list = kind === 'relocate' ? await relocations(found, runs, turns) : found.filter(help => help.kind === kind);
     const isLess = (x, y) => x.breaks === y.breaks ? (x.cost ?? 0) < (y.cost ?? 0) : !x.breaks;
     const help = list.reduce((b, x) => !b || isLess({ breaks: false, ...x }, { breaks: false, ...b }) ? x : b, null);
+    if (help && kind === 'tight') out.facts.splice(1, 0, `a tight request (${tightName(a)}) would be granted, in ${heap(help.h.j)}`);
     if (help) out.helps.push({ text: `in ${heap(help.h.j)}: ${help.h.j === S.part ? help.text : help.text.replace(/ \((dashed|outlined)\)/, '')}`, calls: help.calls, part: help.h.j, line, outline: help.h.j === S.part ? help.outline : undefined });
   }
   return out;

@@ -27,8 +27,8 @@ function draw() {
   showMarks();
   if (!isQuick) { showHeaps(); drawHeapsNow(); }
   const free = size - run.usedAt(p), share = (100 * run.usedAt(p) / Math.max(1, size)).toFixed(1);
-  let reports = `${units(size)}: ${sized(run.usedAt(p))} used (${share}%), ${sized(free)} free. ` +
-    (r && !run.file?.isDump ? `Largest request that is granted: ${sized(r[5])}. ` : '');
+  let reports = `${run.file && isSeveral(run.file) ? `In ${nameOfPart(run.file, S.part)}, of ` : ''}${units(size)}: ${sized(run.usedAt(p))} used (${share}%), ${sized(free)} free. ` +
+    (r && !run.file?.isDump ? `Largest request that is granted without alignment: ${sized(r[5])}. ` : '');
   if (v) {
     drawBins(v.free.bins, searched, bin);
     const kept = free ? 1 - valueOf(classOf(v.free.largest)) / valueOf(classOf(free)) : 0, blocks = v.count + v.free.count;
@@ -42,7 +42,7 @@ function draw() {
     `; a line is ${units(Math.ceil((to - from) / ROWS))}.`;
   $('lives').textContent = `Up to ${sized(run.top)}, the highest end of a range, of ${units(run.sizes.at(-1)[1])}. ` +
     `The line is the position; ticks are refusals${flagsOf(run).length ? ', those at the lower edge marks' : ''}. ` + (run.file?.isDump ? 'Below: the units in use (lighter), and the largest request that offset_allocator would grant in these blocks (darker): the allocator of the dump may grant others.' :
-    'Below: the units in use (lighter), and the largest request that is granted (darker).');
+    'Below: the units in use (lighter), and the largest request that is granted without alignment (darker).');
   for (const id of ['lzall', 'lleft', 'lright', 'lup', 'ldown']) $(id).disabled = !S.life;
   $('zleft').disabled = $('zright').disabled = !S.zoom;
   tellUnder();
@@ -50,9 +50,9 @@ function draw() {
   $('at').setAttribute('aria-valuetext', p ? `row ${p}: ${said(...op)}, ${answered(run, p - 1)}` : 'before the first row');
   $('place').textContent = `of ${whole(run.count)}`;
   showRefusals();
-  tell('now', S.ungranted !== null ? nowUngranted() : p ? `Row ${whole(p)}: ${said(...op)}: ${answeredInBytes(run, p - 1)}` +
+  tell('now', S.ungranted !== null ? nowUngranted() : p ? `Row ${whole(p)}: ${said(...op)}${KINDS[op[0]] === 'na' ? meaning(op[1], op[2]) : ''}: ${answeredInBytes(run, p - 1)}` +
     (taken ? `, from the free block at ${place(taken.o)} of ${units(taken.n)}` : '') +
-    (run.callName(p - 1) ? ` “${run.callName(p - 1)}”` : '') : 'Before the first row.');
+    ofName(run.callName(p - 1)) : 'Before the first row.');
   const t1 = performance.now();
   // while the run plays, the lists follow a few times a second
   if (v && (!playing || t0 - listed > FOLLOWS)) { listed = t0; lists(v, searched, bin); rest = performance.now() - t1; }
@@ -85,8 +85,9 @@ function lists(v, searched, bin) {
 function showRefusals() {
   const { run, p } = S, { own, none, others, all } = refusalCounts(), isMany = all > own || (run.file && isSeveral(run.file) && run === S.base);
   $('onlyhere').parentElement.hidden = !isMany;
-  tell('refusals', !all ? 'no refusals' : !isMany ? counted(own, 'refusal') : `${counted(all, 'refusal')}: ${whole(own)} in this heap` +
-    (others ? `, ${whole(others)} in others` : '') + (none ? `, ${whole(none)} that no heap granted` : ''));
+  const at = isMany && (isMoving || playing) ? 0 : refusalNumber(), count = at ? `refusal ${whole(at)} of ${whole(all)}` : counted(all, 'refusal');
+  const where = [[own, 'in this heap'], [others, 'in others'], [none, 'that no heap granted']].filter(([n]) => n).map(([n, where]) => `${whole(n)} ${where}`);
+  tell('refusals', !all ? 'no refusals' : isMany ? `${count}: ${where.join(', ')}` : count);
   // while the position moves on, no other heap is asked
   if (isMany && (isMoving || playing)) return;
   $('rback').disabled = isMany ? !refusalBeside(lineNow(), -1) : !(run.refusals[0] < p);
@@ -94,15 +95,15 @@ function showRefusals() {
 }
 // The request that no heap granted, as the row in words.
 function nowUngranted() {
-  const other = S.run.file.others[S.ungranted], [what, why] = saidOf(other);
-  return `Line ${whole(other.line)} of the file, after row ${whole(S.p)} of ${nameOfPart(S.run.file, S.part)}: ${what}: ${why}` + (other.name ? ` “${other.name}”` : '');
+  const other = S.run.file.others[S.ungranted], [what, why, means] = saidOf(other);
+  return `Line ${whole(other.line)} of the file, after row ${whole(S.p)} of ${nameOfPart(S.run.file, S.part)}: ${what}${means}${ofName(other.name)}: ${why}`;
 }
 // Why no heap granted a request.
 async function whyUngranted(i) {
   const { file } = S.run, of = whyOf = [S.run, S.p, i], turns = new Turns(() => whyOf === of);
-  const other = file.others[i], [what, reason] = saidOf(other);
+  const other = file.others[i], [, reason] = saidOf(other);
   $('helped').hidden = false;
-  told({ title: `Line ${whole(other.line)}: ${what} is refused${other.kind === OTHER.refused ? ' by all heaps' : ''}`, facts: [reason], helps: [{ text: 'being tried' }] });
+  told({ title: titleOfUngranted(other), facts: [reason], helps: [{ text: 'being tried' }] });
   try { told(await explainUngranted(file, i, turns)); } catch (fault) { if (!(fault instanceof Stopped)) throw fault; }
 }
 // At a refusal: why, and what would have helped.
@@ -124,7 +125,7 @@ function why(run, p) {
     do { if (whyOf !== of) return; found = steps.next(); } while (isSmall && !found.done);
     if (found.done) { run.copy = null; told(found.value); } else setTimeout(next);
   };
-  if (!isSmall) told({ title: `Row ${whole(p)}: ${said(...run.call(p - 1))} is refused`, facts: [REASONS[run.row(p - 1)[7]] || ''], helps: [{ text: 'being tried' }] });
+  if (!isSmall) told({ title: titleOfRefusal(run, p), facts: [REASONS[run.row(p - 1)[7]] || ''], helps: [{ text: 'being tried' }] });
   next();
 }
 function told(e) {
@@ -139,6 +140,7 @@ function told(e) {
     button.onclick = () => showHelp(help);
     return button;
   }));
+  $('clicks').hidden = !$('helps').querySelector('button');
   helps = e.helps; showSpace();
 }
 // The space as it would be with what helps: its calls in place of the refused one, or the run with more nodes beside this one.
