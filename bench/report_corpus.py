@@ -208,8 +208,7 @@ def brief(report):
             "Counted over the [recorded programs](traces/README.md) ([how](README.md#compact-heaps-corpus-room)); "
             "[corpus.txt](corpus.txt) has what is refused in less.", "",
             "## The least space", "",
-            "In which nothing is refused, in percent above the peak of live bytes; the original's and C's are ours. "
-            "In bold: the smallest of a row.", "",
+            "In which nothing is refused, in percent above the peak of live bytes; the original's are ours.", "",
             *pages.lines_of(least[0], least[1:]), "",
             rounded, "",
             "## Where ranges move", "",
