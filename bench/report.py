@@ -359,14 +359,12 @@ def aims_table(found):
 
 
 def brief(report):
-    """The part of the page: the aims that were missed."""
+    """The part of the page: how many aims were missed."""
     when = next((line for line in report if line.startswith("All times took")), "")
-    # without the place of the most, and of how many
-    head, *aims = [row[:3] for row in pages.table(report, "Aims")]
+    aims = pages.table(report, "Aims")[1:]
     missed = [row for row in aims if row[2].startswith("**")]
-    return ["*ours* is what the prover's toolchain builds, *erased* the crate for `cargo`: all for x86-64-v2, and for times without "
-            f"jumps that cross 32 bytes. {when} Of {len(aims)} aims these are missed; [results.txt](results.txt) has all tables.", "",
-            *pages.lines_of(head, missed)]
+    return ["What the prover's toolchain builds, and the crate for `cargo`, for x86-64-v2, and for times without jumps that cross 32 bytes. "
+            f"{when} {len(missed)} of {len(aims)} aims are missed: [results.txt](results.txt) has them, and all tables."]
 
 
 def main():

@@ -203,19 +203,15 @@ def brief(report):
     # the original and C need what ours does
     kept = [k for k, name in enumerate(least[0]) if name not in [NAMES[side] for side in ("original", "c", "best")]]
     least = [[row[k] for k in kept] for row in least]
+    # and of ours where ranges move
+    least = [[*row, moved[3] if k else "ours, moved"] for k, (row, moved) in enumerate(zip(least, moves))]
     rounded = next(line for line in report if line.startswith("Ours, as the original, rounds"))
     return [report[0], "",
-            "Counted over the [recorded programs](traces/README.md) ([how](README.md#compact-heaps-corpus-room)); "
-            "[corpus.txt](corpus.txt) has what is refused in less.", "",
-            "## The least space", "",
-            "In which nothing is refused, in percent above the peak of live bytes; the original's are ours.", "",
+            "Over the [recorded programs](traces/README.md) ([how](README.md#compact-heaps-corpus-room)), the least space in which "
+            "nothing is refused, in percent above the peak of live bytes; the original's is ours. *Moved*: with `compact`, or "
+            "`make_room`, at each request refused as `Fragmented`. [corpus.txt](corpus.txt) has what these move.", "",
             *pages.lines_of(least[0], least[1:]), "",
             rounded, "",
-            "## Where ranges move", "",
-            "The least space of ours where nothing moves, and where `compact`, or `make_room`, is called at each request "
-            "refused as `Fragmented`; then the units that these move. What is left above the peak is due to rounding.", "",
-            *pages.lines_of(["", "none", "where needed", "units by `compact`", "by `make_room`"],
-                            [[row[k] for k in (0, 1, 3, 5, 7)] for row in moves[1:]]), "",
             # what bench/frames wrote
             *"".join((HERE / "CORPUS.md").read_text().partition("## Over frames")[1:]).splitlines()]
 
