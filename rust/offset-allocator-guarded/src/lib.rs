@@ -19,7 +19,6 @@ pub use offset_allocator_memory::{AllocError, Global};
 pub use realms::next_realm;
 pub use offset_allocator::{Refusal as SpaceRefusal, StateFaultKind as SpaceFaultKind, ext, small_float};
 
-// the public calls of this file: rustdoc lists what stands in the root itself last
 mod calls {
     use super::*;
 
@@ -89,7 +88,15 @@ mod calls {
                 Some(handle) => self.space.free_if_live(handle),
             }
         }
+    }
+}
 
+mod allocate;
+
+mod more_calls {
+    use super::*;
+
+    impl<T: Tables> GuardedOf<T> {
         /// A copy, with memory of its own, as `Allocator::try_clone` makes it, with the same realm, serials
         /// and step: each ticket that is live here is live there. Serials go on from the same number in both, so a later
         /// grant of one may have a ticket that is live in the other, for another range: use one copy in place of
@@ -299,7 +306,6 @@ mod calls {
     }
 }
 
-mod allocate;
 mod resize;
 mod moves;
 mod walks;

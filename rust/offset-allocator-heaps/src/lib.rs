@@ -20,7 +20,6 @@ pub use offset_allocator_memory as memory;
 pub use offset_allocator_memory::{AllocError, Global};
 pub use offset_guarded::{Refusal as TicketRefusal, StateFaultKind as TicketFaultKind, ext, small_float};
 
-// the public calls of this file: rustdoc lists what stands in the root itself last
 mod calls {
     use super::*;
 
@@ -109,7 +108,16 @@ mod calls {
                 .note(&self.slots, number, self.limits, &mut self.accesses);
             true
         }
+    }
+}
 
+mod allocate;
+mod tight;
+
+mod more_calls {
+    use super::*;
+
+    impl<T: Tables> HeapsOf<T> {
         /// The limits.
         ///
         /// ```
@@ -237,8 +245,6 @@ mod calls {
     }
 }
 
-mod allocate;
-mod tight;
 mod resize;
 mod relocate;
 mod compact;

@@ -19,7 +19,6 @@ pub use offset_allocator_memory as memory;
 pub use offset_allocator_memory::{AllocError, Global};
 pub use nonmax::IsMax;
 
-// the public calls of this file: rustdoc lists what stands in the root itself last
 mod calls {
     use super::*;
 
@@ -196,7 +195,16 @@ mod calls {
             assert!(1 <= align, "the alignment must be at least 1");
             self.serve(size, align)
         }
+    }
+}
 
+mod tight;
+mod at_offset;
+
+mod more_calls {
+    use super::*;
+
+    impl<T: Tables> AllocatorOf<T> {
         /// Makes the whole space one free block again, in place. No earlier handle is live then.
         ///
         /// It takes no memory and always succeeds, and the space keeps what [`extend`](Self::extend) added. If at most 5 blocks
@@ -482,8 +490,6 @@ mod calls {
     }
 }
 
-mod tight;
-mod at_offset;
 mod resize;
 mod moves;
 mod reports;
