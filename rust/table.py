@@ -108,6 +108,7 @@ LINTS = {
         "clippy::manual_map": "a `match` needs no closure, whose calls would need a proof",
         "clippy::needless_range_loop": "a loop over places calls no iterator, which might count accesses of its own",
         "clippy::question_mark": "a `match` needs no call, whose contract a proof would need",
+        "clippy::redundant_pattern_matching": "the same",
         "unused_variables": "a parameter may be there for a contract only",
     },
     "offset_guarded": {

@@ -11,6 +11,7 @@
 #![expect(clippy::manual_map)] // a `match` needs no closure, whose calls would need a proof
 #![expect(clippy::needless_range_loop)] // a loop over places calls no iterator, which might count accesses of its own
 #![expect(clippy::question_mark)] // a `match` needs no call, whose contract a proof would need
+#![expect(clippy::redundant_pattern_matching)] // the same
 #![expect(unused_variables)] // a parameter may be there for a contract only
 
 mod traits;
