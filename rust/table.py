@@ -112,7 +112,8 @@ LINTS = {
         "unused_variables": "a parameter may be there for a contract only",
     },
     "offset_guarded": {
-        "clippy::question_mark": "a step of a proof stands before the return, and is left out here",
+        "clippy::let_and_return": "a step of a proof stands before the return, and is left out here",
+        "clippy::question_mark": "the same",
         "clippy::manual_find": "a loop over places needs no closure, whose calls would need a proof",
         "clippy::manual_map": "a `match` needs no closure, whose calls would need a proof",
         "clippy::mem_replace_option_with_none": "one function for both, whose contract the proof has",

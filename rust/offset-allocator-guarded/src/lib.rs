@@ -5,7 +5,8 @@
 #![forbid(unsafe_code)]
 #![allow(rustdoc::redundant_explicit_links)] // printed links say in full where they lead
 #![warn(missing_docs)]
-#![expect(clippy::question_mark)] // a step of a proof stands before the return, and is left out here
+#![expect(clippy::let_and_return)] // a step of a proof stands before the return, and is left out here
+#![expect(clippy::question_mark)] // the same
 #![expect(clippy::manual_find)] // a loop over places needs no closure, whose calls would need a proof
 #![expect(clippy::manual_map)] // a `match` needs no closure, whose calls would need a proof
 #![expect(clippy::mem_replace_option_with_none)] // one function for both, whose contract the proof has
