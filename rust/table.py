@@ -120,6 +120,7 @@ LINTS = {
         "clippy::mem_replace_option_with_some": "the same",
     },
     "offset_heaps": {
+        "clippy::implicit_saturating_sub": "the proof speaks of both cases",
         "clippy::len_zero": "the proof speaks of the length, which no call hides",
         "clippy::manual_find": "a loop over places needs no closure, whose calls would need a proof",
         "clippy::manual_map": "a `match` needs no closure, whose calls would need a proof",

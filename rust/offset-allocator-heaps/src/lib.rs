@@ -5,6 +5,7 @@
 #![forbid(unsafe_code)]
 #![allow(rustdoc::redundant_explicit_links)] // printed links say in full where they lead
 #![warn(missing_docs)]
+#![expect(clippy::implicit_saturating_sub)] // the proof speaks of both cases
 #![expect(clippy::len_zero)] // the proof speaks of the length, which no call hides
 #![expect(clippy::manual_find)] // a loop over places needs no closure, whose calls would need a proof
 #![expect(clippy::manual_map)] // a `match` needs no closure, whose calls would need a proof
