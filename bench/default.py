@@ -157,13 +157,10 @@ def report():
              "## Instructions, ours/original", "", *table(["workload", *HEADS], parts), "",
              "## Instructions a step", "", *table(["workload", *(f"{profile}, {sites}: {side}" for side, profile, sites in PROGRAMS)], number), "",
              "## Conditional jumps a step", "", *table(["workload", *(f"{profile}, {sites}: {side}" for side, profile, sites in PROGRAMS)], jumps)]
-    both = [[*row, *next((it[1:] for it in parts if it[0] == row[0]), [""] * 4)] for row in ratios]
-    pages.put(HERE, 0, [explained + " [default.txt](default.txt) has all tables.", "", when, "",
-                        *table(["time, ours/original", "aim: at most", "the least", "the most", "above the aim"], aims), "",
-                        *table(["workload", *(f"time/original: {it}" if not k else it for k, it in enumerate(HEADS)),
-                                *(f"instructions/original: {it}" if not k else f"{it} " for k, it in enumerate(HEADS))], both), "",
-                        *table(["time, tickets/handles", "aim: at most", "the least", "the most", "above the aim"], ticket_aims), "",
-                        *table(["workload", *(f"time/handles: {it}" if not k else it for k, it in enumerate(HEADS))], tickets)], "default", shown)
+    head = ["aim: at most", "the least", "the most", "above the aim"]
+    pages.put(HERE, 0, [explained + " " + when + " [default.txt](default.txt) has each workload.", "",
+                        *table(["time, ours/original", *head], aims), "",
+                        *table(["time, tickets/handles", *head], ticket_aims)], "default", shown)
     print(pages.text_of(shown))
 
 

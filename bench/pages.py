@@ -81,13 +81,13 @@ def text_of(report):
     return "\n".join(lines).strip() + "\n"
 
 
-# the page of results, whose two parts are of two reports
-HEAD = ["# Results", "", "Speed beside the original. [README.md](README.md) says how all is measured."]
-PARTS = ("## As a user builds it", "## Special builds")
+# the page of results, whose parts are of several reports
+HEAD = ["# Results", "", "Speed beside the original and other allocators. [README.md](README.md) says how all is measured."]
+PARTS = ("## As a user builds it", "## Special builds", "## Beside other allocators")
 
 
 def put(folder, part, page, name, report):
-    """Writes one part of RESULTS.md, and leaves the other; and the whole report, into NAME.txt."""
+    """Writes one part of RESULTS.md, and leaves the others; and the whole report, into NAME.txt."""
     path = folder / "RESULTS.md"
     text = path.read_text() if path.exists() else ""
     bodies = [found[1] if (found := re.search(rf"^{heading}\n\n(.*?)(?=^## |\Z)", text, re.M | re.S)) else "" for heading in PARTS]

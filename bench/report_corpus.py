@@ -203,23 +203,15 @@ def brief(report):
     # the original and C need what ours does
     kept = [k for k, name in enumerate(least[0]) if name not in [NAMES[side] for side in ("original", "c", "best")]]
     least = [[row[k] for k in kept] for row in least]
+    # and of ours where ranges move
+    least = [[*row, moved[3] if k else "ours, moved"] for k, (row, moved) in enumerate(zip(least, moves))]
     rounded = next(line for line in report if line.startswith("Ours, as the original, rounds"))
     return [report[0], "",
-            "How large a buffer has to be. Counted over the [recorded programs](traces/README.md) "
-            "([how](README.md#compact-heaps-corpus-room)); [corpus.txt](corpus.txt) has what is refused in less.", "",
-            "## The least space", "",
-            "In which nothing is refused, in percent above the peak of live bytes; the original's and C's are ours. "
-            "In bold: the smallest of a row.", "",
+            "Over the [recorded programs](traces/README.md) ([how](README.md#compact-heaps-corpus-room)), the least space in which "
+            "nothing is refused, in percent above the peak of live bytes; the original's is ours. *Moved*: with `compact`, or "
+            "`make_room`, at each request refused as `Fragmented`. [corpus.txt](corpus.txt) has what these move.", "",
             *pages.lines_of(least[0], least[1:]), "",
             rounded, "",
-            "## Where ranges move", "",
-            "The least space of ours, and with a call of `compact`, or of `make_room`, at each request that is "
-            "refused as `Fragmented`: what is left above the peak is what the rounding costs. Then the units that "
-            "these move in all.", "",
-            *pages.lines_of(["", "none", "where needed", "units by `compact`", "by `make_room`"],
-                            [[row[k] for k in (0, 1, 3, 5, 7)] for row in moves[1:]]), "",
-            "A `make_room` leaves all other free blocks where they are, so later requests may be refused: over a "
-            "whole program it may move more than `compact` would.", "",
             # what bench/frames wrote
             *"".join((HERE / "CORPUS.md").read_text().partition("## Over frames")[1:]).splitlines()]
 

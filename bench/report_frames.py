@@ -48,6 +48,11 @@ for share in sorted({share for share, _ in traces[0].least}):
 report[2] = report[2].replace("one {share}", "a 64th or a 16th")
 (HERE / "frames.txt").write_text(pages.text_of([line.replace("## 16", "## A 16th of the peak").replace("## 64", "## A 64th of the peak") for line in report]))
 page = (HERE / "CORPUS.md").read_text().partition(HEADING)[0].strip()
-part = [HEADING, "", WHAT[0].replace("one {share}", "a 16th"), "", *table(traces, 16)]
+chief = [[trace.name, *trace.cells(16)[-len(WAYS):]] for trace in traces]
+part = [HEADING, "",
+        "After each 50 calls ranges may move: at most 64, of a 16th of the peak together. *Slide* is `compact_within` by single units; "
+        "*relocate* takes the last live range again and again; *both* slides where that finds no place. In a space of 5% above the "
+        "peak: the largest free block in percent of all free units, on average. [frames.txt](frames.txt) has what is moved and "
+        "the least spaces.", "", *pages.lines_of(["", *WAYS], chief), ""]
 (HERE / "CORPUS.md").write_text("\n".join([page, "", *part]).strip() + "\n")
 print((HERE / "frames.txt").read_text())

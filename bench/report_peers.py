@@ -1,5 +1,5 @@
 """Prints what bench/run has measured of the linked peers, beside the original and ours, with the programs in the folder $1,
-and writes it into peers.txt, PEERS.md, which has the chief of it, and peers.svg."""
+and writes it into peers.txt, the third part of RESULTS.md, which has the chief of it, and peers.svg."""
 import math, sys
 import pages
 from measures import CAP, HERE, LIVE, PARTS, PEERS_BESIDE, peers, saved, traces, works
@@ -179,14 +179,12 @@ def plot(growth):
 
 
 def brief(report):
-    """The page: what each side takes, and the versions."""
+    """The part of the page: what each side takes, and the versions."""
     versions = next(line for line in report[1:] if line)
     head, *rows = pages.table(report)
-    return [report[0], "",
-            "Speed beside other allocators. [peers.txt](peers.txt) has each workload, "
-            f"[README.md](README.md#peers) how they are measured. {versions}", "",
+    return [f"{versions} The bytes of ours and of the original are those of a table just large enough. "
+            "[peers.txt](peers.txt) has each workload.", "",
             *pages.lines_of(head, rows), "",
-            "The bytes of ours and of the original are those of a table just large enough.", "",
             "![Time a step over live ranges](peers.svg)"]
 
 
@@ -213,7 +211,7 @@ def main():
         "## Memory", "", "The most bytes that `malloc` holds at any time, its headers included, divided by the live ranges. Empty: the run takes too long.", "", *memory_table(found), "",
         "The most bytes with each recorded program. Ours and the original have the node limit of its script.", "", *recorded_table(),
     ]
-    pages.write(HERE, "peers", brief(shown), shown)
+    pages.put(HERE, 2, brief(shown), "peers", shown)
     (HERE / "peers.svg").write_text(page(760, 500, "Nanoseconds a step over live ranges, of ours, the original and three peers", plot(growth)))
     print(pages.text_of(shown))
     marked = sum(busy(row[4], side) for row in all_rows for side in row[4])

@@ -83,9 +83,8 @@ def brief(report):
     block, moved = pages.table(report, "A block"), pages.table(report, "A range that moves")
     head = ["blocks", "nodes", "`room_cost`, a block", "`make_room`, a range that moves", "`compact`"]
     return [report[0], "",
-            "What it costs to ask for room, and to make it. Nanoseconds on the erased side, where every other block is free, "
-            "and nodes lie in space order or in none; [room.txt](room.txt) has the instructions, and how busy the "
-            "machine was, [README.md](README.md#compact-heaps-corpus-room) how it is measured.", "",
+            "Nanoseconds, where every other block is free, and nodes lie in space order or in none; [room.txt](room.txt) has "
+            "more, [README.md](README.md#compact-heaps-corpus-room) how it is measured.", "",
             next(line for line in report if line.startswith("A call takes")), "",
             *pages.lines_of(head, [[*a[:2], a[3], *b[2:4]] for a, b in zip(block[1:], moved[1:])], 2)]
 

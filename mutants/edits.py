@@ -11,9 +11,7 @@ import sys
 from pathlib import Path
 
 TOP = Path(__file__).resolve().parent.parent
-DOCUMENT = TOP / "docs" / "MUTANTS.md"
-BEGIN = "<!-- The tables down to the end mark are written by `mutants/table --write`. -->"
-END = "<!-- The end of the written tables. -->"
+PRINTED = TOP / "mutants" / "gate.txt"
 LONGEST = 100
 
 
@@ -174,31 +172,22 @@ def every():
 
 
 def table(edits):
-    """A table for each crate, of these edits."""
+    """The sentences of these edits, by crate."""
     lines = []
     for crate in dict.fromkeys(it.crate for it in edits):
         rows = [it for it in edits if it.crate == crate]
-        lines += [f"### `{crate}`: {len(rows)}", "", "| Wrong body | Edit |", "|---|---|"]
-        lines += [*(f"| {it.sentence} | `{it.name}` |" for it in rows), ""]
+        lines += [f"{crate}: {len(rows)}", *(f"    {it.name}: {it.sentence}" for it in rows), ""]
     return lines
 
 
-def gate_tables(edits):
-    """The tables of the document: the edits that the gate tries."""
-    return table([it for it in edits if it.is_in_gate])
-
-
-def halves():
-    """The lines of the document up to the tables, those of the tables, and those after them."""
-    lines = DOCUMENT.read_text(encoding="utf-8").split("\n")
-    if [lines.count(BEGIN), lines.count(END)] != [1, 1] or lines.index(BEGIN) > lines.index(END):
-        sys.exit(f"mutants: {DOCUMENT.name} has not once each of the two marks of the tables")
-    begin, end = lines.index(BEGIN) + 1, lines.index(END)
-    return lines[:begin], lines[begin:end], lines[end:]
+def gate_table(edits):
+    """The printed table: the edits that the gate tries."""
+    head = ["The mutants that the gate tries, by their names and by what the wrong body does.", "Written by `mutants/table --write`.", ""]
+    return "\n".join([*head, *table([it for it in edits if it.is_in_gate])])
 
 
 def problems(edits):
-    """What is wrong with the edits, or with the tables of the document."""
+    """What is wrong with the edits, or with the printed table."""
     found = [problem for it in edits for problem in it.problems()]
     known = {folder for _, folder, _ in folders()}
     there = [it for top in ("mutants", "mutants/gate") for it in (TOP / top).iterdir() if it.is_dir()]
@@ -206,13 +195,14 @@ def problems(edits):
         if folder not in known:
             found.append(f"{folder.relative_to(TOP)}: there is no crate of this name")
         for it in folder.iterdir() if folder.is_dir() else []:
-            if not re.fullmatch(r"\w+\.edit|README\.md", it.name):
+            if not re.fullmatch(r"\w+\.edit", it.name):
                 found.append(f"{it.relative_to(TOP)}: the name of an edit has letters, digits and _, and ends in .edit")
     labels = [it.label for it in edits]
     found += [f"{it}: two edits have this name" for it in sorted({it for it in labels if labels.count(it) > 1})]
-    for line in difflib.ndiff(halves()[1], ["", *gate_tables(edits)]):
+    printed = PRINTED.read_text(encoding="utf-8") if PRINTED.exists() else ""
+    for line in difflib.ndiff(printed.split("\n"), gate_table(edits).split("\n")):
         if line[:1] in "+-" and line[2:].strip():
-            found.append(f"{DOCUMENT.name}: {'missing' if line[0] == '+' else 'not of an edit'}: {line[2:]}")
+            found.append(f"{PRINTED.name}: {'missing' if line[0] == '+' else 'not of an edit'}: {line[2:]}")
     return found
 
 
@@ -221,7 +211,7 @@ def stop_on_problems(edits):
     for it in found:
         print(it)
     if found:
-        sys.exit(f"mutants: {len(found)} faults; nothing was tried, and `mutants/table --write` writes the tables")
+        sys.exit(f"mutants: {len(found)} faults; nothing was tried, and `mutants/table --write` prints the table")
 
 
 def tracked():

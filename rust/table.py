@@ -23,6 +23,7 @@ ROOTS = {
     "offset_allocator": """#![doc = include_str!("../README.md")]
 #![no_std]
 #![forbid(unsafe_code)]
+#![allow(rustdoc::redundant_explicit_links)] // printed links say in full where they lead
 #![warn(missing_docs)]
 #![expect(LINTS)]
 
@@ -35,6 +36,7 @@ pub use nonmax::IsMax;
     "offset_guarded": """#![doc = include_str!("../README.md")]
 #![no_std]
 #![forbid(unsafe_code)]
+#![allow(rustdoc::redundant_explicit_links)] // printed links say in full where they lead
 #![warn(missing_docs)]
 #![expect(LINTS)]
 
@@ -49,6 +51,7 @@ pub use offset_allocator::{Refusal as SpaceRefusal, StateFaultKind as SpaceFault
     "offset_heaps": """#![doc = include_str!("../README.md")]
 #![no_std]
 #![forbid(unsafe_code)]
+#![allow(rustdoc::redundant_explicit_links)] // printed links say in full where they lead
 #![warn(missing_docs)]
 #![expect(LINTS)]
 
@@ -61,6 +64,7 @@ pub use offset_guarded::{Refusal as TicketRefusal, StateFaultKind as TicketFault
 """,
     "offset_script": """#![doc = include_str!("../README.md")]
 #![forbid(unsafe_code)]
+#![allow(rustdoc::redundant_explicit_links)] // printed links say in full where they lead
 #![expect(LINTS)]
 
 pub use offset_allocator_memory as memory;
@@ -70,6 +74,7 @@ pub use offset_allocator::{StorageReport, StorageReportFull, StorageReportFullRe
 """,
     "offset_calls": """#![doc = include_str!("../README.md")]
 #![forbid(unsafe_code)]
+#![allow(rustdoc::redundant_explicit_links)] // printed links say in full where they lead
 #![warn(missing_docs)]
 #![expect(LINTS)]
 
@@ -82,6 +87,7 @@ pub use offset_script::{Answer, Command, FullRow, PlayerOf};
 """,
     "offset_pictures": """#![doc = include_str!("../README.md")]
 #![forbid(unsafe_code)]
+#![allow(rustdoc::redundant_explicit_links)] // printed links say in full where they lead
 #![expect(LINTS)]
 
 pub use offset_allocator_memory as memory;
@@ -102,14 +108,17 @@ LINTS = {
         "clippy::manual_map": "a `match` needs no closure, whose calls would need a proof",
         "clippy::needless_range_loop": "a loop over places calls no iterator, which might count accesses of its own",
         "clippy::question_mark": "a `match` needs no call, whose contract a proof would need",
+        "clippy::redundant_pattern_matching": "the same",
         "unused_variables": "a parameter may be there for a contract only",
     },
     "offset_guarded": {
-        "clippy::question_mark": "a step of a proof stands before the return, and is left out here",
+        "clippy::let_and_return": "a step of a proof stands before the return, and is left out here",
+        "clippy::question_mark": "the same",
         "clippy::manual_find": "a loop over places needs no closure, whose calls would need a proof",
         "clippy::manual_map": "a `match` needs no closure, whose calls would need a proof",
     },
     "offset_heaps": {
+        "clippy::implicit_saturating_sub": "the proof speaks of both cases",
         "clippy::len_zero": "the proof speaks of the length, which no call hides",
         "clippy::manual_find": "a loop over places needs no closure, whose calls would need a proof",
         "clippy::manual_map": "a `match` needs no closure, whose calls would need a proof",
@@ -155,6 +164,21 @@ PRELUDE = {"Vec": "crate::memory::Vec", "String": "crate::memory::String"}
 
 # Exact replacements: the text of the source, the text here, and the reason.
 PAIRS = [
+    (
+        "pub type Move<NI = u32> = moves::one_move::Move<NI, <NI as NodeIndex>::NonMax>;",
+        "pub use moves::one_move::Move;",
+        "in Rattle a bound on a closure admits no struct whose parameters have bounds; so the methods of a move have a page",
+    ),
+    (
+        "pub struct Move<NI, N> {",
+        "pub struct Move<NI: NodeIndex = u32, N: NodeIndexNonMax = <NI as NodeIndex>::NonMax> {",
+        "the same",
+    ),
+    (
+        "impl<NI: Copy, N: Copy> Clone for Move<NI, N> {",
+        "impl<NI: NodeIndex, N: NodeIndexNonMax> Clone for Move<NI, N> {",
+        "the same",
+    ),
     (
         "fn clone(&self) -> Result<Self, AllocError> { Ok(*self) }",
         "fn clone(&self) -> Self {\n        *self\n    }",
@@ -319,6 +343,19 @@ ALWAYS = {
     "MayBeKept granted self.old.space self.old.handles.items": "`free` itself panics at a handle that is not live, as one that was kept twice is at the second `free`",
     "F.IsAlwaysCallable moved.old": "a closure of Rust may be called at any time; if it panics, that is its own panic",
 }
+
+# What the documentation hides, since it is for proofs alone: lines, each a whole one, and the traits whose methods no program
+# calls.
+HIDDEN = ["pub mod laws;", "pub use accesses::Accesses;"]
+HIDDEN_METHODS = ["Tables"]
+
+# The order in which rustdoc shows the calls of a root, and modules with calls: those that are named here come first. `calls` has
+# the first calls of the root, and `more_calls` its others.
+FIRST = ["new", "with_max_allocs", "with_realm", "with_realms", "allocate", "free", "free_if_live", "allocate_aligned"]
+MODULES = [
+    "calls", "allocate", "tight", "at_offset", "more_calls", "resize", "relocate", "compact", "moves", "drop", "extend", "walks", "foretell",
+    "heap_numbers", "totals", "reports", "step", "states", "save", "restore", "copy",
+]
 
 # What documentation says of a law that is left out, since it only states what is proved.
 LAW = "the law `{}` of the proved sources"

@@ -1,5 +1,5 @@
 -- What each call leaves is a step of a history.
-use Rattle.std.proofs.Common.{◌≡◌, ℕ, Bool, true, false, Result, Ok, Err, IfOk, Option, Some, None, IfSome, IsSome, is_some, option_map, nat_eq, ◌&&◌, if◌then◌else◌, ap, ap₂, sym, subst, refl, inl, inr, arith, ◌≤◌, ◌∙◌}
+use Rattle.std.proofs.Common.{◌≡◌, ℕ, Bool, true, false, Result, Ok, Err, IfOk, Option, Some, None, IfSome, IsSome, is_some, option_map, ap, sym, subst, refl, inl, inr, arith, ◌≤◌, ◌∙◌}
 use Rattle.std.proofs.lemmas.Bool.{cases_Bool, cases_eq}
 use Rattle.std.proofs.Math.Nat.{dvd_refl, dvd_trans}
 use Rattle.std.specs.Int.{◌∣◌}
@@ -13,10 +13,8 @@ use Rattle.offset_heaps.specs.Relocating.{IsOwnAlign, size_of}
 use Rattle.offset_allocator.specs.Moving.Compacting.{Move}
 use Rattle.offset_allocator.specs.declared.moves.room.RoomCost.{RoomCost}
 use Rattle.offset_allocator.specs.Ranges.{Range}
-use Rattle.offset_allocator.specs.Ranges as named
 use Rattle.offset_guarded.specs.Guard.{Guard, Ticket}
 use Rattle.offset_guarded.specs.Guard as guarded
-use Rattle.offset_guarded.proofs.{Guards.live_fits}
 use Rattle.offset_heaps.specs.declared.limits.Limits.{Limits}
 use Rattle.offset_heaps.specs.Changing.{Alters, CompactsHeap, MakesRoomAt, Resizes, ResizesAt, NewSize, units_wanted}
 use Rattle.offset_heaps.specs.Extending.{ExtendsHeap, ExtendsIf}

@@ -22,7 +22,7 @@ fn ticket_for<T: Tables>(
     Ticket::of(offset, name, serials.give(name), *realm)
 }
 
-/// As `would_begin` of `Guarded`. The count grows by at most 4.
+/// As `would_begin` of [`Guarded`](crate::Guarded). The count grows by at most 4.
 ///
 /// # Panics
 ///
@@ -187,7 +187,7 @@ impl<T: Tables> GuardedOf<T> {
     }
 
     /// Grants a second range of as many units as that of a ticket, which begins before it, and **has every alignment
-    /// that was asked for**: the one that `relocate_aligned` grants for what the step and the offset of the range
+    /// that was asked for**: the one that [`relocate_aligned`](Self::relocate_aligned) grants for what the step and the offset of the range
     /// have in common, their greatest common divisor. The old ticket stays live until it is freed.
     ///
     /// `None` is returned where that call returns `None`, or where the space has no step; then all is as it was.
@@ -219,7 +219,7 @@ impl<T: Tables> GuardedOf<T> {
     }
 
     /// Grants a second range of as many units as that of a ticket, which begins before it, and **keeps no
-    /// alignment**: the one that `Allocator::relocate` grants, with the next serial. `relocate` keeps those that were
+    /// alignment**: the one that `Allocator::relocate` grants, with the next serial. [`relocate`](Self::relocate) keeps those that were
     /// asked for. The old ticket stays live until it is freed.
     ///
     /// `None` is returned where that call returns `None`, where the ticket is not live, or where all serials
@@ -251,7 +251,7 @@ impl<T: Tables> GuardedOf<T> {
         }
     }
 
-    /// As `relocate`, and the second range begins at a multiple of `align`, from 1 on: the one that
+    /// As [`relocate`](Self::relocate), and the second range begins at a multiple of `align`, from 1 on: the one that
     /// `Allocator::relocate_aligned` grants, with the next serial. The old ticket stays live until it is
     /// freed.
     ///

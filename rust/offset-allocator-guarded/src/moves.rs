@@ -8,7 +8,7 @@ use offset_allocator::{CompactCost, Move, Progress, RoomCost, Tables};
 
 impl<T: Tables> GuardedOf<T> {
     /// Slides live ranges to the front of the space by the step of the space, so that **each keeps every alignment
-    /// that was asked for**, as `compact_by(step)` does. Every ticket stays live, with its size; `offset_of` returns
+    /// that was asked for**, as `compact_by(step)` does. Every ticket stays live, with its size; [`offset_of`](Self::offset_of) returns
     /// where its range begins. If `moved` panics, the guarded allocator must not be used any more: drop it.
     ///
     /// `false` is returned, and nothing changes, where the space has no step, or `Allocator::compact_by` returns
@@ -33,7 +33,7 @@ impl<T: Tables> GuardedOf<T> {
         self.compact_by(step, &mut moved)
     }
 
-    /// As `compact`, from the offset `from` on and within a budget, as `compact_within_by(step)` does: so a
+    /// As [`compact`](Self::compact), from the offset `from` on and within a budget, as `compact_within_by(step)` does: so a
     /// compaction can be done over several frames. **Each range keeps every alignment that was asked for.** The
     /// result says what moved, and where the next call goes on. If `moved` panics, the guarded allocator must not
     /// be used any more: drop it.
@@ -69,10 +69,10 @@ impl<T: Tables> GuardedOf<T> {
     }
 
     /// Makes room for `allocate(size)`, where ranges have to move for it, by the step of the space: **each range
-    /// that moves keeps every alignment that was asked for**. Every ticket stays live, with its size; `offset_of`
+    /// that moves keeps every alignment that was asked for**. Every ticket stays live, with its size; [`offset_of`](Self::offset_of)
     /// returns where its range begins. If `moved` panics, the guarded allocator must not be used any more: drop it.
     ///
-    /// It returns what `room_cost` would have returned before: `None` where no run of blocks gives up enough, or the
+    /// It returns what [`room_cost`](Self::room_cost) would have returned before: `None` where no run of blocks gives up enough, or the
     /// space has no step, and then nothing changes.
     ///
     /// ```
@@ -99,7 +99,7 @@ impl<T: Tables> GuardedOf<T> {
         self.make_room_by(size, 1, step, &mut moved)
     }
 
-    /// As `make_room`, for `allocate_aligned(size, align)`, where the alignment is from 1 on.
+    /// As [`make_room`](Self::make_room), for `allocate_aligned(size, align)`, where the alignment is from 1 on.
     ///
     /// # Panics
     ///
@@ -132,7 +132,7 @@ impl<T: Tables> GuardedOf<T> {
         self.make_room_by(size, align, step, &mut moved)
     }
 
-    /// What `compact` would copy now, and what would be granted after it, without moving anything: as
+    /// What [`compact`](Self::compact) would copy now, and what would be granted after it, without moving anything: as
     /// `Allocator::compact_cost_by` by the step of the space. `None` is returned exactly where `compact` would return
     /// `false`.
     ///
@@ -155,7 +155,7 @@ impl<T: Tables> GuardedOf<T> {
         self.space.compact_cost_by(step)
     }
 
-    /// What has to move at least for `allocate(size)`, as `make_room` would move it: as `Allocator::room_cost_by`
+    /// What has to move at least for `allocate(size)`, as [`make_room`](Self::make_room) would move it: as `Allocator::room_cost_by`
     /// by the step of the space. `None` is returned where no run of blocks gives up enough, or the space has no step.
     ///
     /// ```
@@ -172,7 +172,7 @@ impl<T: Tables> GuardedOf<T> {
         self.room_cost_aligned(size, 1)
     }
 
-    /// As `room_cost`, for `allocate_aligned(size, align)`, where the alignment is from 1 on.
+    /// As [`room_cost`](Self::room_cost), for `allocate_aligned(size, align)`, where the alignment is from 1 on.
     ///
     /// # Panics
     ///
@@ -199,7 +199,7 @@ impl<T: Tables> GuardedOf<T> {
     }
 
     /// Slides live ranges to the front of the space by whole steps, as `Allocator::compact_by` does: each keeps
-    /// its alignment where that divides `step`. Every ticket stays live, with its size; `offset_of` returns
+    /// its alignment where that divides `step`. Every ticket stays live, with its size; [`offset_of`](Self::offset_of) returns
     /// where its range begins. `false` is returned, and nothing changes, where that call returns `false`. If
     /// `moved` panics, the guarded allocator must not be used any more: drop it.
     ///
@@ -227,7 +227,7 @@ impl<T: Tables> GuardedOf<T> {
 
     /// Slides live ranges to the front by whole steps, from the offset `from` on and within a budget, as
     /// `Allocator::compact_within` does: so a compaction can be done over several frames. Every ticket stays
-    /// live, with its size; `offset_of` returns where its range begins. The result says what moved, and where
+    /// live, with its size; [`offset_of`](Self::offset_of) returns where its range begins. The result says what moved, and where
     /// the next call goes on; `None` is returned, and nothing changes, where that call returns `None`. If `moved`
     /// panics, the guarded allocator must not be used any more: drop it.
     ///
@@ -266,7 +266,7 @@ impl<T: Tables> GuardedOf<T> {
 
     /// Makes room for `allocate_aligned(size, align)` by whole steps, as `Allocator::make_room_by` does: each
     /// range that moves keeps its alignment where that divides `step`. Every ticket stays live, with its size;
-    /// `offset_of` returns where its range begins. It returns what `room_cost_by` of `allocator()` would have
+    /// [`offset_of`](Self::offset_of) returns where its range begins. It returns what `room_cost_by` of `allocator()` would have
     /// returned before: `None` where no run of blocks gives up enough, and then nothing changes. If `moved` panics,
     /// the guarded allocator must not be used any more: drop it.
     ///
@@ -301,8 +301,8 @@ impl<T: Tables> GuardedOf<T> {
     }
 
     /// Slides every live range to the front of the space, as `Allocator::compact` does: **a moved range keeps no
-    /// alignment**, whatever was asked for; `compact` keeps all. Every ticket stays live, with its size;
-    /// `offset_of` returns where its range begins. If `moved` panics, the guarded allocator must not be used any
+    /// alignment**, whatever was asked for; [`compact`](Self::compact) keeps all. Every ticket stays live, with its size;
+    /// [`offset_of`](Self::offset_of) returns where its range begins. If `moved` panics, the guarded allocator must not be used any
     /// more: drop it.
     ///
     /// ```
@@ -321,8 +321,8 @@ impl<T: Tables> GuardedOf<T> {
     }
 
     /// Makes room for a request of `size` units, where ranges have to move for it, as `Allocator::make_room`
-    /// does. **A moved range keeps no alignment**, whatever was asked for; `make_room` keeps all. Every ticket
-    /// stays live, with its size; `offset_of` returns where its range begins. If `moved` panics, the guarded
+    /// does. **A moved range keeps no alignment**, whatever was asked for; [`make_room`](Self::make_room) keeps all. Every ticket
+    /// stays live, with its size; [`offset_of`](Self::offset_of) returns where its range begins. If `moved` panics, the guarded
     /// allocator must not be used any more: drop it.
     ///
     /// ```

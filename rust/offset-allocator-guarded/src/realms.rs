@@ -54,7 +54,7 @@ impl<T: Tables> GuardedOf<T> {
     }
 
     /// A space of `size` units, all free, with `max_allocs` as the node limit, 2 to `T::Index::MAX - 2`, and with
-    /// the next realm of this process. It reserves what `with_realm` does.
+    /// the next realm of this process. It reserves what [`with_realm`](Self::with_realm) does.
     ///
     /// # Errors
     ///

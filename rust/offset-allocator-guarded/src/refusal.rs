@@ -4,7 +4,7 @@
 
 use core::fmt;
 
-/// Why a request is refused: the first of these that applies. All but the first are those of `Allocator`.
+/// Why a request is refused: the first of these that applies. All but the first are those of [`Allocator`](crate::Allocator).
 #[derive(Clone, Copy, Debug, PartialEq)]
 pub enum Refusal {
     /// All serials are given. Use another space.

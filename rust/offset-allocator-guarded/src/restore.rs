@@ -98,7 +98,7 @@ fn serial_fault<T: Tables>(space: &AllocatorOf<T>, serials: &Serials) -> Option<
 }
 
 impl<T: Tables> GuardedOf<T> {
-    /// The guarded allocator of these bytes, which `write_state` has made, or what is wrong with them, and
+    /// The guarded allocator of these bytes, which [`write_state`](Self::write_state) has made, or what is wrong with them, and
     /// where: any bytes are taken. It has the same space, the same serials, the same realm and the same step as
     /// the one that was written: so each ticket that was live there is live here, with its range, and no other is.
     ///
@@ -108,7 +108,7 @@ impl<T: Tables> GuardedOf<T> {
     /// written is live again here.
     ///
     /// `most_allocs` is the largest node limit that is accepted, since memory for the limit is reserved, as
-    /// by `with_realm`. Nothing else that is requested is more than 8 bytes for each 8 that were given.
+    /// by [`with_realm`](Self::with_realm). Nothing else that is requested is more than 8 bytes for each 8 that were given.
     /// It takes time for the bytes.
     ///
     /// # Errors

@@ -10,7 +10,7 @@ use crate::memory::Vec;
 use crate::memory::{AllocError, Global};
 
 impl<T: Tables> GuardedOf<T> {
-    /// The bytes of the state, which `read_state` reads: 56, 8 for each serial that is stored, one for each
+    /// The bytes of the state, which [`read_state`](Self::read_state) reads: 56, 8 for each serial that is stored, one for each
     /// node that was ever made, and behind them those of `Allocator::write_state`. The first are numbers of
     /// 64 bits, the lowest byte of each first: the letters OATK, the version 2, how many serials are stored and
     /// how many were given, the realm, the step, or 0 where there is none, the serials by name, and a checksum.

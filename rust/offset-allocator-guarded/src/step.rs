@@ -47,11 +47,11 @@ impl<T: Tables> GuardedOf<T> {
     }
 
     /// The step: the least common multiple of the alignments of all requests that were granted, and of the numbers
-    /// that `raise_step` was given, since the space was made or reset. It is 1 at first. Moves by multiples of it
+    /// that [`raise_step`](Self::raise_step) was given, since the space was made or reset. It is 1 at first. Moves by multiples of it
     /// keep each of these alignments.
     ///
     /// `None` is returned where it would have more than 32 bits: then no move keeps them all. It stays so until a
-    /// `reset`.
+    /// [`reset`](Self::reset).
     ///
     /// ```
     /// # use offset_allocator_guarded::*;

@@ -6,7 +6,7 @@ use offset_allocator::NonMaxU32;
 use core::fmt;
 use core::hash::{Hash, Hasher};
 
-/// A granted range, for calls on the `Guarded` that granted it. It is four numbers in 20 bytes, and can be kept,
+/// A granted range, for calls on the [`Guarded`](crate::Guarded) that granted it. It is four numbers in 20 bytes, and can be kept,
 /// copied and made from them anywhere: each call tests whether it is live.
 #[derive(Copy)]
 pub struct Ticket {
@@ -82,7 +82,7 @@ impl Ticket {
         self.name.get()
     }
 
-    /// The number of the grant: those of one `Guarded` are numbered from 1 in their order, and none is given
+    /// The number of the grant: those of one [`Guarded`](crate::Guarded) are numbered from 1 in their order, and none is given
     /// twice.
     ///
     /// ```
@@ -99,7 +99,7 @@ impl Ticket {
         (self.high as u64) << 32 | self.low as u64
     }
 
-    /// The realm of the `Guarded`.
+    /// The realm of the [`Guarded`](crate::Guarded).
     ///
     /// ```
     /// # use offset_allocator_guarded::*;
@@ -114,7 +114,7 @@ impl Ticket {
         self.realm
     }
 
-    /// The ticket as four numbers: its offset, name, serial and realm. `from_parts` makes the ticket of them
+    /// The ticket as four numbers: its offset, name, serial and realm. [`from_parts`](Self::from_parts) makes the ticket of them
     /// again.
     ///
     /// ```
@@ -129,7 +129,7 @@ impl Ticket {
         (self.offset, self.name(), self.serial(), self.realm)
     }
 
-    /// The ticket of an offset, a name, a serial and a realm, as `to_parts` returns them, or `None` where `name`
+    /// The ticket of an offset, a name, a serial and a realm, as [`to_parts`](Self::to_parts) returns them, or `None` where `name`
     /// is 4294967295, which is no name.
     ///
     /// It is as any other ticket: `is_live` reports whether it is live in a space.

@@ -225,7 +225,7 @@ impl<V> Beside<V> {
         }
     }
 
-    /// The cells, by name: what was put and not taken, each value with its ticket. `iter` gives these alone.
+    /// The cells, by name: what was put and not taken, each value with its ticket. [`iter`](Self::iter) gives these alone.
     ///
     /// ```
     /// # use offset_allocator_guarded::*;
@@ -328,7 +328,7 @@ impl<V: fmt::Debug> fmt::Debug for Beside<V> {
     }
 }
 
-/// The values of a `Beside` with their tickets, by name, seen as the list of those that are left.
+/// The values of a [`Beside`](crate::Beside) with their tickets, by name, seen as the list of those that are left.
 pub struct BesideIter<'a, V> {
     cells: &'a [Option<(Ticket, V)>],
     // how many values are left

@@ -6,7 +6,7 @@ use crate::GuardedOf;
 use crate::ticket::Ticket;
 use offset_allocator::{Accesses, Allocation, Tables};
 
-/// As `in_the_way` of `Guarded`, and as `live_at` with one unit. The count grows by at most 5 for each block,
+/// As `in_the_way` of [`Guarded`](crate::Guarded), and as `live_at` with one unit. The count grows by at most 5 for each block,
 /// and 5.
 pub fn in_the_way_counted<T: Tables>(
     guarded: &GuardedOf<T>,
@@ -28,7 +28,7 @@ impl<T: Tables> GuardedOf<T> {
     }
 
     /// The ticket of the live range that is the first one in space, as `Allocator::first_live` finds it, or
-    /// `None` where none is live. Its offset is where the range begins now, as in what `ticket` returns.
+    /// `None` where none is live. Its offset is where the range begins now, as in what [`ticket`](Self::ticket) returns.
     ///
     /// ```
     /// # use offset_allocator_guarded::*;
@@ -47,7 +47,7 @@ impl<T: Tables> GuardedOf<T> {
     }
 
     /// The ticket of the live range that is the last one in space, as `Allocator::last_live` finds it, or
-    /// `None` where none is live. Its offset is where the range begins now, as in what `ticket` returns.
+    /// `None` where none is live. Its offset is where the range begins now, as in what [`ticket`](Self::ticket) returns.
     ///
     /// ```
     /// # use offset_allocator_guarded::*;

@@ -103,7 +103,7 @@ fn expected<T: Tables>(space: &AllocatorOf<T>, step: u32) -> Expected {
     let last = all.len() - 1;
     let first = all[..last].iter().position(|it| it.2.is_none() && it.1 >= step);
     assert_eq!(is_whole, first.is_some());
-    let is_done = first.map_or(true, |first| {
+    let is_done = first.is_none_or(|first| {
         let stay = all[first..last].iter().filter(|it| it.2.is_some() || it.1 % step > 0).count();
         let blocks = first + stay + usize::from(all[last].2.is_some()) + 1;
         blocks < space.max_allocs() as usize

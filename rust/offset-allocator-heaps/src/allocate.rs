@@ -176,7 +176,7 @@ impl<T: Tables> HeapsOf<T> {
     /// `GuardedOf::raised` does it, to `max_allocs` at most: that is always enough. Only for a new heap and for
     /// more nodes memory is requested, and never where the request is granted without them.
     ///
-    /// Where the request is refused, all is as it was, and the `Refusal` says why.
+    /// Where the request is refused, all is as it was, and the [`Refusal`](crate::Refusal) says why.
     ///
     /// # Panics
     ///

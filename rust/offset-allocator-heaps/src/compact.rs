@@ -52,7 +52,7 @@ fn compact_all<T: Tables, F: FnMut(u32, Move<T::Index>)>(
 impl<T: Tables> HeapsOf<T> {
     /// Slides live ranges of the heap of a number to the front of its space by its step, as `GuardedOf::compact`
     /// does, so that **each keeps every alignment that was asked for**, and returns whether it was done. Every place
-    /// stays live, with its size; `offset_of` returns where its range begins. `moved` is called with each move, in
+    /// stays live, with its size; [`offset_of`](Self::offset_of) returns where its range begins. `moved` is called with each move, in
     /// space order.
     ///
     /// `false` is returned, and no range moves, where the number has no heap, where the heap has no step (`heap(number)`
@@ -81,9 +81,9 @@ impl<T: Tables> HeapsOf<T> {
         done
     }
 
-    /// Slides live ranges of each heap to the front of its space by its step, as `compact_heap` of each number that
+    /// Slides live ranges of each heap to the front of its space by its step, as [`compact_heap`](Self::compact_heap) of each number that
     /// has one does, one after another, so that **each keeps every alignment that was asked for**, and returns whether
-    /// it was done in each: one that refuses it stays as it is. Every place stays live, with its size; `offset_of`
+    /// it was done in each: one that refuses it stays as it is. Every place stays live, with its size; [`offset_of`](Self::offset_of)
     /// returns where its range begins. `moved` is called with the number of the heap and each move: by
     /// the numbers of the heaps, and in a heap in space order; each move is within the buffer of its number.
     /// No heap is made or dropped. It notes each number in the index, and takes the time of `GuardedOf::compact` for each heap.
@@ -138,10 +138,10 @@ impl<T: Tables> HeapsOf<T> {
     /// ranges have to move for it, as `GuardedOf::make_room_aligned` does by the step of the heap, so that **each range
     /// that moves keeps every alignment that was asked for**. It returns the cost; or `None` where no run of blocks gives
     /// up enough, the heap has no step, or the number has no heap, and then no range moves. Every place stays live, with
-    /// its size; `offset_of` returns where its range begins. `moved` is called with each move, in space order.
+    /// its size; [`offset_of`](Self::offset_of) returns where its range begins. `moved` is called with each move, in space order.
     ///
     /// Room is made under the node limit that the heap has now: no memory is taken here. Whether a heap before it has
-    /// room is not looked at: `allocate_aligned` takes the first heap that has.
+    /// room is not looked at: [`allocate_aligned`](Self::allocate_aligned) takes the first heap that has.
     ///
     /// # Panics
     ///

@@ -80,10 +80,10 @@ fn put_slots<T: Tables>(
     Ok(())
 }
 
-/// All heaps as JSON: an object with `totals`, the fields of `Totals` by their names, and `heaps`, by number:
+/// All heaps as JSON: an object with `totals`, the fields of [`Totals`](crate::Totals) by their names, and `heaps`, by number:
 /// each with its `number` and `space`, the object that `json_of` of the allocator's crate writes.
 ///
-/// It returns the text, or `AllocError` where an allocation fails.
+/// It returns the text, or [`AllocError`](crate::AllocError) where an allocation fails.
 ///
 /// ```
 /// # use offset_allocator_heaps::*;

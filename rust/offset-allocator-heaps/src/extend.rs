@@ -72,7 +72,7 @@ pub(crate) fn extend_in<T: Tables>(
 impl<T: Tables> HeapsOf<T> {
     /// Adds `more` units at the end of the heap of a number, as `GuardedOf::extend` does, and returns whether it
     /// did: for a buffer that became larger in place. Every place keeps its range. A usual heap may have
-    /// more units than `Limits` say then; once it is dropped, its number has the units of the limits again.
+    /// more units than [`Limits`](crate::Limits) say then; once it is dropped, its number has the units of the limits again.
     ///
     /// `false` is returned where the number has no heap, where the heap would have more than 4294967295 units,
     /// or where its last block is used and no further block may exist under its largest node limit; then all is

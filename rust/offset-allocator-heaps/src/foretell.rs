@@ -8,7 +8,7 @@ use crate::index::LARGER_KEY;
 use crate::refusal::Refusal;
 use offset_allocator::{Accesses, Tables};
 
-/// As `refusal_aligned` of `Heaps`. The count grows by some for each bit of the numbers.
+/// As `refusal_aligned` of [`Heaps`](crate::Heaps). The count grows by some for each bit of the numbers.
 ///
 /// # Panics
 ///
@@ -77,7 +77,7 @@ impl<T: Tables> HeapsOf<T> {
     }
 
     /// Why `allocate_aligned(size, align)` would be refused now, or `None` where it would be granted: a heap has
-    /// room for it, or another may be made for it, whose memory alone may be refused. It is never `Memory`.
+    /// room for it, or another may be made for it, whose memory alone may be refused. It is never [`Memory`](crate::Refusal::Memory).
     /// See the law `refusals_are_foretold` of the proved sources.
     ///
     /// It takes some steps for each bit of the numbers, and touches no heap.

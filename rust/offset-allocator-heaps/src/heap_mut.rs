@@ -10,8 +10,8 @@ use offset_guarded::{GuardedOf, Ticket};
 use core::ops::Deref;
 
 /// The heap of a number, to be changed by the calls of one space with tickets: each does in this heap what it does in a
-/// `GuardedOf`, under the node limit that the heap has now, and no other heap changes. A refused call leaves all heaps as
-/// they were. `heap_mut` of `Heaps` returns one; questions are those of `GuardedOf`.
+/// [`GuardedOf`](crate::GuardedOf), under the node limit that the heap has now, and no other heap changes. A refused call leaves all heaps as
+/// they were. `heap_mut` of [`Heaps`](crate::Heaps) returns one; questions are those of `GuardedOf`.
 ///
 /// A place of `Heaps` and a ticket here are of one grant: `Place::ticket` makes the ticket, `place` the place.
 ///
@@ -88,7 +88,7 @@ impl<T: Tables> HeapMut<'_, T> {
         self.number
     }
 
-    /// The place of a ticket in this heap, for the calls of `Heaps`.
+    /// The place of a ticket in this heap, for the calls of [`Heaps`](crate::Heaps).
     ///
     /// ```
     /// # use offset_allocator_heaps::*;
@@ -307,7 +307,7 @@ impl<T: Tables> HeapMut<'_, T> {
     }
 
     /// As `GuardedOf::relocate` in this heap: a second range before the first one, which keeps every alignment. `relocate` of
-    /// `Heaps` grants one in another heap.
+    /// [`Heaps`](crate::Heaps) grants one in another heap.
     ///
     /// ```
     /// # use offset_allocator_heaps::*;
@@ -365,7 +365,7 @@ impl<T: Tables> HeapMut<'_, T> {
         result
     }
 
-    /// As `GuardedOf::relocate_unaligned` in this heap: **the second range keeps no alignment**; that of `relocate` keeps all.
+    /// As `GuardedOf::relocate_unaligned` in this heap: **the second range keeps no alignment**; that of [`relocate`](Self::relocate) keeps all.
     ///
     /// ```
     /// # use offset_allocator_heaps::*;
@@ -449,7 +449,7 @@ impl<T: Tables> HeapMut<'_, T> {
         result
     }
 
-    /// As `GuardedOf::compact_unaligned` in this heap: **a moved range keeps no alignment**; `compact` keeps all.
+    /// As `GuardedOf::compact_unaligned` in this heap: **a moved range keeps no alignment**; [`compact`](Self::compact) keeps all.
     ///
     /// ```
     /// # use offset_allocator_heaps::*;
@@ -654,7 +654,7 @@ impl<T: Tables> HeapMut<'_, T> {
         result
     }
 
-    /// As `GuardedOf::make_room_unaligned` in this heap: **a moved range keeps no alignment**; `make_room_aligned` keeps all.
+    /// As `GuardedOf::make_room_unaligned` in this heap: **a moved range keeps no alignment**; [`make_room_aligned`](Self::make_room_aligned) keeps all.
     ///
     /// ```
     /// # use offset_allocator_heaps::*;
@@ -685,7 +685,7 @@ impl<T: Tables> HeapMut<'_, T> {
         result
     }
 
-    /// As `GuardedOf::extend` in this heap. `extend_heap` of `Heaps` raises its node limit too, where that is needed.
+    /// As `GuardedOf::extend` in this heap. `extend_heap` of [`Heaps`](crate::Heaps) raises its node limit too, where that is needed.
     ///
     /// ```
     /// # use offset_allocator_heaps::*;

@@ -7,7 +7,7 @@ use crate::HeapsOf;
 use crate::place::Place;
 use offset_allocator::{Accesses, Tables};
 
-/// As `first_heap` of `Heaps`. The count grows at most by the number of numbers, one for each slot.
+/// As `first_heap` of [`Heaps`](crate::Heaps). The count grows at most by the number of numbers, one for each slot.
 pub fn first_heap_counted<T: Tables>(heaps: &HeapsOf<T>, count: &mut Accesses) -> Option<u32> {
     let limits = heaps.limits;
     heaps
@@ -15,7 +15,7 @@ pub fn first_heap_counted<T: Tables>(heaps: &HeapsOf<T>, count: &mut Accesses) -
         .heap_from(0, limits.most + limits.most_larger, count)
 }
 
-/// As `heap_after` of `Heaps`. The count grows at most by the number of numbers, one for each slot.
+/// As `heap_after` of [`Heaps`](crate::Heaps). The count grows at most by the number of numbers, one for each slot.
 pub fn heap_after_counted<T: Tables>(
     heaps: &HeapsOf<T>,
     number: u32,
@@ -48,7 +48,7 @@ impl<T: Tables> HeapsOf<T> {
         }
     }
 
-    /// The first number that has a heap, or `None` where there is no heap. From it on, `heap_after` walks all
+    /// The first number that has a heap, or `None` where there is no heap. From it on, [`heap_after`](Self::heap_after) walks all
     /// heaps. It reads the slots up to that number.
     ///
     /// ```
@@ -93,7 +93,7 @@ impl<T: Tables> HeapsOf<T> {
     }
 
     /// The first live place of all heaps, by their numbers, and in a heap from its start; or `None` where
-    /// nothing is live. From it on, `place_after` walks all live places; they may be freed on the way, after
+    /// nothing is live. From it on, [`place_after`](Self::place_after) walks all live places; they may be freed on the way, after
     /// the next one is asked for.
     ///
     /// ```

@@ -1,32 +1,11 @@
 // Printed by rust/erase from crates/offset_heaps/src/lib.rt: change it there.
 
-//! Ranges of as many buffers as are needed, each with a heap of its own.
-//!
-//! A `Heaps` holds heaps by number, each a `GuardedOf`: usual ones, all of one size or each twice as large as
-//! the one before it, and larger ones, each of the size of the request that it was made for. Nothing is known
-//! of the buffers: the caller makes the buffer of a number when he is told that its heap is new, and drops it
-//! when he is told that the heap was dropped. A `Place` is the number of a heap and a grant there. Every call
-//! takes any place, and one that is not live changes nothing.
-//!
-//! ```
-//! use offset_allocator_heaps::*;
-//! let alloc = Global;
-//! let limits =
-//!     Limits { size: 1 << 24, first_size: 1 << 18, max_allocs: 65536, first_allocs: 64, most: 64, most_larger: 16 };
-//! let mut heaps = Heaps::<u32>::with_realms(alloc, limits, 1, 0)?;
-//! if let Ok(granted) = heaps.allocate(3000) {
-//!     // granted.is_new: make the buffer of this number, of heaps.units_of_heap(granted.place.heap) units
-//!     assert!(heaps.free(granted.place));
-//! }
-//! while let Some(number) = heaps.drop_empty(1) {
-//!     // drop the buffer of this number
-//! }
-//! # Ok::<(), AllocError>(())
-//! ```
 #![doc = include_str!("../README.md")]
 #![no_std]
 #![forbid(unsafe_code)]
+#![allow(rustdoc::redundant_explicit_links)] // printed links say in full where they lead
 #![warn(missing_docs)]
+#![expect(clippy::implicit_saturating_sub)] // the proof speaks of both cases
 #![expect(clippy::len_zero)] // the proof speaks of the length, which no call hides
 #![expect(clippy::manual_find)] // a loop over places needs no closure, whose calls would need a proof
 #![expect(clippy::manual_map)] // a `match` needs no closure, whose calls would need a proof
@@ -42,32 +21,256 @@ pub use offset_allocator_memory as memory;
 pub use offset_allocator_memory::{AllocError, Global};
 pub use offset_guarded::{Refusal as TicketRefusal, StateFaultKind as TicketFaultKind, ext, small_float};
 
+mod calls {
+    use super::*;
+
+    impl<T: Tables> HeapsOf<T> {
+        /// No heap, and memory for the numbers of all that may be made: some 1.2 KB each. A heap is made by the
+        /// first request that none has room for.
+        ///
+        /// The realm is kept in places: a place of another realm is never live here. The heaps have realms too,
+        /// which are kept in places too: the numbers above `given`, one after another.
+        ///
+        /// # Errors
+        ///
+        /// An error is returned only where an allocation failed; then nothing is made.
+        ///
+        /// # Panics
+        ///
+        /// It panics unless first_size is at least 1, or size, and first_size is at most size, and
+        /// `max_allocs` is at least 4, and `max_allocs` is at most `NI::MAX - 2`, and first_allocs is at
+        /// least 8, or `max_allocs`, and first_allocs is at most `max_allocs`, and there are at most
+        /// 4294967295 heaps.
+        ///
+        /// ```
+        /// # use offset_allocator_heaps::*;
+        /// # let alloc = Global;
+        /// let limits =
+        ///     Limits { size: 1 << 24, first_size: 1 << 18, max_allocs: 65536, first_allocs: 64, most: 64, most_larger: 16 };
+        /// let heaps = Heaps::<u32>::with_realms(alloc, limits, 1, 0)?;
+        /// assert_eq!(heaps.totals().heaps, 0);
+        /// # Ok::<(), AllocError>(())
+        /// ```
+        #[track_caller]
+        pub fn with_realms(
+            alloc: Global,
+            limits: Limits,
+            realm: u32,
+            given: u32,
+        ) -> Result<Self, AllocError> {
+            assert!(limits.size.min(1) <= limits.first_size, "first_size must be at least 1, or size");
+            assert!(limits.first_size <= limits.size, "first_size must be at most size");
+            assert!(4 <= limits.max_allocs, "max_allocs must be at least 4");
+            assert!(limits.max_allocs < <T::Index as offset_allocator::NodeIndex>::MAX - 1, "max_allocs must be at most NI::MAX - 2");
+            assert!(limits.max_allocs.min(8) <= limits.first_allocs, "first_allocs must be at least 8, or max_allocs");
+            assert!(limits.first_allocs <= limits.max_allocs, "first_allocs must be at most max_allocs");
+            assert!(limits.most.checked_add(limits.most_larger).is_some(), "there may be at most 4294967295 heaps");
+            let count = limits.most + limits.most_larger;
+            let slots = Slots::with_room(alloc, count)?;
+            let mut index = Index::with_room(alloc, count)?;
+            let mut accesses = Accesses::new();
+            for number in 0..count {
+                index.note(&slots, number, limits, &mut accesses);
+            }
+            Ok(HeapsOf {
+                alloc,
+                slots,
+                index,
+                limits,
+                made: given,
+                realm,
+                accesses: Accesses::new(),
+            })
+        }
+
+        /// Frees the range of a place, as `GuardedOf::free` does in its heap, and returns `true`; or `false`
+        /// where the place is not live, and then nothing changes. The heap stays, also where it is empty then:
+        /// [`drop_empty`](Self::drop_empty) drops it.
+        ///
+        /// ```
+        /// # use offset_allocator_heaps::*;
+        /// # let alloc = Global;
+        /// let limits = Limits { size: 1000, first_size: 1000, max_allocs: 100, first_allocs: 8, most: 2, most_larger: 1 };
+        /// let mut heaps = Heaps::<u32>::new(alloc, limits)?;
+        /// let mesh = heaps.allocate(300).unwrap().place;
+        /// assert!(heaps.free(mesh));
+        /// assert!(!heaps.free(mesh));
+        /// # Ok::<(), AllocError>(())
+        /// ```
+        pub fn free(&mut self, place: Place) -> bool {
+            let (number, realm, ticket) = place.split();
+            if realm != self.realm {
+                return false;
+            }
+            if !self.slots.free(number, ticket, &mut self.accesses) {
+                return false;
+            }
+            self.index
+                .note(&self.slots, number, self.limits, &mut self.accesses);
+            true
+        }
+    }
+}
+
 mod allocate;
+mod tight;
+
+mod more_calls {
+    use super::*;
+
+    impl<T: Tables> HeapsOf<T> {
+        /// The limits.
+        ///
+        /// ```
+        /// # use offset_allocator_heaps::*;
+        /// # let alloc = Global;
+        /// let limits = Limits { size: 1000, first_size: 1000, max_allocs: 100, first_allocs: 8, most: 2, most_larger: 1 };
+        /// let mut heaps = Heaps::<u32>::new(alloc, limits)?;
+        /// assert_eq!(heaps.limits().most, 2);
+        /// # Ok::<(), AllocError>(())
+        /// ```
+        pub fn limits(&self) -> Limits {
+            self.limits
+        }
+
+        /// The realm of its places.
+        ///
+        /// ```
+        /// # use offset_allocator_heaps::*;
+        /// # let alloc = Global;
+        /// let limits = Limits { size: 1000, first_size: 1000, max_allocs: 100, first_allocs: 8, most: 2, most_larger: 1 };
+        /// let mut heaps = Heaps::<u32>::new(alloc, limits)?;
+        /// assert_eq!(heaps.realm(), 1);
+        /// # Ok::<(), AllocError>(())
+        /// ```
+        pub fn realm(&self) -> u32 {
+            self.realm
+        }
+
+        /// The heap of a number, to read: its reports, its statistics, its blocks. `None` is returned where the
+        /// number has no heap. It speaks of the node limit that it has now: where that is reached, its report is 0 and
+        /// 0, though the heaps grant a request there and raise the limit. [`totals`](Self::totals) looks at the largest limit.
+        ///
+        /// ```
+        /// # use offset_allocator_heaps::*;
+        /// # let alloc = Global;
+        /// let limits = Limits { size: 1000, first_size: 1000, max_allocs: 100, first_allocs: 8, most: 2, most_larger: 1 };
+        /// let mut heaps = Heaps::<u32>::new(alloc, limits)?;
+        /// let mesh = heaps.allocate(300).unwrap().place;
+        /// assert_eq!(heaps.heap(mesh.heap).unwrap().allocator().live_units(), 300);
+        /// # Ok::<(), AllocError>(())
+        /// ```
+        pub fn heap(&self, number: u32) -> Option<&GuardedOf<T>> {
+            self.slots.at(number, &mut Accesses::new())
+        }
+
+        /// Whether a place is live here: it has the realm, and its range was not freed, its heap not given up and
+        /// nothing was reset since.
+        ///
+        /// ```
+        /// # use offset_allocator_heaps::*;
+        /// # let alloc = Global;
+        /// let limits = Limits { size: 1000, first_size: 1000, max_allocs: 100, first_allocs: 8, most: 2, most_larger: 1 };
+        /// let mut heaps = Heaps::<u32>::new(alloc, limits)?;
+        /// let mesh = heaps.allocate(300).unwrap().place;
+        /// heaps.free(mesh);
+        /// assert!(!heaps.is_live(mesh));
+        /// # Ok::<(), AllocError>(())
+        /// ```
+        pub fn is_live(&self, place: Place) -> bool {
+            match self.heap_of(&place) {
+                None => false,
+                Some(heap) => heap.is_live(place.ticket(0)),
+            }
+        }
+
+        /// The units of the range of a place, or `None` where it is not live.
+        ///
+        /// ```
+        /// # use offset_allocator_heaps::*;
+        /// # let alloc = Global;
+        /// let limits = Limits { size: 1000, first_size: 1000, max_allocs: 100, first_allocs: 8, most: 2, most_larger: 1 };
+        /// let mut heaps = Heaps::<u32>::new(alloc, limits)?;
+        /// let mesh = heaps.allocate(300).unwrap().place;
+        /// assert_eq!(heaps.size_of(mesh), Some(300));
+        /// # Ok::<(), AllocError>(())
+        /// ```
+        pub fn size_of(&self, place: Place) -> Option<u32> {
+            match self.heap_of(&place) {
+                None => None,
+                Some(heap) => heap.size_of(place.ticket(0)),
+            }
+        }
+
+        /// Where the range of a place begins, in units from the start of its heap, or `None` where it is not
+        /// live.
+        ///
+        /// ```
+        /// # use offset_allocator_heaps::*;
+        /// # let alloc = Global;
+        /// let limits = Limits { size: 1000, first_size: 1000, max_allocs: 100, first_allocs: 8, most: 2, most_larger: 1 };
+        /// let mut heaps = Heaps::<u32>::new(alloc, limits)?;
+        /// let mesh = heaps.allocate(300).unwrap().place;
+        /// assert_eq!(heaps.offset_of(mesh), Some(0));
+        /// # Ok::<(), AllocError>(())
+        /// ```
+        pub fn offset_of(&self, place: Place) -> Option<u32> {
+            match self.heap_of(&place) {
+                None => None,
+                Some(heap) => heap.offset_of(place.ticket(0)),
+            }
+        }
+
+        /// Makes the space of each heap one free block again. No earlier place is ever live again. All heaps
+        /// stay, for [`drop_empty`](Self::drop_empty).
+        ///
+        /// ```
+        /// # use offset_allocator_heaps::*;
+        /// # let alloc = Global;
+        /// let limits = Limits { size: 1000, first_size: 1000, max_allocs: 100, first_allocs: 8, most: 2, most_larger: 1 };
+        /// let mut heaps = Heaps::<u32>::new(alloc, limits)?;
+        /// let mesh = heaps.allocate(300).unwrap().place;
+        /// heaps.reset();
+        /// assert!(!heaps.is_live(mesh));
+        /// assert_eq!(heaps.totals().heaps, 1);
+        /// # Ok::<(), AllocError>(())
+        /// ```
+        pub fn reset(&mut self) {
+            reset_all(
+                &mut self.slots,
+                &mut self.index,
+                self.limits,
+                &mut self.accesses,
+            );
+        }
+    }
+}
+
+mod resize;
+mod relocate;
 mod compact;
-mod copy;
 mod drop;
-mod dumping;
 mod extend;
+mod walks;
 mod foretell;
+mod heap_numbers;
+mod totals;
+mod save;
+mod restore;
+mod copy;
+mod dumping;
 mod fresh;
 mod heap_mut;
-mod heap_numbers;
 mod index;
+#[doc(hidden)]
 pub mod laws;
 mod limits;
 mod marks;
 mod maxima;
 mod place;
 mod refusal;
-mod relocate;
-mod resize;
-mod restore;
-mod save;
 mod slots;
 mod state;
-mod tight;
-mod totals;
-mod walks;
 
 pub use dumping::json_of;
 pub use heap_mut::HeapMut;
@@ -119,109 +322,6 @@ fn reset_all<T: Tables>(
 }
 
 impl<T: Tables> HeapsOf<T> {
-    /// No heap, and memory for the numbers of all that may be made: some 1.2 KB each. A heap is made by the
-    /// first request that none has room for.
-    ///
-    /// The realm is kept in places: a place of another realm is never live here. The heaps have realms too,
-    /// which are kept in places too: the numbers above `given`, one after another.
-    ///
-    /// # Errors
-    ///
-    /// An error is returned only where an allocation failed; then nothing is made.
-    ///
-    /// # Panics
-    ///
-    /// It panics unless first_size is at least 1, or size, and first_size is at most size, and
-    /// `max_allocs` is at least 4, and `max_allocs` is at most `NI::MAX - 2`, and first_allocs is at
-    /// least 8, or `max_allocs`, and first_allocs is at most `max_allocs`, and there are at most
-    /// 4294967295 heaps.
-    ///
-    /// ```
-    /// # use offset_allocator_heaps::*;
-    /// # let alloc = Global;
-    /// let limits =
-    ///     Limits { size: 1 << 24, first_size: 1 << 18, max_allocs: 65536, first_allocs: 64, most: 64, most_larger: 16 };
-    /// let heaps = Heaps::<u32>::with_realms(alloc, limits, 1, 0)?;
-    /// assert_eq!(heaps.totals().heaps, 0);
-    /// # Ok::<(), AllocError>(())
-    /// ```
-    #[track_caller]
-    pub fn with_realms(
-        alloc: Global,
-        limits: Limits,
-        realm: u32,
-        given: u32,
-    ) -> Result<Self, AllocError> {
-        assert!(limits.size.min(1) <= limits.first_size, "first_size must be at least 1, or size");
-        assert!(limits.first_size <= limits.size, "first_size must be at most size");
-        assert!(4 <= limits.max_allocs, "max_allocs must be at least 4");
-        assert!(limits.max_allocs < <T::Index as offset_allocator::NodeIndex>::MAX - 1, "max_allocs must be at most NI::MAX - 2");
-        assert!(limits.max_allocs.min(8) <= limits.first_allocs, "first_allocs must be at least 8, or max_allocs");
-        assert!(limits.first_allocs <= limits.max_allocs, "first_allocs must be at most max_allocs");
-        assert!(limits.most.checked_add(limits.most_larger).is_some(), "there may be at most 4294967295 heaps");
-        let count = limits.most + limits.most_larger;
-        let slots = Slots::with_room(alloc, count)?;
-        let mut index = Index::with_room(alloc, count)?;
-        let mut accesses = Accesses::new();
-        for number in 0..count {
-            index.note(&slots, number, limits, &mut accesses);
-        }
-        Ok(HeapsOf {
-            alloc,
-            slots,
-            index,
-            limits,
-            made: given,
-            realm,
-            accesses: Accesses::new(),
-        })
-    }
-
-    /// The limits.
-    ///
-    /// ```
-    /// # use offset_allocator_heaps::*;
-    /// # let alloc = Global;
-    /// let limits = Limits { size: 1000, first_size: 1000, max_allocs: 100, first_allocs: 8, most: 2, most_larger: 1 };
-    /// let mut heaps = Heaps::<u32>::new(alloc, limits)?;
-    /// assert_eq!(heaps.limits().most, 2);
-    /// # Ok::<(), AllocError>(())
-    /// ```
-    pub fn limits(&self) -> Limits {
-        self.limits
-    }
-
-    /// The realm of its places.
-    ///
-    /// ```
-    /// # use offset_allocator_heaps::*;
-    /// # let alloc = Global;
-    /// let limits = Limits { size: 1000, first_size: 1000, max_allocs: 100, first_allocs: 8, most: 2, most_larger: 1 };
-    /// let mut heaps = Heaps::<u32>::new(alloc, limits)?;
-    /// assert_eq!(heaps.realm(), 1);
-    /// # Ok::<(), AllocError>(())
-    /// ```
-    pub fn realm(&self) -> u32 {
-        self.realm
-    }
-
-    /// The heap of a number, to read: its reports, its statistics, its blocks. `None` is returned where the
-    /// number has no heap. It speaks of the node limit that it has now: where that is reached, its report is 0 and
-    /// 0, though the heaps grant a request there and raise the limit. `totals` looks at the largest limit.
-    ///
-    /// ```
-    /// # use offset_allocator_heaps::*;
-    /// # let alloc = Global;
-    /// let limits = Limits { size: 1000, first_size: 1000, max_allocs: 100, first_allocs: 8, most: 2, most_larger: 1 };
-    /// let mut heaps = Heaps::<u32>::new(alloc, limits)?;
-    /// let mesh = heaps.allocate(300).unwrap().place;
-    /// assert_eq!(heaps.heap(mesh.heap).unwrap().allocator().live_units(), 300);
-    /// # Ok::<(), AllocError>(())
-    /// ```
-    pub fn heap(&self, number: u32) -> Option<&GuardedOf<T>> {
-        self.slots.at(number, &mut Accesses::new())
-    }
-
     // The heap of a place.
     fn heap_of(&self, place: &Place) -> Option<&GuardedOf<T>> {
         let (number, realm, _) = place.split();
@@ -230,113 +330,6 @@ impl<T: Tables> HeapsOf<T> {
         } else {
             None
         }
-    }
-
-    /// Whether a place is live here: it has the realm, and its range was not freed, its heap not given up and
-    /// nothing was reset since.
-    ///
-    /// ```
-    /// # use offset_allocator_heaps::*;
-    /// # let alloc = Global;
-    /// let limits = Limits { size: 1000, first_size: 1000, max_allocs: 100, first_allocs: 8, most: 2, most_larger: 1 };
-    /// let mut heaps = Heaps::<u32>::new(alloc, limits)?;
-    /// let mesh = heaps.allocate(300).unwrap().place;
-    /// heaps.free(mesh);
-    /// assert!(!heaps.is_live(mesh));
-    /// # Ok::<(), AllocError>(())
-    /// ```
-    pub fn is_live(&self, place: Place) -> bool {
-        match self.heap_of(&place) {
-            None => false,
-            Some(heap) => heap.is_live(place.ticket(0)),
-        }
-    }
-
-    /// The units of the range of a place, or `None` where it is not live.
-    ///
-    /// ```
-    /// # use offset_allocator_heaps::*;
-    /// # let alloc = Global;
-    /// let limits = Limits { size: 1000, first_size: 1000, max_allocs: 100, first_allocs: 8, most: 2, most_larger: 1 };
-    /// let mut heaps = Heaps::<u32>::new(alloc, limits)?;
-    /// let mesh = heaps.allocate(300).unwrap().place;
-    /// assert_eq!(heaps.size_of(mesh), Some(300));
-    /// # Ok::<(), AllocError>(())
-    /// ```
-    pub fn size_of(&self, place: Place) -> Option<u32> {
-        match self.heap_of(&place) {
-            None => None,
-            Some(heap) => heap.size_of(place.ticket(0)),
-        }
-    }
-
-    /// Where the range of a place begins, in units from the start of its heap, or `None` where it is not
-    /// live.
-    ///
-    /// ```
-    /// # use offset_allocator_heaps::*;
-    /// # let alloc = Global;
-    /// let limits = Limits { size: 1000, first_size: 1000, max_allocs: 100, first_allocs: 8, most: 2, most_larger: 1 };
-    /// let mut heaps = Heaps::<u32>::new(alloc, limits)?;
-    /// let mesh = heaps.allocate(300).unwrap().place;
-    /// assert_eq!(heaps.offset_of(mesh), Some(0));
-    /// # Ok::<(), AllocError>(())
-    /// ```
-    pub fn offset_of(&self, place: Place) -> Option<u32> {
-        match self.heap_of(&place) {
-            None => None,
-            Some(heap) => heap.offset_of(place.ticket(0)),
-        }
-    }
-
-    /// Frees the range of a place, as `GuardedOf::free` does in its heap, and returns `true`; or `false`
-    /// where the place is not live, and then nothing changes. The heap stays, also where it is empty then:
-    /// `drop_empty` drops it.
-    ///
-    /// ```
-    /// # use offset_allocator_heaps::*;
-    /// # let alloc = Global;
-    /// let limits = Limits { size: 1000, first_size: 1000, max_allocs: 100, first_allocs: 8, most: 2, most_larger: 1 };
-    /// let mut heaps = Heaps::<u32>::new(alloc, limits)?;
-    /// let mesh = heaps.allocate(300).unwrap().place;
-    /// assert!(heaps.free(mesh));
-    /// assert!(!heaps.free(mesh));
-    /// # Ok::<(), AllocError>(())
-    /// ```
-    pub fn free(&mut self, place: Place) -> bool {
-        let (number, realm, ticket) = place.split();
-        if realm != self.realm {
-            return false;
-        }
-        if !self.slots.free(number, ticket, &mut self.accesses) {
-            return false;
-        }
-        self.index
-            .note(&self.slots, number, self.limits, &mut self.accesses);
-        true
-    }
-
-    /// Makes the space of each heap one free block again. No earlier place is ever live again. All heaps
-    /// stay, for `drop_empty`.
-    ///
-    /// ```
-    /// # use offset_allocator_heaps::*;
-    /// # let alloc = Global;
-    /// let limits = Limits { size: 1000, first_size: 1000, max_allocs: 100, first_allocs: 8, most: 2, most_larger: 1 };
-    /// let mut heaps = Heaps::<u32>::new(alloc, limits)?;
-    /// let mesh = heaps.allocate(300).unwrap().place;
-    /// heaps.reset();
-    /// assert!(!heaps.is_live(mesh));
-    /// assert_eq!(heaps.totals().heaps, 1);
-    /// # Ok::<(), AllocError>(())
-    /// ```
-    pub fn reset(&mut self) {
-        reset_all(
-            &mut self.slots,
-            &mut self.index,
-            self.limits,
-            &mut self.accesses,
-        );
     }
 }
 

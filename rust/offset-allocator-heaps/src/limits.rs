@@ -4,7 +4,7 @@
 
 use offset_allocator::small_float::{float_to_uint, uint_to_float_round_down};
 
-/// What the heaps of a `Heaps` are, and how many there may be.
+/// What the heaps of a [`Heaps`](crate::Heaps) are, and how many there may be.
 #[derive(Clone, Copy, PartialEq, Eq, Debug)]
 pub struct Limits {
     /// The most units of a usual heap, when it is made: a larger one has those of its request.

@@ -7,16 +7,16 @@ use offset_guarded::Ticket;
 use core::fmt;
 use core::hash::{Hash, Hasher};
 
-/// A granted range, for calls on the `Heaps` that granted it. It is five numbers in 24 bytes, and so is an
+/// A granted range, for calls on the [`Heaps`](crate::Heaps) that granted it. It is five numbers in 24 bytes, and so is an
 /// `Option<Place>`. It can be kept, copied and made from them anywhere: each call tests whether it is live.
 ///
 /// It says which grant it is of, and not where the range begins: so a move leaves it as it is, and two places of
-/// one grant are always equal. `Granted` has the offset of the grant, and `offset_of` returns the present one.
+/// one grant are always equal. [`Granted`](crate::Granted) has the offset of the grant, and `offset_of` returns the present one.
 #[derive(Copy)]
 pub struct Place {
     /// The number of its heap, which a later heap may have too.
     pub heap: u32,
-    /// The realm of the `Heaps`.
+    /// The realm of the [`Heaps`](crate::Heaps).
     pub realm: u32,
     name: NonMaxU32,
     // the serial, in two halves: so a place can lie at any multiple of 4 bytes
@@ -108,7 +108,7 @@ impl Place {
         (self.high as u64) << 32 | self.low as u64
     }
 
-    /// The realm of its heap, which no other heap of these `Heaps` ever has.
+    /// The realm of its heap, which no other heap of these [`Heaps`](crate::Heaps) ever has.
     ///
     /// ```
     /// # use offset_allocator_heaps::*;
@@ -152,7 +152,7 @@ impl Place {
     }
 
     /// The place as five numbers: its heap, the realm, and of its grant in that heap the name, the serial and the
-    /// realm. `from_parts` makes the place of them again.
+    /// realm. [`from_parts`](Self::from_parts) makes the place of them again.
     ///
     /// ```
     /// # use offset_allocator_heaps::*;
@@ -173,10 +173,10 @@ impl Place {
         )
     }
 
-    /// The place of a heap, a realm, a name, a serial and the realm of the heap, as `to_parts` returns them, or
+    /// The place of a heap, a realm, a name, a serial and the realm of the heap, as [`to_parts`](Self::to_parts) returns them, or
     /// `None` where `name` is 4294967295, which is no name.
     ///
-    /// It is as any other place: `is_live` reports whether it is live in a `Heaps`.
+    /// It is as any other place: `is_live` reports whether it is live in a [`Heaps`](crate::Heaps).
     ///
     /// ```
     /// # use offset_allocator_heaps::*;
@@ -211,7 +211,7 @@ impl Place {
         }
     }
 
-    /// The place of a ticket of the heap of a number, in the `Heaps` of a realm. The offset of the ticket is left
+    /// The place of a ticket of the heap of a number, in the [`Heaps`](crate::Heaps) of a realm. The offset of the ticket is left
     /// out.
     ///
     /// ```

@@ -31,7 +31,7 @@ impl<T: Tables> HeapsOf<T> {
     /// Its realm is the next one of this process, `next_realm` of `offset-allocator-guarded`, and that of each
     /// heap that it makes is one of 65,536 that it has for itself: so no place or ticket of other heaps, or of
     /// a space with tickets, that were made so is live here. Where it makes more heaps than that, it goes on with
-    /// the realms of the next `Heaps`; and after 16,384 `Heaps` these begin again. A place has the realm of its
+    /// the realms of the next [`Heaps`](crate::Heaps); and after 16,384 `Heaps` these begin again. A place has the realm of its
     /// `Heaps` too, which keeps it apart from theirs.
     ///
     /// # Errors
@@ -52,7 +52,7 @@ impl<T: Tables> HeapsOf<T> {
         Self::with_realms(alloc, limits, next_realm(), next_block())
     }
 
-    /// The same with a realm that you choose; its heaps have the realms 1, 2, and so on. Places of two `Heaps`
+    /// The same with a realm that you choose; its heaps have the realms 1, 2, and so on. Places of two [`Heaps`](crate::Heaps)
     /// with one realm may be taken for each other.
     ///
     /// # Errors

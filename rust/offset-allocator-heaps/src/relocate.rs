@@ -8,7 +8,7 @@ use crate::place::{Granted, Place};
 use crate::slots::units_for;
 use offset_allocator::{Accesses, Tables};
 
-/// As `emptiest` of `Heaps`. The count grows by the number of numbers, one for each slot.
+/// As `emptiest` of [`Heaps`](crate::Heaps). The count grows by the number of numbers, one for each slot.
 pub fn emptiest_counted<T: Tables>(heaps: &HeapsOf<T>, count: &mut Accesses) -> Option<u32> {
     let limits = heaps.limits;
     heaps
@@ -47,7 +47,7 @@ impl<T: Tables> HeapsOf<T> {
     /// Grants a second range of as many units as that of a live place, in another heap, **at every alignment that was
     /// asked for**, and returns its place and its offset; its heap is never a new one. The old range stays live until
     /// it is freed: so the units can be copied while the old ones are still read, and the copies never overlap. Done for
-    /// all live ranges of the `emptiest` heap, by `last_live` and `live_before`, it empties that heap, which `drop_empty`
+    /// all live ranges of the [`emptiest`](Self::emptiest) heap, by [`last_live`](Self::last_live) and [`live_before`](Self::live_before), it empties that heap, which [`drop_empty`](Self::drop_empty)
     /// then drops.
     ///
     /// It grants what `relocate_aligned(place, align)` grants, where `align` is what the offset of the range and the step
@@ -55,7 +55,7 @@ impl<T: Tables> HeapsOf<T> {
     /// heap takes it in.
     ///
     /// The heap is the first one, by number, that has room, other than the place's own, and in which at least
-    /// as many units are live. A range of no units, which `shrink` may leave, needs room for one; since it adds
+    /// as many units are live. A range of no units, which [`shrink`](Self::shrink) may leave, needs room for one; since it adds
     /// no live unit, it goes to a heap with more live units, or with as many and a lower number: so each range
     /// of the `emptiest` heap may go to any other one that has room, and in which a unit is live. Calls of
     /// `relocate`, each followed by the release of its old range before the next one, come to an end, since the
@@ -66,7 +66,7 @@ impl<T: Tables> HeapsOf<T> {
     /// takes no range.
     ///
     /// `None` is returned where no heap takes the range, where its heap has no step, and where the place is not
-    /// live; then nothing changes. It looks for the first heap that has room as `allocate_aligned` does, and from
+    /// live; then nothing changes. It looks for the first heap that has room as [`allocate_aligned`](Self::allocate_aligned) does, and from
     /// there on reads each slot once, up to the one that takes the range.
     ///
     /// ```
@@ -87,9 +87,9 @@ impl<T: Tables> HeapsOf<T> {
         self.relocate_aligned(place, align)
     }
 
-    /// As `relocate`, and the second range begins at a multiple of `align`, from 1 on, whatever alignment the first
+    /// As [`relocate`](Self::relocate), and the second range begins at a multiple of `align`, from 1 on, whatever alignment the first
     /// one has: with 1 at any. Its heap is the first other one that has room for an aligned request as
-    /// `allocate_aligned` has it, for `size + align - 1` units, or one where that is none, and that may take it as
+    /// [`allocate_aligned`](Self::allocate_aligned) has it, for `size + align - 1` units, or one where that is none, and that may take it as
     /// `relocate` says. It is for a range in a heap that has no step, and for one that needs less.
     ///
     /// # Panics

@@ -190,17 +190,17 @@ fn read_slots<T: Tables>(
 }
 
 impl<T: Tables> HeapsOf<T> {
-    /// The heaps of these bytes, which `write_state` has made, or what is wrong with them, and where: any
+    /// The heaps of these bytes, which [`write_state`](Self::write_state) has made, or what is wrong with them, and where: any
     /// bytes are taken. They have the same limits, realm and heaps, by number, as those that were written: so
     /// each place that was live there is live here, with its range, and no other is. The index is made again.
-    /// Make the buffer of each number that has a heap, of the size that `heap` says.
+    /// Make the buffer of each number that has a heap, of the size that [`heap`](Self::heap) says.
     ///
     /// Serials and the realms of heaps go on from the numbers that were stored, as they do in the heaps that
     /// were written: so a later grant of one may have a place that is live in the other, for another range.
     /// Use one in place of the other. A place that was freed after the bytes were written is live again here.
     ///
     /// `most_heaps` is the largest `most + most_larger` that is accepted, and `most_allocs` the largest node
-    /// limit, of the limits and of each heap, since memory for these is reserved, as by `new` and by
+    /// limit, of the limits and of each heap, since memory for these is reserved, as by [`new`](Self::new) and by
     /// `GuardedOf::with_realm`; and for a number only where 8 bytes were given for it. It takes time for
     /// the bytes, and some steps for each bit of the numbers for each of them.
     ///

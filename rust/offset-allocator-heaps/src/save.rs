@@ -40,7 +40,7 @@ fn states_of<T: Tables>(
 }
 
 impl<T: Tables> HeapsOf<T> {
-    /// The bytes of the state, which `read_state` reads: 96, 8 for each number, and those of
+    /// The bytes of the state, which [`read_state`](Self::read_state) reads: 96, 8 for each number, and those of
     /// `GuardedOf::write_state` for each heap. The first are numbers of 64 bits, the lowest byte of each
     /// first: the letters OAHS, the version 3, the six limits, the last heap's realm, the realm; where the
     /// state of each number's heap begins behind these numbers, and where the last one ends, so that a number

@@ -19,8 +19,8 @@ pub struct StateFault {
 }
 
 /// What is wrong with the bytes of a state: of the numbers of many heaps the first that applies of `Length`,
-/// for fewer than 96 bytes, `Form`, `Limits`, `Counts`, `Length` again, for the numbers of heaps, and
-/// `Checksum`; then `Place`, where the first state begins or the last one ends; and then of the first heap
+/// for fewer than 96 bytes, `Form`, [`Limits`](crate::Limits), `Counts`, `Length` again, for the numbers of heaps, and
+/// `Checksum`; then [`Place`](crate::Place), where the first state begins or the last one ends; and then of the first heap
 /// that is wrong the first of `Place`, `Heap`, `Realm` and `Size`. The place is that of the number that is
 /// wrong, if nothing else is said.
 #[derive(Clone, Copy, PartialEq, Debug)]

@@ -8,7 +8,7 @@ use crate::place::Granted;
 use crate::refusal::Refusal;
 use offset_allocator::{Accesses, Tables};
 
-/// As `refusal_tight_aligned` of `Heaps`. The count grows by the number of numbers at most, one for each slot, and
+/// As `refusal_tight_aligned` of [`Heaps`](crate::Heaps). The count grows by the number of numbers at most, one for each slot, and
 /// by some for each bit of the numbers.
 ///
 /// # Panics
@@ -95,12 +95,12 @@ impl<T: Tables> HeapsOf<T> {
     ///
     /// It is the first heap, by number, that has a free block which holds the request where it begins, and, under
     /// its largest node limit, unused nodes for it, and it grants what `GuardedOf::allocate_tight_aligned`
-    /// grants. So a heap that has room for the same request of `allocate_aligned` grants this one, and others may.
+    /// grants. So a heap that has room for the same request of [`allocate_aligned`](Self::allocate_aligned) grants this one, and others may.
     /// Where none holds it, another heap is made, exactly as by `allocate_aligned`: a usual one where the last of these has room for
     /// `size` units when it is fresh, else one of exactly `size` units. The node limit of the heap is raised before,
     /// where it has to be, as there.
     ///
-    /// Where the request is refused, all is as it was, and the `Refusal` says why.
+    /// Where the request is refused, all is as it was, and the [`Refusal`](crate::Refusal) says why.
     ///
     /// The index has of each heap the largest region of its report, up to an eighth less than its largest free
     /// block, so it does not say which heap holds the request: they are asked one after another. It reads each slot
@@ -144,7 +144,7 @@ impl<T: Tables> HeapsOf<T> {
     }
 
     /// Why `allocate_tight_aligned(size, align)` would be refused now, or `None` where it would be granted: a heap
-    /// holds it, or another may be made for it; then memory alone may be refused. It is never `Memory`. See
+    /// holds it, or another may be made for it; then memory alone may be refused. It is never [`Memory`](crate::Refusal::Memory). See
     /// the law `tight_refusals_are_foretold` of the proved sources. It asks the heaps as that call does.
     ///
     /// # Panics

@@ -17,7 +17,7 @@ impl<T: Tables> HeapsOf<T> {
     }
 
     /// The place of the live range that is the first one in the heap of a number, or `None` where nothing is
-    /// live in it, or the number has no heap. From it on, `live_after` walks all live ranges of the heap; they
+    /// live in it, or the number has no heap. From it on, [`live_after`](Self::live_after) walks all live ranges of the heap; they
     /// may be freed on the way, after the next one is asked for.
     ///
     /// ```
@@ -38,7 +38,7 @@ impl<T: Tables> HeapsOf<T> {
     }
 
     /// The place of the live range that is the last one in the heap of a number, or `None` where nothing is
-    /// live in it, or the number has no heap. From it on, `live_before` walks all live ranges of the heap;
+    /// live in it, or the number has no heap. From it on, [`live_before`](Self::live_before) walks all live ranges of the heap;
     /// they may be freed on the way, after the next one is asked for.
     ///
     /// ```
@@ -82,7 +82,7 @@ impl<T: Tables> HeapsOf<T> {
     }
 
     /// The place of the live range directly after that of a place in its heap. `None` where there is none, or
-    /// where the place is not live. `place_after` goes on in the next heap.
+    /// where the place is not live. [`place_after`](Self::place_after) goes on in the next heap.
     ///
     /// ```
     /// # use offset_allocator_heaps::*;

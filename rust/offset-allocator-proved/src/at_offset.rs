@@ -76,7 +76,7 @@ impl<T: Tables> AllocatorOf<T> {
     ///
     /// `None` is returned where no free block holds them, or where there is no room for the blocks that are
     /// added: one for the units before the range, one for those after it, and at least one. Then the space is
-    /// as it was. Where live ranges are in the way, `in_the_way` returns the last of them; there is none where
+    /// as it was. Where live ranges are in the way, [`in_the_way`](Self::in_the_way) returns the last of them; there is none where
     /// the units end after the space, or where there is only no room for blocks. Which block it is is found by
     /// a walk back from the end of the space: it makes at most 80 accesses to the tables, and 3 for each
     /// block, and takes no memory.
@@ -104,7 +104,7 @@ impl<T: Tables> AllocatorOf<T> {
         }
     }
 
-    /// Whether one free block holds the `size` units that begin at `offset`: so `allocate_at` grants them,
+    /// Whether one free block holds the `size` units that begin at `offset`: so [`allocate_at`](Self::allocate_at) grants them,
     /// with room for the blocks that it adds. It walks back from the end of the space, and makes at most 3
     /// accesses to the tables for each block, and 2.
     ///

@@ -35,7 +35,7 @@ impl<T: Tables> AllocatorOf<T> {
         chain::before(&self.store.tables, last, &mut self.store.accesses)
     }
 
-    /// Frees every live range, the last one first. It is out of line, so that `reset` stays small where it is inlined.
+    /// Frees every live range, the last one first. It is out of line, so that [`reset`](Self::reset) stays small where it is inlined.
     #[inline(never)]
     pub(crate) fn free_all(&mut self) {
         while let Some(name) = self.last_used() {
@@ -43,7 +43,7 @@ impl<T: Tables> AllocatorOf<T> {
         }
     }
 
-    /// Starts the blocks and the bins anew, each in place. It is out of line, so that `reset` stays small
+    /// Starts the blocks and the bins anew, each in place. It is out of line, so that [`reset`](Self::reset) stays small
     /// where it is inlined.
     #[inline(never)]
     pub(crate) fn clear(&mut self) {
@@ -61,7 +61,7 @@ impl<T: Tables> AllocatorOf<T> {
     }
 
     /// Whether the node limit admits this number of further blocks. The first test costs less, and is mostly
-    /// enough: at most `max_allocs` nodes are made, so it implies the second.
+    /// enough: at most [`max_allocs`](Self::max_allocs) nodes are made, so it implies the second.
     #[inline(always)]
     pub(crate) fn admits_blocks(&self, blocks: u32) -> bool {
         self.store.spare_count > blocks || self.unused_nodes() > blocks
@@ -87,7 +87,7 @@ impl<T: Tables> AllocatorOf<T> {
     }
 
     /// A request for units from a multiple of `align` on. With `align` 1, which is a constant where this is
-    /// inlined into `allocate`, there is no padding. It may add `align.min(2)` blocks: the remainder, and the
+    /// inlined into [`allocate`](Self::allocate), there is no padding. It may add `align.min(2)` blocks: the remainder, and the
     /// padding where `align` is above 1.
     #[inline(always)]
     pub(crate) fn serve(&mut self, size: u32, align: u32) -> Option<Allocation<T::Index>> {
@@ -111,7 +111,7 @@ impl<T: Tables> AllocatorOf<T> {
     }
 
     /// Frees the block of a name. It is inlined into both its callers, so that a program's only call of
-    /// `free` can be inlined whole.
+    /// [`free`](Self::free) can be inlined whole.
     #[inline(always)]
     pub(crate) fn release(&mut self, name: u32) {
         let size = self.store.tables.size(name, &mut self.store.accesses);

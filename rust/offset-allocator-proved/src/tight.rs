@@ -173,13 +173,13 @@ impl<T: Tables> AllocatorOf<T> {
         }
     }
 
-    /// Grants a range of `size` units, as `allocate` does, and where that is refused it looks further: it
+    /// Grants a range of `size` units, as [`allocate`](Self::allocate) does, and where that is refused it looks further: it
     /// takes the first block of at least `size` units of the class of `size`, the newest first. So a heap
     /// that is nearly full is filled.
     ///
     /// `None` is returned where `max_allocs - 1` blocks exist, or where no free block has `size` units; then
     /// the space is as it was. A request of at least one unit is granted exactly when it is at most the
-    /// `largest_free_block` of `statistics` and there is room for one more block. It takes no memory, and
+    /// `largest_free_block` of [`statistics`](Self::statistics) and there is room for one more block. It takes no memory, and
     /// makes at most 140 accesses to the tables, and 6 for each free block of the class of `size`.
     ///
     /// ```
@@ -195,7 +195,7 @@ impl<T: Tables> AllocatorOf<T> {
         self.serve_tight(size, 1)
     }
 
-    /// Grants `size` units that begin at a multiple of `align`, from 1 on, as `allocate_aligned` does,
+    /// Grants `size` units that begin at a multiple of `align`, from 1 on, as [`allocate_aligned`](Self::allocate_aligned) does,
     /// and where that is refused it looks further: through the free blocks from the class of `size` on, class
     /// by class, in each the newest first, for one that holds `size` units from a multiple of `align` on, at
     /// the offset that it has.
@@ -224,8 +224,8 @@ impl<T: Tables> AllocatorOf<T> {
     }
 
     /// Why `allocate_tight(size)` would be refused now, or `None` exactly where it would be granted.
-    /// `TooLarge`: the space has fewer units. `Space`: all free units together are fewer, or, for a request of
-    /// 0 units, no unit is free. `Fragmented`: they are enough, and after `compact` the request is granted. It
+    /// [`TooLarge`](crate::Refusal::TooLarge): the space has fewer units. [`Space`](crate::Refusal::Space): all free units together are fewer, or, for a request of
+    /// 0 units, no unit is free. [`Fragmented`](crate::Refusal::Fragmented): they are enough, and after [`compact`](Self::compact) the request is granted. It
     /// makes at most 2 accesses to the tables, and 6 for each free block of the class of `size` or above.
     ///
     /// ```
@@ -242,8 +242,8 @@ impl<T: Tables> AllocatorOf<T> {
     }
 
     /// Why `allocate_tight_aligned(size, align)` would be refused now, or `None` exactly where it would be
-    /// granted. `align` has to be at least 1. The reasons are those of `refusal_tight`; but after
-    /// `compact` the request is granted only if the free block, where it begins then, holds it.
+    /// granted. `align` has to be at least 1. The reasons are those of [`refusal_tight`](Self::refusal_tight); but after
+    /// [`compact`](Self::compact) the request is granted only if the free block, where it begins then, holds it.
     ///
     /// # Panics
     ///

@@ -12,7 +12,7 @@ use crate::reports::statistics::Statistics;
 use crate::reports::{Refusal, StorageReport, StorageReportFull, StorageReportFullRegion};
 use crate::states::state::{ReadError, StateFault};
 
-/// Two names are equal exactly where their numbers are: that is a law of `NodeIndexNonMax`.
+/// Two names are equal exactly where their numbers are: that is a law of [`NodeIndexNonMax`](crate::NodeIndexNonMax).
 impl<NI: NodeIndex, N: NodeIndexNonMax> Eq for Allocation<NI, N> {}
 
 /// The hash is of the public offset and of the name's number, as `==` compares them: so a handle that `blocks` or a move
@@ -54,7 +54,7 @@ impl fmt::Display for StateFault {
 
 impl core::error::Error for StateFault {}
 
-/// The text is that of the fault, or that of `AllocError`.
+/// The text is that of the fault, or that of [`AllocError`](crate::AllocError).
 impl<F: fmt::Display> fmt::Display for ReadError<F> {
     fn fmt(&self, f: &mut fmt::Formatter<'_>) -> fmt::Result {
         match self {

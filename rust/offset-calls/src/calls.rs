@@ -158,7 +158,7 @@ pub enum Reply {
     Offset(u32),
     /// Why the request would be refused, or `None` where it would be granted.
     Refusal(Option<Refusal>),
-    /// What was moved to make room, or `None` where nothing would do, as `RoomCost` says it; and the ranges that
+    /// What was moved to make room, or `None` where nothing would do, as [`RoomCost`](crate::RoomCost) says it; and the ranges that
     /// were moved, in space order.
     RoomMade(Option<RoomCost>, Vec<Moved>),
     /// What would have to be moved, or `None` where all free units together are not enough, or by steps where no

@@ -1,16 +1,8 @@
 // Printed by rust/erase from crates/offset_calls/src/lib.rt: change it there.
 
-//! Lists of calls to an allocator, played on it: every call that changes a space, and the questions beside
-//! them.
-//!
-//! `offset_script` plays the commands of a script. Here `shrink`, `grow_in_place`, `compact`, `compact_by`,
-//! `compact_within`, `make_room`, `make_room_by`, `relocate`, `relocate_aligned`, `retract`, `allocate_at` and
-//! the tight requests are calls too, and the questions where a range begins, where a request's grant would
-//! begin, why a request would be refused, what room would cost, by whole steps too, and which live range is the
-//! first, the last, or beside one. The replies are proved to be those of the plain stamped list of blocks, which
-//! `specs/Calls.antt` extends by these calls, for every lawful layout and index type.
 #![doc = include_str!("../README.md")]
 #![forbid(unsafe_code)]
+#![allow(rustdoc::redundant_explicit_links)] // printed links say in full where they lead
 #![warn(missing_docs)]
 #![expect(clippy::let_and_return)] // a step of a proof stands before the return, and is left out here
 #![expect(clippy::manual_map)] // a `match` needs no closure, whose calls would need a proof

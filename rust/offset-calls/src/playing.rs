@@ -238,7 +238,7 @@ pub fn play_calls_of<T: Tables>(
     Ok(found)
 }
 
-/// `play_calls_of` by node, as `Allocator` is. The limit has to be 2 to `NI::MAX - 2`.
+/// `play_calls_of` by node, as [`Allocator`](crate::Allocator) is. The limit has to be 2 to `NI::MAX - 2`.
 ///
 /// # Panics
 ///

@@ -1,9 +1,8 @@
 // Printed by rust/erase from crates/offset_pictures/src/lib.rt: change it there.
 
-//! What a script does to its space: the life of each grant, the reports between the commands, and a picture
-//! of both. It touches the allocator that it plays the script on.
 #![doc = include_str!("../README.md")]
 #![forbid(unsafe_code)]
+#![allow(rustdoc::redundant_explicit_links)] // printed links say in full where they lead
 #![expect(clippy::collapsible_match)] // an arm of a `match` and a test within it have a name each in the proof
 
 pub use offset_allocator_memory as memory;

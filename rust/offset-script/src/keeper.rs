@@ -11,7 +11,7 @@ use crate::memory::Vec;
 use crate::memory::{AllocError, Global};
 
 /// An allocator, with the handles of its live grants: what a player is made of. Where a handle that is kept is not
-/// live, or two have one name, a later `call` may panic: lists of calls keep both, and a program takes a `PlayerOf`.
+/// live, or two have one name, a later `call` may panic: lists of calls keep both, and a program takes a [`PlayerOf`](crate::PlayerOf).
 pub struct KeeperOf<T: Tables> {
     /// The allocator.
     pub space: AllocatorOf<T>,
@@ -139,7 +139,7 @@ impl<T: Tables> KeeperOf<T> {
 
     /// Carries out one command, and returns its answer. The alignment of a request has to be at least 1.
     /// Each handle that is kept has to be live, and no two may have one name: so it is in a player that
-    /// `start` made, and after each `call` and each `keep`.
+    /// [`start`](Self::start) made, and after each `call` and each [`keep`](Self::keep).
     ///
     /// # Errors
     ///

@@ -1,9 +1,8 @@
 // Printed by rust/erase from crates/offset_script/src/lib.rt: change it there.
 
-//! Reads scripts of calls to an allocator, plays them, and writes their answers. It touches its sources, its
-//! sinks and the allocator that it makes.
 #![doc = include_str!("../README.md")]
 #![forbid(unsafe_code)]
+#![allow(rustdoc::redundant_explicit_links)] // printed links say in full where they lead
 #![expect(clippy::manual_unwrap_or_default)] // a `match` needs no call, whose contract a proof would need
 #![expect(clippy::new_without_default)] // one name for an empty text is enough
 

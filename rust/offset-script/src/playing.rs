@@ -129,7 +129,7 @@ pub fn play_of<T: Tables>(
     play_to::<T, Vec<Answer>>(alloc, size, max_allocs, commands)
 }
 
-/// `play_of` by node, as `Allocator` is. The limit has to be 2 to `NI::MAX - 2`.
+/// `play_of` by node, as [`Allocator`](crate::Allocator) is. The limit has to be 2 to `NI::MAX - 2`.
 ///
 /// # Panics
 ///

@@ -53,13 +53,13 @@ fn first_free<T: Tables>(tables: &T, last: u32, start: u32, count: &mut Accesses
 }
 
 impl<T: Tables> AllocatorOf<T> {
-    /// Slides every live range to the front of the space, **where it keeps no alignment**: `compact_by` keeps those
+    /// Slides every live range to the front of the space, **where it keeps no alignment**: [`compact_by`](Self::compact_by) keeps those
     /// that divide its step. The ranges keep their order, and all free units are one block behind them. `moved` is
     /// called for each range that gets another offset, in space order: the units from `from` on are to be copied to
     /// `to`, as `copy_within` does. In this order no copy writes on a unit that a later one reads.
     ///
     /// Every handle stays live, with its name and its size; only the public `offset` of a moved one is that
-    /// of before, and `allocation_offset` returns the new one. The free block at the end has the name of the first
+    /// of before, and [`allocation_offset`](Self::allocation_offset) returns the new one. The free block at the end has the name of the first
     /// one that there was. `moved` has to be callable with any move: its contract may require nothing of it but what every
     /// move is, to a smaller offset and within the offsets that there are. If `moved` panics, the allocator must
     /// not be used any more: drop it. It makes at most 10 accesses to the tables for each block, and 384, and
@@ -98,14 +98,14 @@ impl<T: Tables> AllocatorOf<T> {
         bins::push(&mut self.store, hole.name, class);
     }
 
-    /// As `compact`, by whole steps: each live range moves to the front by a multiple of `step` units, by as
+    /// As [`compact`](Self::compact), by whole steps: each live range moves to the front by a multiple of `step` units, by as
     /// many as the free blocks before it have, and so keeps its alignment where that divides `step`. An
     /// engine passes the least common multiple of the alignments that it uses. What whole steps leave of a
     /// free block stays a free block, and all that the others give up is one free block at the end of the
     /// space. `moved` is called for each range that gets another offset, in space order, as by `compact`.
     ///
     /// Every handle stays live, with its name and its size; only the public `offset` of a moved one is that
-    /// of before, and `allocation_offset` returns the new one. Nothing changes where no free block before
+    /// of before, and [`allocation_offset`](Self::allocation_offset) returns the new one. Nothing changes where no free block before
     /// another block has a whole step. `false` is returned, and nothing changes, where there is such a block
     /// but the free block at the end would need a node that there is not: the node limit admits no further
     /// block, and none of the free ones from that one on is used up, which would give its node back, as one of

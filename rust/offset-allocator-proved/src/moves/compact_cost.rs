@@ -70,7 +70,7 @@ fn sums_from<T: Tables>(tables: &T, first: u32, step: u32, count: &mut Accesses)
     sums
 }
 
-/// As `compact_cost_by` of `Allocator`. The count grows by at most 7 for each block, and 8.
+/// As `compact_cost_by` of [`Allocator`](crate::Allocator). The count grows by at most 7 for each block, and 8.
 ///
 /// # Panics
 ///
@@ -104,7 +104,7 @@ pub fn compact_cost_by_counted<T: Tables>(
 impl<T: Tables> AllocatorOf<T> {
     /// What `compact_by(step, ..)` would copy now, and what would be granted after it, without moving anything: the
     /// units and the number of the ranges that would move, and the largest request. `None` is returned exactly where
-    /// `compact_by` would return `false`. Ask it first where copies have a budget, or where one request has to be granted.
+    /// [`compact_by`](Self::compact_by) would return `false`. Ask it first where copies have a budget, or where one request has to be granted.
     ///
     /// The step has to be at least 1. It makes at most 7 accesses to the tables for each block, and 8.
     ///

@@ -11,14 +11,14 @@ use crate::tables::Tables;
 use crate::{AllocatorOf, Move, bins};
 
 impl<T: Tables> AllocatorOf<T> {
-    /// Makes room for a request of `size` units by ranges that move, **and keep no alignment**: `make_room_by` keeps
+    /// Makes room for a request of `size` units by ranges that move, **and keep no alignment**: [`make_room_by`](Self::make_room_by) keeps
     /// those that divide its step. It moves as few as possible, and none where none has to move: it slides the live ranges of a run of blocks to its front, so that its free units are one block
     /// after them, which is large enough. The run is one that costs what `room_cost(size)` returns, which
     /// this returns too: ask that first where a budget has to be kept. `moved` is called for each range that
-    /// moves, in space order, as by `compact`: the units from `from` on are to be copied to `to`.
+    /// moves, in space order, as by [`compact`](Self::compact): the units from `from` on are to be copied to `to`.
     ///
     /// Every handle stays live, with its name and its size; only the public `offset` of a moved one is that
-    /// of before, and `allocation_offset` returns the new one. Nothing
+    /// of before, and [`allocation_offset`](Self::allocation_offset) returns the new one. Nothing
     /// changes, and `moved` is not called, where no range has to move: where `None` is returned, since all
     /// free units together are not enough, and where the cost has no ranges, since one free block is large
     /// enough. Else the request is granted afterwards, also at the node limit. For an aligned request ask
@@ -87,17 +87,17 @@ impl<T: Tables> AllocatorOf<T> {
         Some(run.cost)
     }
 
-    /// As `make_room`, by whole steps: makes room for `allocate_aligned(size, align)` where ranges have to move
-    /// for it, and then as few units as possible. For `allocate` ask with `align` 1. The live ranges of a run of blocks
-    /// slide to its front as by `compact_by`, each by a multiple of `step` units, so that it keeps its alignment
+    /// As [`make_room`](Self::make_room), by whole steps: makes room for `allocate_aligned(size, align)` where ranges have to move
+    /// for it, and then as few units as possible. For [`allocate`](Self::allocate) ask with `align` 1. The live ranges of a run of blocks
+    /// slide to its front as by [`compact_by`](Self::compact_by), each by a multiple of `step` units, so that it keeps its alignment
     /// where that divides `step`; what the free blocks of the run give up is one free block at its end, which is
     /// large enough. The run is one that costs what `room_cost_by(size, align, step)` returns, which this returns
     /// too: ask that first where a budget has to be kept. `moved` is called for each range that gets another
-    /// offset, in space order, as by `compact`.
+    /// offset, in space order, as by [`compact`](Self::compact).
     ///
     /// Wherever a cost is returned, the request is granted afterwards, also at the node limit: there the run has
     /// free blocks that are used up, and the request takes their nodes. Every handle stays live, with its name
-    /// and its size; only the public `offset` of a moved one is that of before, and `allocation_offset` returns
+    /// and its size; only the public `offset` of a moved one is that of before, and [`allocation_offset`](Self::allocation_offset) returns
     /// the new one. Nothing changes, and `moved` is not called, where `None` is returned, since no run of
     /// blocks gives up enough units and nodes by such steps, and where the cost has no ranges, since the request
     /// is granted as it is. Of several runs that cost as much it is the last in space.

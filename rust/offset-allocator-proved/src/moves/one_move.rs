@@ -11,7 +11,7 @@ use core::marker::PhantomData;
 /// Every move is one to a smaller offset, with all its units below 4294967295: a closure that gets one may
 /// rely on that, as `pieces` does.
 #[derive(Copy, Debug, PartialEq)]
-pub struct Move<NI, N> {
+pub struct Move<NI: NodeIndex = u32, N: NodeIndexNonMax = <NI as NodeIndex>::NonMax> {
     name: N,
     /// The offset that the range had.
     pub from: u32,
@@ -22,7 +22,7 @@ pub struct Move<NI, N> {
     index: PhantomData<NI>,
 }
 
-impl<NI: Copy, N: Copy> Clone for Move<NI, N> {
+impl<NI: NodeIndex, N: NodeIndexNonMax> Clone for Move<NI, N> {
     fn clone(&self) -> Self {
         *self
     }

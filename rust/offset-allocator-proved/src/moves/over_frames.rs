@@ -133,7 +133,7 @@ fn run_from<T: Tables>(
 }
 
 impl<T: Tables> AllocatorOf<T> {
-    /// As `compact_by`, for a part of the space: moves the live ranges behind the first free block of at least a
+    /// As [`compact_by`](Self::compact_by), for a part of the space: moves the live ranges behind the first free block of at least a
     /// step that ends at the offset `from` or later, in space order, until the next one would take more than
     /// `most_units` units, or more than `most_ranges` ranges, in all. The first one moves in any case, so that
     /// each call comes further. So a compaction can be done over several frames: begin at 0, and go on from

@@ -94,7 +94,7 @@ impl MovePieces {
 
 impl<NI: NodeIndex, N: NodeIndexNonMax> Move<NI, N> {
     /// Whether the units that are read and those that are written have none in common. Then one copy makes
-    /// the move on a device whose copies may not overlap; `pieces` are for all moves.
+    /// the move on a device whose copies may not overlap; [`pieces`](Self::pieces) are for all moves.
     ///
     /// ```
     /// # use offset_allocator_proved::*;

@@ -24,11 +24,11 @@ impl<T: Tables> AllocatorOf<T> {
     }
 
     /// Grants a second range of as many units as that of a live handle, which begins before it, **at any multiple**
-    /// (`relocate_aligned` keeps an alignment), and returns its handle. The old range stays live until it is freed: so the units can be copied, and the copies do
-    /// not overlap, while the old ones are still read. Done for the last ranges of a space (`last_live`,
-    /// `live_before`), it empties the end. For a range of no units it is granted one of no units.
+    /// ([`relocate_aligned`](Self::relocate_aligned) keeps an alignment), and returns its handle. The old range stays live until it is freed: so the units can be copied, and the copies do
+    /// not overlap, while the old ones are still read. Done for the last ranges of a space ([`last_live`](Self::last_live),
+    /// [`live_before`](Self::live_before)), it empties the end. For a range of no units it is granted one of no units.
     ///
-    /// The block is the one that `allocate` takes for these units. `None` is returned where that would refuse
+    /// The block is the one that [`allocate`](Self::allocate) takes for these units. `None` is returned where that would refuse
     /// them, or where the block begins after the range; then the space is as it was. The handle has to be
     /// live, and only its name counts. It makes at most 67 accesses to the tables, and takes no memory.
     ///
@@ -54,10 +54,10 @@ impl<T: Tables> AllocatorOf<T> {
         self.relocate_to(allocation, 1)
     }
 
-    /// As `relocate`, and the second range begins at a multiple of `align`, from 1 on: for a range that
+    /// As [`relocate`](Self::relocate), and the second range begins at a multiple of `align`, from 1 on: for a range that
     /// was granted so, since it is aligned again where it goes.
     ///
-    /// The block is the one that `allocate_aligned` takes for these units and this alignment, of at least
+    /// The block is the one that [`allocate_aligned`](Self::allocate_aligned) takes for these units and this alignment, of at least
     /// `size + align - 1` units: where all ranges have one alignment, make that the unit, and call `relocate`.
     /// `None` is returned where that would refuse them, or where the block begins after the range; then the space is as
     /// it was. The handle has to be live, and only its name counts. With `align` 1 the call is `relocate`. It

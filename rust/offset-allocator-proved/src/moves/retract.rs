@@ -39,7 +39,7 @@ impl<T: Tables> AllocatorOf<T> {
         true
     }
 
-    /// Takes `less` free units off the end of the space, the reverse of `extend`: from the last block, which
+    /// Takes `less` free units off the end of the space, the reverse of [`extend`](Self::extend): from the last block, which
     /// goes where nothing is left of it and another one is before it. What is left of it is the newest of its
     /// bin.
     ///

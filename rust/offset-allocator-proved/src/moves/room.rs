@@ -191,7 +191,7 @@ impl<T: Tables> AllocatorOf<T> {
     /// after them one free block that is large enough. Of all such runs it is one whose ranges have the
     /// fewest units, and of these one that has the fewest ranges.
     ///
-    /// `None` is returned where all free units together are not enough: `refusal` says `TooLarge` or `Space`
+    /// `None` is returned where all free units together are not enough: [`refusal`](Self::refusal) says [`TooLarge`](crate::Refusal::TooLarge) or [`Space`](crate::Refusal::Space)
     /// then. Both numbers are 0 where one free block is large enough: nothing has to move then, though the
     /// request is refused at the node limit. For an aligned request ask with `size + align - 1`. It makes at
     /// most 6 accesses to the tables for each block, and 2.

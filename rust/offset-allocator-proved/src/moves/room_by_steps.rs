@@ -230,12 +230,12 @@ pub fn room_cost_by_counted<T: Tables>(
 }
 
 impl<T: Tables> AllocatorOf<T> {
-    /// As `room_cost`, by whole steps: what has to move at least so that `allocate_aligned(size, align)` is
+    /// As [`room_cost`](Self::room_cost), by whole steps: what has to move at least so that `allocate_aligned(size, align)` is
     /// granted after `make_room_by(size, align, step)`. It is the units and the number of the ranges in some run
     /// of blocks, from one free block to another. Each of its ranges slides to the front by a multiple of `step`
     /// units, and what its free blocks give up is one free block at its end, which is large enough. Of all such
     /// runs it is one whose ranges have the fewest units, and of these one that has the fewest ranges. For
-    /// `allocate` ask with `align` 1.
+    /// [`allocate`](Self::allocate) ask with `align` 1.
     ///
     /// `None` is returned where no run gives up enough units; or, near the node limit, enough nodes, those of
     /// free blocks that are used up. Both numbers are 0 exactly where the request would be granted now. At the

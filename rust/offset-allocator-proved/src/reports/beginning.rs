@@ -37,7 +37,7 @@ pub fn would_begin_counted<T: Tables>(
 impl<T: Tables> AllocatorOf<T> {
     /// Where the range would begin that `allocate_aligned(size, align)` would grant now, in units from the
     /// start of the space, or `None` where it would refuse. `align` is at least 1, and 1 asks for
-    /// `allocate`. Nothing is taken; this request, made next, begins there. It makes at most 4 accesses to the
+    /// [`allocate`](Self::allocate). Nothing is taken; this request, made next, begins there. It makes at most 4 accesses to the
     /// tables.
     ///
     /// # Panics

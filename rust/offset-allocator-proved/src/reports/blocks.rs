@@ -70,7 +70,7 @@ impl<'a, T: Tables> fmt::Debug for BlocksOf<'a, T> {
     }
 }
 
-/// As `next` of `Blocks`. The count grows by at most 5.
+/// As `next` of [`Blocks`](crate::Blocks). The count grows by at most 5.
 pub fn next_block_counted<T: Tables>(
     blocks: &mut BlocksOf<'_, T>,
     count: &mut Accesses,

@@ -139,7 +139,7 @@ fn put_vma_numbers(text: &mut String, size: u32, sums: &Statistics) -> Result<()
 /// A space as JSON: an object with its `size` and `max_allocs`, its statistics by their names, and `blocks`,
 /// in space order: each with `offset` and `size`, and a used one with its `name`.
 ///
-/// It returns the text, or `AllocError` where an allocation fails.
+/// It returns the text, or [`AllocError`](crate::AllocError) where an allocation fails.
 ///
 /// ```
 /// # use offset_allocator_proved::*;
@@ -162,7 +162,7 @@ pub fn json_of<T: Tables>(alloc: Global, space: &AllocatorOf<T>) -> Result<Strin
 /// A space in the form of the dumps of VMA, the Vulkan Memory Allocator, as one block of memory, with the fields
 /// that its viewer, `GpuMemDumpVis.py`, reads.
 ///
-/// It returns the text, or `AllocError` where an allocation fails.
+/// It returns the text, or [`AllocError`](crate::AllocError) where an allocation fails.
 ///
 /// ```
 /// # use offset_allocator_proved::*;

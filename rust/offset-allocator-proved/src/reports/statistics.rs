@@ -108,7 +108,7 @@ impl<T: Tables> AllocatorOf<T> {
         self.free_total
     }
 
-    /// The units of all live ranges together. With `free_units` they add up to `size`. It makes no access to
+    /// The units of all live ranges together. With [`free_units`](Self::free_units) they add up to [`size`](Self::size). It makes no access to
     /// the tables.
     ///
     /// ```

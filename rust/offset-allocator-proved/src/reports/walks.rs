@@ -93,8 +93,8 @@ pub fn live_after_counted<T: Tables>(
 impl<T: Tables> AllocatorOf<T> {
     /// The handle of the live range that is the first one in space, or `None` where none is live. It
     /// makes 2 accesses to the tables for each block, and one more: the first block of a space is not
-    /// known, so it walks back from the last one. With `live_after` a walk from here meets each live
-    /// range once, as one with `live_before` does from `last_live`: see
+    /// known, so it walks back from the last one. With [`live_after`](Self::live_after) a walk from here meets each live
+    /// range once, as one with [`live_before`](Self::live_before) does from [`last_live`](Self::last_live): see
     /// the law `each_live_range_is_met_once` of the proved sources.
     ///
     /// ```
@@ -130,7 +130,7 @@ impl<T: Tables> AllocatorOf<T> {
     /// `None` where there is none, or where the handle is not live, of which only the name counts. It makes
     /// at most 8 accesses to the tables.
     ///
-    /// From `last_live` on, this walks all live ranges; they may be freed on the way, after the next one is
+    /// From [`last_live`](Self::last_live) on, this walks all live ranges; they may be freed on the way, after the next one is
     /// asked for.
     ///
     /// ```

@@ -81,8 +81,8 @@ impl<T: Tables> AllocatorOf<T> {
     /// in both, handles included, and a handle of one is live in the other exactly if it was when the copy
     /// was made.
     ///
-    /// It reserves what `with_max_allocs` does, and takes time for the nodes that were made, which
-    /// `node_count` counts, and not for the node limit.
+    /// It reserves what [`with_max_allocs`](Self::with_max_allocs) does, and takes time for the nodes that were made, which
+    /// [`node_count`](Self::node_count) counts, and not for the node limit.
     ///
     /// # Errors
     ///
@@ -102,15 +102,15 @@ impl<T: Tables> AllocatorOf<T> {
         self.raised(alloc, self.max_allocs)
     }
 
-    /// The space under another node limit, at least as large: a copy as `try_clone` makes it, with
-    /// `max_allocs` as its limit. It is for a space that refuses requests as `Nodes`: put it in place of the
+    /// The space under another node limit, at least as large: a copy as [`try_clone`](Self::try_clone) makes it, with
+    /// `max_allocs` as its limit. It is for a space that refuses requests as [`Nodes`](crate::Refusal::Nodes): put it in place of the
     /// first one, and all handles go on. While the first one has room for the blocks that they may add,
-    /// requests, second ranges, releases, changes of size and `compact` return the same in both, by
+    /// requests, second ranges, releases, changes of size and [`compact`](Self::compact) return the same in both, by
     /// the law `a_raised_limit_changes_no_answer` of the proved sources; reports, reasons and slides by whole steps look at the limit too.
     ///
-    /// The limit is at most `T::Index::MAX - 2`. It reserves what `with_max_allocs` does for that limit,
+    /// The limit is at most `T::Index::MAX - 2`. It reserves what [`with_max_allocs`](Self::with_max_allocs) does for that limit,
     /// beside the memory of the first space until that is dropped, and takes time for the nodes that were
-    /// made, which `node_count` counts, and not for either limit.
+    /// made, which [`node_count`](Self::node_count) counts, and not for either limit.
     ///
     /// # Errors
     ///

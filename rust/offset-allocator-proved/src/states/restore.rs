@@ -138,13 +138,13 @@ fn of_words<T: Tables>(
 }
 
 impl<T: Tables> AllocatorOf<T> {
-    /// The space of these bytes, which `write_state` has made, or what is wrong with them, and where: any
+    /// The space of these bytes, which [`write_state`](Self::write_state) has made, or what is wrong with them, and where: any
     /// bytes are taken. The space has the same handles, the same order in bins and the same unused names, in
     /// the same order, as the one that was written.
     ///
     /// `most_allocs` is the largest node limit that is accepted, since memory for the limit is reserved, as
-    /// by `with_max_allocs`. Nothing else that is requested is more than 4 bytes for each 4 that were given.
-    /// It takes time for the bytes. The space has the limit that was written: `raised` gives it a larger one.
+    /// by [`with_max_allocs`](Self::with_max_allocs). Nothing else that is requested is more than 4 bytes for each 4 that were given.
+    /// It takes time for the bytes. The space has the limit that was written: [`raised`](Self::raised) gives it a larger one.
     ///
     /// # Errors
     ///

@@ -112,7 +112,7 @@ impl<T: Tables> AllocatorOf<T> {
         Ok(words)
     }
 
-    /// The bytes of the state of the space, which `read_state` reads: 32 bytes, 8 for each block, 4 more for
+    /// The bytes of the state of the space, which [`read_state`](Self::read_state) reads: 32 bytes, 8 for each block, 4 more for
     /// each free one, and 4 for each unused node that was made. They are numbers of 32 bits, the lowest byte
     /// of each first: 1414742351 and the version 1, the size, the node limit, the numbers of blocks, of free
     /// ones and of unused names; name and size of each block, from the end of the space to its start; the

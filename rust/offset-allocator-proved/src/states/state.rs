@@ -23,7 +23,7 @@ pub struct StateFault {
 }
 
 /// What is wrong with the bytes of a state: the first that applies of `Length`, `Form`, `Limit`, `Counts`,
-/// `Length` again, for the counts, and `Checksum`; then of the first list that is wrong, `Block`, `Unused`,
+/// `Length` again, for the counts, and `Checksum`; then of the first list that is wrong, [`Block`](crate::Block), `Unused`,
 /// `Free` or `Neighbours`; and then `Counts` again, for live blocks.
 ///
 /// A state is numbers of 4 bytes. The place is that of the number that is wrong, if nothing else is said.
