@@ -534,6 +534,8 @@ inline oag_ticket in(Ticket ticket) { return {ticket.serial, ticket.name, ticket
 // What is asked of one space with tickets: of a GuardedAllocator, and of the heap of a number. As of Allocator, by tickets.
 template <class Of>
 class TicketQuestions {
+    template <class V> friend class Beside;
+
 public:
     bool isFreeAt(uint32 offset, uint32 size) const { return oag_is_free_at(asked(), offset, size); }
     Ticket liveAt(uint32 offset) const { return detail::of(oag_live_at(asked(), offset)); }
@@ -773,7 +775,7 @@ inline GuardedAllocator::Loaded GuardedAllocator::load(const void *bytes, size_t
     return Loaded{GuardedAllocator(read.space), read.found, read.at};
 }
 
-// A value of yours beside each of some tickets of one GuardedAllocator: a pointer, an index, or what else is copied by its
+// A value of yours beside each of some tickets of one GuardedAllocator, or of one heap of Heaps: a pointer, an index, or what else is copied by its
 // bytes, of which it has at most 8.
 //
 //     OffsetAllocator::Beside<Mesh *> meshes;
@@ -807,8 +809,8 @@ public:
     explicit operator bool() const noexcept { return words != nullptr; }
 
     // Whether the value is put: only where the ticket is live in its space. What was under its name is replaced.
-    bool put(const GuardedAllocator &space, Ticket ticket, V value) {
-        return oab_put(words, space.space, GuardedAllocator::in(ticket), packed(value));
+    template <class Of> bool put(const TicketQuestions<Of> &space, Ticket ticket, V value) {
+        return oab_put(words, space.asked(), detail::in(ticket), packed(value));
     }
 
     // The value beside a ticket, or `other` where it has none; by take it is taken out.

@@ -62,9 +62,10 @@ struct HeapTotals {
     uint64_t freeUnits;
 };
 
-// The heap of a number, for every call of one space: each does in this heap what it does in a GuardedAllocator, and no other
-// heap changes. Where the number has no heap it converts to false, and every call is refused. It must not be used once the
-// heaps are dropped.
+// The heap of a number, for every call of one space but retract: each does in this heap what it does in a GuardedAllocator, and no
+// other heap changes. Where the number has no heap it converts to false, and every call is refused. It must not be used once the
+// heaps are dropped, or others are assigned to them; it stays valid where they are moved. Its tickets have the realm of the heap
+// alone: of two Heaps made by withRealm tickets may be alike.
 class Heap : public TicketQuestions<Heap> {
 public:
     explicit operator bool() const noexcept { return asked() != nullptr; }
@@ -299,6 +300,7 @@ public:
 
     // The heap of a number, to be asked and changed.
     Heap at(uint32 number) { return Heap(heaps, number); }
+    const Heap at(uint32 number) const { return Heap(heaps, number); }
 
     bool has(uint32 number) const { return oah_has(heaps, number); }
     StorageReport storageReport(uint32 number) const { return detail::of(oah_storage_report(heaps, number)); }

@@ -728,20 +728,20 @@ typedef struct oab_entry {
 /* No words. Null where memory is out. */
 oab_words *oab_new(void);
 
-/* Gives its memory back. Null is nothing. */
+/* Frees the memory. A null pointer is allowed. */
 void oab_drop(oab_words *words);
 
 /* Puts a word beside a ticket that is live in its space. What was under its name is replaced: a word of the ticket, or of an
- * earlier grant, which oab_from finds before. False, and all is as it was, where the ticket is not live, where the name has no cell
+ * earlier grant: ask oab_from for it first. False, and all is as it was, where the ticket is not live, where the name has no cell
  * yet and memory is out, or for null. Where the name is larger than any before, it takes time for the cells up to it. */
 bool oab_put(oab_words *words, const oag_allocator *space, oag_ticket ticket, uint64_t word);
 
-/* The word beside a ticket, to be read, or to be changed in place; null where it has none. The pointer is good until the next
+/* The word beside a ticket, to be read, or to be changed in place; null where it has none, or for null. The pointer is good until the next
  * call that may change the words. */
 const uint64_t *oab_get(const oab_words *words, oag_ticket ticket);
 uint64_t *oab_get_mut(oab_words *words, oag_ticket ticket);
 
-/* Takes out the word beside a ticket. Not found, and nothing changes, where it has none. */
+/* Takes out the word beside a ticket. Not found, and nothing changes, where it has none, or for null. */
 oab_entry oab_take(oab_words *words, oag_ticket ticket);
 
 /* The word of the smallest name that is at least `name`. It reads the cells up to that. Of a range that moves, by its `metadata`:

@@ -92,7 +92,8 @@ typedef struct oah_all {
  * heaps, or memory is out. */
 oah_heaps *oah_new(oah_limits limits);
 
-/* The same with a realm that you choose. */
+/* The same with a realm that you choose. Its heaps have the realms 1, 2, .., as those of any other such heaps: so tickets of two
+ * may be alike, though their places are not. */
 oah_heaps *oah_with_realm(oah_limits limits, uint32_t realm);
 
 /* Frees the memory of all heaps. A null pointer is allowed. */
@@ -268,13 +269,18 @@ bool oah_drop_heap(oah_heaps *heaps, uint32_t number);
 /* The realm of the places, or 0 where the heaps are null. */
 uint32_t oah_realm(const oah_heaps *heaps);
 
-/* The heap of a number, for every question of offset_allocator.h that takes a const oag_allocator; null where the number has
- * no heap. It is valid until the next call that changes the heaps. */
+/* The heap of a number, for every question of offset_allocator.h that takes a const oag_allocator, and oab_put; null where the
+ * number has no heap. It is valid until the next call that changes or drops the heaps. Never pass it to a call whose parameter
+ * is not const. */
 const oag_allocator *oah_heap(const oah_heaps *heaps, uint32_t number);
 
 /* The calls of one space on the heap of a number: each does in this heap what the oag_ call of its name does, under the node
  * limit that the heap has now, and no other heap changes. Where the number has no heap, or the heaps are null, it is refused as
- * by a null allocator. A ticket here and a place are of one grant: {ticket, number, oah_realm(heaps)} is the place. */
+ * by a null allocator. oah_heap_extend raises no node limit, as oah_extend_heap does; oah_heap_relocate grants in the same heap, as
+ * oah_relocate does in another. `moved` must not use the heaps, or a pointer of oah_heap.
+ *
+ * A ticket here and a place are of one grant: {ticket, number, oah_realm(heaps)} is the place. A ticket has the realm of the heap
+ * alone: one of other heaps, whose realm is chosen too, may be taken for one of these. */
 oag_ticket oah_heap_allocate(oah_heaps *heaps, uint32_t number, uint32_t size);
 oag_ticket oah_heap_allocate_aligned(oah_heaps *heaps, uint32_t number, uint32_t size, uint32_t align);
 oag_ticket oah_heap_allocate_tight(oah_heaps *heaps, uint32_t number, uint32_t size);

@@ -75,6 +75,11 @@ void oneHeap() {
     Heap heap = heaps.at(0);
     CHECK(heap && heap.number() == 0 && first == granted.place.ticket && heaps.realm() == 5);
     CHECK(heaps.isLive(heap.place(first)) && !heaps.at(1) && !heaps.at(1).allocate(1));
+    // a value beside a range of a heap; and heaps that are only asked
+    Beside<int> values;
+    CHECK(values.put(heap, first, 7) && values.get(first) == 7 && !values.put(heaps.at(1), first, 8));
+    const Heaps &seen = heaps;
+    CHECK(seen.at(0).sizeOf(first) == 1000 && !seen.at(1));
     const std::vector<uint64_t> one = trace(space, first), other = trace(heap, first);
     CHECK(one == other && one.size() > 45);
     CHECK(!heaps.isLive(granted.place) && heaps.totals().units == 1124 && heaps.totals().liveUnits == 0);

@@ -1,4 +1,5 @@
-//! That the recorders, here and in C++, have each call that changes a space or many heaps.
+//! That the recorders, here and in C++, have each call that changes a space or many heaps; but for the view of one heap, whose
+//! calls they would not see: they do not return it.
 
 use std::collections::BTreeSet;
 use std::path::Path;
@@ -59,10 +60,10 @@ fn in_rust() {
     assert!(space.contains("allocate_at") && space.contains("make_room_by") && heaps.contains("give_up"), "{space:?} {heaps:?}");
     let src = text("offset-allocator-recorded/src");
     let lacking = |all: BTreeSet<String>, of| -> Vec<String> { all.difference(&mutable(&src, of)).cloned().collect() };
-    assert!(space.len() == 19 && tickets.len() == 24 && heaps.len() == 18, "{space:?} {tickets:?} {heaps:?}");
+    assert!(space.len() == 19 && tickets.len() == 24 && heaps.len() == 19, "{space:?} {tickets:?} {heaps:?}");
     assert_eq!(lacking(space, "impl<T: Tables, W: Write> Recorded<AllocatorOf<T>, W> {"), [""; 0]);
     assert_eq!(lacking(tickets, "impl<T: Tables, W: Write> Recorded<GuardedOf<T>, W> {"), [""; 0]);
-    assert_eq!(lacking(heaps, "impl<T: Tables, W: Write> RecordedHeaps<T, W> {"), [""; 0]);
+    assert_eq!(lacking(heaps, "impl<T: Tables, W: Write> RecordedHeaps<T, W> {"), ["heap_mut"]);
 }
 
 #[test]
@@ -74,14 +75,14 @@ fn in_cpp() {
     let heaps = changing(&text("offset-allocator-c/include/offsetAllocatorHeaps.hpp"), "class Heaps {\n");
     let recorder = text("offset-allocator-c/include/offsetAllocatorRecorded.hpp");
     let recorded = changing(&recorder, "template <class A> class Recorded {\n");
-    for class in ["class Allocator {\n", "class GuardedAllocator {\n"] {
+    for class in ["class Allocator {\n", "class GuardedAllocator : public TicketQuestions<GuardedAllocator> {\n"] {
         let calls = changing(&all, class);
         assert!(calls.contains("allocateAt") && calls.contains("raiseLimit") && !calls.contains("save"), "{calls:?}");
         // a swap of two spaces is none of their calls
         let lacking: Vec<_> = calls.difference(&recorded).filter(|name| *name != "swap").collect();
         assert_eq!(lacking, [""; 0], "{class}");
     }
-    assert!(heaps.contains("dropEmpty"), "{heaps:?}");
+    assert!(heaps.contains("dropEmpty") && heaps.contains("at"), "{heaps:?}");
     let lacking: Vec<_> = heaps.difference(&changing(&recorder, "class RecordedHeaps {\n")).filter(|name| *name != "swap").cloned().collect();
-    assert_eq!(lacking, [""; 0]);
+    assert_eq!(lacking, ["at"]);
 }
