@@ -8,7 +8,7 @@ use Rattle.offset_guarded.specs.Guard.{Guard}
 use Rattle.offset_heaps.specs.declared.place.Granted.{Granted}
 use Rattle.offset_heaps.specs.Places.{Place, ticket_of}
 use Rattle.offset_heaps.specs.Heaps.{Heaps, FreesIn, Grants, IsBefore, IsLive, IsSame, Puts, heap_at, range_in, range_of, slot}
-use Rattle.offset_heaps.specs.{Changing.CompactsAll, Changing.CompactsSlot, Histories.AreSteps, Histories.IsGone, Histories.IsStep, Histories.Keeps, Histories.ResetsAll, Slots.ResetsIn}
+use Rattle.offset_heaps.specs.{Changing.Alters, Changing.CompactsAll, Changing.CompactsSlot, Histories.AreSteps, Histories.IsGone, Histories.IsStep, Histories.Keeps, Histories.ResetsAll, Slots.ResetsIn}
 use Rattle.offset_heaps.specs.Tight.{GrantsTight}
 use Rattle.offset_heaps.proofs.Raising.{raised_realm}
 use Rattle.offset_heaps.proofs.{Numbers.slot_other, Numbers.slot_past, Numbers.slot_same, Numbers.slot_set, Places.none_if}
@@ -66,15 +66,18 @@ free_keeps p q hs ks f gone = record {
   ]);
 }
 
-alter_keeps : (p : Place) (k : ℕ) (hs ks : Heaps) → Keeps k hs ks → IsGone p hs → IsGone p ks
-alter_keeps p k hs ks f gone = record {
+pub realm_keeps : (p : Place) (k : ℕ) (hs ks : Heaps) → Alters k (λ g h. h.realm ≡ g.realm) hs ks → IsGone p hs → IsGone p ks
+realm_keeps p k hs ks f gone = record {
   made = subst (λ n. p.heap_realm ≤ n) (sym (ap (λ (h : Heaps). h.made) f.heaps)) gone.made;
   other = subst (λ s. Lacks p.heap_realm (slot p.heap s)) (sym (ap (λ (h : Heaps). h.slots) f.heaps)) (elim (cases_lt k (length hs.slots)) [
     | inl there ↦ put_lacks p.heap_realm k p.heap hs.slots (Some f.after) there gone.other
-        (λ e. same_realm p.heap_realm (heap_at p.heap hs) f.before f.after (ap (λ k. heap_at k hs) e ∙ f.heap) f.by.realm gone.other)
+        (λ e. same_realm p.heap_realm (heap_at p.heap hs) f.before f.after (ap (λ k. heap_at k hs) e ∙ f.heap) f.by gone.other)
     | inr past ↦ absurd (let none : slot k hs.slots ≡ None = slot_past hs.slots k past in let some = f.heap in cc)
   ]);
 }
+
+alter_keeps : (p : Place) (k : ℕ) (hs ks : Heaps) → Keeps k hs ks → IsGone p hs → IsGone p ks
+alter_keeps p k hs ks f = realm_keeps p k hs ks (record { before = f.before; after = f.after; heap = f.heap; by = f.by.realm; heaps = f.heaps })
 
 tight_keeps : (p : Place) (size align : ℕ) (hs ks : Heaps) (grant : Granted) → GrantsTight size align hs ks grant → IsGone p hs → IsGone p ks
 tight_keeps p size align hs ks grant f gone = record {

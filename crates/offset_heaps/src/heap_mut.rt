@@ -18,10 +18,10 @@ ghost use Rattle.offset_allocator.specs.Relations.{Aligns, Allocates, CanExtend,
 ghost use Rattle.offset_allocator.specs.Requests.{CanGrant, blocks_needed, units_needed};
 ghost use Rattle.offset_allocator.specs.Resizing.{CanGrow, CanShrink, Grows, Shrinks};
 ghost use Rattle.offset_allocator.specs.Tight.{AlignsTight, CanHold, listed_from};
-ghost use Rattle.offset_allocator.specs.View.{bin_at, count_used};
+ghost use Rattle.offset_allocator.specs.View.{bin_at, count_used, reported_largest};
 ghost use Rattle.offset_guarded.specs.Calls.{Takes};
 ghost use Rattle.offset_guarded.specs.Calls as calls;
-ghost use Rattle.offset_guarded.specs.Guard.{HasSerialLeft, HasUnits, IsLive, IsSame, KeepsAlignments, KeepsAll};
+ghost use Rattle.offset_guarded.specs.Guard.{CoversNodes, HasSerialLeft, HasUnits, IsLive, IsSame, KeepsAlignments, KeepsAll};
 ghost use Rattle.offset_guarded.specs.Guard.{KeepsDivisors, KeepsLive, KeepsOthers, KeepsSerials, KeepsSizes, handle_in};
 ghost use Rattle.offset_heaps.specs.Changing.{Alters};
 ghost use Rattle.offset_heaps.specs.Heaps.{TakesFewAccesses, heap_at};
@@ -35,9 +35,14 @@ use std::ops::Deref;
 
 /// The heap of a number, to be changed by the calls of one space with tickets: each does in this heap what it does in a
 /// `GuardedOf`, under the node limit that the heap has now, and no other heap changes. A refused call leaves all heaps as
-/// they were. `heap_mut` of `Heaps` returns one; questions are those of `GuardedOf`.
+/// they were. `heap_mut` of `Heaps` returns one. It derefs to the `GuardedOf`, for all questions. It has no `retract`, since a
+/// heap keeps the units of its kind.
 ///
-/// A place of `Heaps` and a ticket here are of one grant: `Place::ticket` makes the ticket, `place` the place.
+/// A place of `Heaps` and a ticket here are of one grant: `Place::ticket` makes the ticket, `place` the place. A ticket has
+/// the realm of the heap alone, and not that of the `Heaps`: of two whose realms were chosen by hand tickets may be alike.
+///
+/// Beside its work in the heap, a call touches at most 16 slots and cells of the index for each bit of the count of numbers,
+/// and 32; none takes memory. If `moved` panics, the heaps must not be used any more: drop them.
 ///
 /// ```
 /// let hole = heaps.allocate(300).unwrap().place;
@@ -141,6 +146,8 @@ impl<T: Tables> HeapMut<'_, T> {
         ensures number { self.new.number ≡ self.old.number }
         ensures same_reference { self.new.heaps.ghost_name ≡ self.old.heaps.ghost_name }
         ensures change { Alters self.old.number (λ g h. Takes (calls.Call.Allocate size) g h result
+            × (result ≡ None → h ≡ record g { space = h.space })
+            × (1 ≤ size → (IsSome result ↔ (HasSerialLeft g × (size ≤ reported_largest g.space))))
             × (IsSome result ↔ (HasSerialLeft g × CanGrant 1 size g.space))
             × (HasSerialLeft g → Allocates size g.space h.space (option_map handle_in result))
             × (h.space.accesses ≤ g.space.accesses + 64))
@@ -156,7 +163,7 @@ impl<T: Tables> HeapMut<'_, T> {
         result
     }
 
-    /// As `GuardedOf::allocate_aligned` in this heap, at an alignment from 1 on, which its step takes in.
+    /// As `GuardedOf::allocate_aligned` in this heap, at an alignment from 1 on, which is taken into the step of the heap.
     ///
     /// ```
     /// heap.allocate(10).unwrap();
@@ -167,6 +174,7 @@ impl<T: Tables> HeapMut<'_, T> {
         ensures number { self.new.number ≡ self.old.number }
         ensures same_reference { self.new.heaps.ghost_name ≡ self.old.heaps.ghost_name }
         ensures change { Alters self.old.number (λ g h. Takes (calls.Call.Allocate_aligned size align) g h result
+            × (result ≡ None → h ≡ record g { space = h.space })
             × (IsSome result ↔ (HasSerialLeft g × CanGrant (blocks_needed align) (units_needed size align) g.space))
             × (HasSerialLeft g → Aligns size align g.space h.space (option_map handle_in result))
             × (h.space.accesses ≤ g.space.accesses + 128))
@@ -219,6 +227,7 @@ impl<T: Tables> HeapMut<'_, T> {
         ensures number { self.new.number ≡ self.old.number }
         ensures same_reference { self.new.heaps.ghost_name ≡ self.old.heaps.ghost_name }
         ensures change { Alters self.old.number (λ g h. Takes (calls.Call.Allocate_tight size) g h result
+            × (result ≡ None → h ≡ record g { space = h.space })
             × (IsSome result ↔ (HasSerialLeft g × CanHold size 1 g.space))
             × (HasSerialLeft g → AlignsTight size 1 g.space h.space (option_map handle_in result))
             × (h.space.accesses ≤ g.space.accesses + 140 + 6 * length (bin_at g.space.bins (down size))))
@@ -234,7 +243,7 @@ impl<T: Tables> HeapMut<'_, T> {
         result
     }
 
-    /// As `GuardedOf::allocate_tight_aligned` in this heap, at an alignment from 1 on, which its step takes in.
+    /// As `GuardedOf::allocate_tight_aligned` in this heap, at an alignment from 1 on, which is taken into the step of the heap.
     ///
     /// ```
     /// heap.allocate(256).unwrap();
@@ -245,6 +254,7 @@ impl<T: Tables> HeapMut<'_, T> {
         ensures number { self.new.number ≡ self.old.number }
         ensures same_reference { self.new.heaps.ghost_name ≡ self.old.heaps.ghost_name }
         ensures change { Alters self.old.number (λ g h. Takes (calls.Call.Allocate_tight_aligned size align) g h result
+            × (result ≡ None → h ≡ record g { space = h.space })
             × (IsSome result ↔ (HasSerialLeft g × CanHold size align g.space))
             × (HasSerialLeft g → AlignsTight size align g.space h.space (option_map handle_in result))
             × (h.space.accesses ≤ g.space.accesses + 140 + 6 * length (listed_from (down size) g.space.bins)))
@@ -270,6 +280,7 @@ impl<T: Tables> HeapMut<'_, T> {
         ensures number { self.new.number ≡ self.old.number }
         ensures same_reference { self.new.heaps.ghost_name ≡ self.old.heaps.ghost_name }
         ensures change { Alters self.old.number (λ g h. Takes (calls.Call.Allocate_at offset size) g h result
+            × (result ≡ None → h ≡ record g { space = h.space })
             × (IsSome result ↔ (HasSerialLeft g × CanGrantAt offset size g.space))
             × (HasSerialLeft g → AllocatesAt offset size g.space h.space (option_map handle_in result))
             × (h.space.accesses ≤ g.space.accesses + 80 + 3 * length g.space.blocks))
@@ -297,6 +308,7 @@ impl<T: Tables> HeapMut<'_, T> {
         ensures change { Alters self.old.number (λ g h. KeepsOthers ticket g h
             × KeepsLive g h
             × KeepsSerials g h
+            × IfSome result (λ _. CoversNodes g h)
             × (IsSome result ↔ IsLive ticket g)
             × IfSome result (λ done. IsTrue done ↔ CanShrink ticket.name size g.space)
             × (result ≡ Some true → HasUnits ticket size g h)
@@ -328,6 +340,7 @@ impl<T: Tables> HeapMut<'_, T> {
         ensures change { Alters self.old.number (λ g h. KeepsOthers ticket g h
             × KeepsLive g h
             × KeepsSerials g h
+            × IfSome result (λ _. CoversNodes g h)
             × (IsSome result ↔ IsLive ticket g)
             × IfSome result (λ done. IsTrue done ↔ CanGrow ticket.name size g.space)
             × (result ≡ Some true → HasUnits ticket size g h)
@@ -360,6 +373,8 @@ impl<T: Tables> HeapMut<'_, T> {
         ensures number { self.new.number ≡ self.old.number }
         ensures same_reference { self.new.heaps.ghost_name ≡ self.old.heaps.ghost_name }
         ensures change { Alters self.old.number (λ g h. Takes (calls.Call.Relocate ticket) g h result
+            × (result ≡ None → h ≡ record g { space = h.space })
+            × IfSome result (λ t. t.offset + size_of ticket.name g.space ≤ offset_of ticket.name g.space)
             × (IsSome result → HasSerialLeft g)
             × (g.step ≡ 0 → (result ≡ None) × (h ≡ g))
             × (IsLive ticket g → HasSerialLeft g → 1 ≤ g.step → (align : ℕ) → IsGcd (offset_of ticket.name g.space) g.step align
@@ -390,6 +405,8 @@ impl<T: Tables> HeapMut<'_, T> {
         ensures number { self.new.number ≡ self.old.number }
         ensures same_reference { self.new.heaps.ghost_name ≡ self.old.heaps.ghost_name }
         ensures change { Alters self.old.number (λ g h. Takes (calls.Call.Relocate_aligned ticket align) g h result
+            × (result ≡ None → h ≡ record g { space = h.space })
+            × IfSome result (λ t. t.offset + size_of ticket.name g.space ≤ offset_of ticket.name g.space)
             × (IsSome result → IsLive ticket g × HasSerialLeft g)
             × (IsLive ticket g → HasSerialLeft g
             → RelocatesAligned ticket.name align g.space h.space (option_map handle_in result))
@@ -418,6 +435,8 @@ impl<T: Tables> HeapMut<'_, T> {
         ensures number { self.new.number ≡ self.old.number }
         ensures same_reference { self.new.heaps.ghost_name ≡ self.old.heaps.ghost_name }
         ensures change { Alters self.old.number (λ g h. Takes (calls.Call.Allocate (size_of ticket.name g.space)) g h result
+            × (result ≡ None → h ≡ record g { space = h.space })
+            × IfSome result (λ t. t.offset + size_of ticket.name g.space ≤ offset_of ticket.name g.space)
             × (IsSome result → IsLive ticket g × HasSerialLeft g)
             × (IsLive ticket g → HasSerialLeft g → Relocates ticket.name g.space h.space (option_map handle_in result))
             × (h.space.accesses ≤ g.space.accesses + 67))
@@ -777,6 +796,7 @@ impl<T: Tables> HeapMut<'_, T> {
         ensures same_reference { self.new.heaps.ghost_name ≡ self.old.heaps.ghost_name }
         ensures change { Alters self.old.number (λ g h. KeepsAll g h
             × KeepsSerials g h
+            × CoversNodes g h
             × (IsTrue result ↔ (1 ≤ more → CanExtend more g.space))
             × (result ≡ false → IsSame g h)
             × (IsTrue result → h.space.size ≡ g.space.size + more)

@@ -162,6 +162,9 @@ pub fn dropped_heaps_stay_dropped<T: Tables>(heaps: &HeapsOf<T>)
         → heap_at p.heap heaps.now ≡ Some g → p.heap_realm ≡ g.realm → Puts p.heap None heaps.now dropped
         → AreSteps dropped later → AllByRecursion (λ hs. IsLive p hs → ⊥) (dropped ∷ later) }
     ensures step { (p : Place) (hs ks : Heaps) → IsGone p hs → IsStep hs ks → IsGone p ks }
+    // So does each call on one heap, also one that keeps no alignment: a heap keeps its realm.
+    ensures on_heap { (p : Place) (k : ℕ) (hs ks : Heaps) → IsGone p hs → Alters k (λ g h. h.realm ≡ g.realm) hs ks
+        → IsGone p ks }
     ensures dead { (p : Place) (hs : Heaps) → IsGone p hs → IsLive p hs → ⊥ }
 {
     let _ = &heaps.made;
@@ -173,7 +176,7 @@ pub fn dropped_heaps_stay_dropped<T: Tables>(heaps: &HeapsOf<T>)
 /// offset of the first one.
 ///
 /// A step is what one call leaves: that each call of heaps is one is proved in `offset_heaps_tests`. Calls of `HeapMut` are,
-/// but for those whose names say that they keep no alignment, and those by a step that is no multiple of that of the heap.
+/// except those whose names say that they keep no alignment, and those by a step that is no multiple of that of the heap.
 pub fn alignments_are_kept()
     ensures step { (hs ks : Heaps) → IsStep hs ks → KeepsAlignments hs ks }
     ensures lasts { (size align a : ℕ) (grant : Granted) (hs ks : Heaps) (later : List Heaps) → IsWellFormed hs
@@ -182,11 +185,11 @@ pub fn alignments_are_kept()
     ensures lasts_tight { (size align a : ℕ) (grant : Granted) (hs ks : Heaps) (later : List Heaps) → IsWellFormed hs
         → GrantsTight size align hs ks grant → a ∣ align → a ∣ grant.offset → AreSteps ks later
         → AllByRecursion (BeginsAt a grant.place) (ks ∷ later) }
-    // A call of tickets on the heap of a number leaves a step, and so do the ranges that it grants keep alignments.
+    // A call of tickets on the heap of a number leaves a step, and the ranges that it grants keep alignments too.
     ensures on_heap { (k : ℕ) (c : tickets.Call) (r : Option Ticket) (hs ks : Heaps)
         → Alters k (λ g h. tickets.Takes c g h r) hs ks → IsStep hs ks }
     ensures lasts_on_heap { (k n align a : ℕ) (t : Ticket) (hs ks : Heaps) (later : List Heaps) → IsWellFormed hs
-        → Alters k (λ g h. tickets.TakesAligned n align g h (Some t)) hs ks → a ∣ align → a ∣ t.offset
+        → Alters k (λ g h. tickets.TakesAligned n align g h (Some t)) hs ks → a ∣ align
         → AreSteps ks later → AllByRecursion (BeginsAt a (place_of k hs.realm t)) (ks ∷ later) }
     ensures relocated { (p : Place) (align a : ℕ) → (hs : Heaps) → IsOwnAlign p hs align → a ∣ step_at p.heap hs
         → a ∣ offset_of p hs → a ∣ align }

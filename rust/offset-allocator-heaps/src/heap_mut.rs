@@ -11,9 +11,14 @@ use core::ops::Deref;
 
 /// The heap of a number, to be changed by the calls of one space with tickets: each does in this heap what it does in a
 /// [`GuardedOf`](crate::GuardedOf), under the node limit that the heap has now, and no other heap changes. A refused call leaves all heaps as
-/// they were. `heap_mut` of [`Heaps`](crate::Heaps) returns one; questions are those of `GuardedOf`.
+/// they were. `heap_mut` of [`Heaps`](crate::Heaps) returns one. It derefs to the `GuardedOf`, for all questions. It has no `retract`, since a
+/// heap keeps the units of its kind.
 ///
-/// A place of `Heaps` and a ticket here are of one grant: `Place::ticket` makes the ticket, `place` the place.
+/// A place of `Heaps` and a ticket here are of one grant: `Place::ticket` makes the ticket, `place` the place. A ticket has
+/// the realm of the heap alone, and not that of the `Heaps`: of two whose realms were chosen by hand tickets may be alike.
+///
+/// Beside its work in the heap, a call touches at most 16 slots and cells of the index for each bit of the count of numbers,
+/// and 32; none takes memory. If `moved` panics, the heaps must not be used any more: drop them.
 ///
 /// ```
 /// # use offset_allocator_heaps::*;
@@ -128,7 +133,7 @@ impl<T: Tables> HeapMut<'_, T> {
         result
     }
 
-    /// As `GuardedOf::allocate_aligned` in this heap, at an alignment from 1 on, which its step takes in.
+    /// As `GuardedOf::allocate_aligned` in this heap, at an alignment from 1 on, which is taken into the step of the heap.
     ///
     /// # Panics
     ///
@@ -204,7 +209,7 @@ impl<T: Tables> HeapMut<'_, T> {
         result
     }
 
-    /// As `GuardedOf::allocate_tight_aligned` in this heap, at an alignment from 1 on, which its step takes in.
+    /// As `GuardedOf::allocate_tight_aligned` in this heap, at an alignment from 1 on, which is taken into the step of the heap.
     ///
     /// # Panics
     ///

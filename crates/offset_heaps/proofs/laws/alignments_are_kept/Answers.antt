@@ -1,3 +1,4 @@
+use Rattle.std.proofs.Math.Nat.{dvd_of_mod-eq-zero, dvd_trans}
 use Rattle.std.proofs.Common.{Some}
 use Rattle.offset_guarded.specs.Calls.{TakesAligned}
 use Rattle.offset_heaps.proofs.Alignments.{lasts, lasts_in, lasts_tight, step_keeps}
@@ -20,4 +21,4 @@ pub returns-clause-on_heap : goal.returns-clause-on_heap
 returns-clause-on_heap c = place.on_heap
 
 pub returns-clause-lasts_on_heap : goal.returns-clause-lasts_on_heap
-returns-clause-lasts_on_heap c k n align a t hs ks later formed by = lasts_in k n align a t (λ g h. TakesAligned n align g h (Some t)) hs ks later formed (λ g h s. (s.0, s.3.second)) by
+returns-clause-lasts_on_heap c k n align a t hs ks later formed by d = lasts_in k n align a t (λ g h. TakesAligned n align g h (Some t)) hs ks later formed (λ g h s. (s.0, s.3.second)) by d (dvd_trans a d (dvd_of_mod-eq-zero align by.by.2))

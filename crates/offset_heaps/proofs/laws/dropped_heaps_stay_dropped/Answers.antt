@@ -1,7 +1,7 @@
 use Rattle.std.proofs.Common.{◌≤◌, IfSome, subst}
 use Rattle.offset_guarded.specs.Guard.{Guard}
 use Rattle.offset_heaps.specs.Heaps.{Heaps, heap_at}
-use Rattle.offset_heaps.proofs.Histories.{dropped_gone, gone_dead, never_live, stays_gone}
+use Rattle.offset_heaps.proofs.Histories.{dropped_gone, gone_dead, never_live, realm_keeps, stays_gone}
 use Rattle.offset_heaps.proofs.laws.dropped_heaps_stay_dropped.Goals as goal
 
 pub returns-clause-never : goal.returns-clause-never
@@ -15,3 +15,6 @@ returns-clause-step g c p hs ks gone step = stays_gone p hs ks gone step
 
 pub returns-clause-dead : goal.returns-clause-dead
 returns-clause-dead g c p hs gone live = gone_dead p hs gone live
+
+pub returns-clause-on_heap : goal.returns-clause-on_heap
+returns-clause-on_heap g c p k hs ks gone alters = realm_keeps p k hs ks alters gone

@@ -1,3 +1,4 @@
+use Rattle.std.proofs.Common.{rules}
 use Rattle.offset_guarded.specs.Guard.{Guard}
 use Rattle.offset_heaps.proofs.Limited.{sound_changed, relocated}
 use Rattle.offset_heaps.proofs.heap_mut.HeapMut.relocate.Goals as goal
@@ -9,3 +10,14 @@ invariant_of-heaps g c =
     let limited = relocated c.args.ticket before after c.relocate-result.result c.relocate-result.ensures.same c.relocate-result.ensures.grants c.relocate-result.ensures.live c.relocate-result.ensures.none c.relocate-result.ensures.step in
     sound_changed g.T.Index.NodeIndex.MAX c.heaps.inside.slots c.heaps.inside.limits c.heaps.inside.made c.heaps.inside.index c.note.new.self c.args.self.now.number before after c.heaps.invariant
     c.heap_mut.ensures.heap limited c.note.ensures.wide c.note.ensures.here c.note.ensures.others c.note.ensures.levels
+
+pub returns-clause-change : goal.returns-clause-change
+returns-clause-change g c =
+    let e = c.relocate-result.ensures in
+    record {
+      before = c.heap_mut.result.now;
+      after = c.relocate-result.new.self;
+      heap = search rules;
+      by = ((e.grants, e.same, e.same_step, (λ some. (e.live some).0), e.aligned), e.serials, e.before, (λ some. (e.live some).1), e.none, e.step, e.accesses_max);
+      heaps = search rules;
+    }

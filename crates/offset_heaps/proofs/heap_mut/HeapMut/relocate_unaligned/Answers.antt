@@ -19,6 +19,6 @@ returns-clause-change g c =
       before = c.heap_mut.result.now;
       after = c.relocate_unaligned-result.new.self;
       heap = search rules;
-      by = ((e.grants, e.same, e.same_step), e.live, e.step, e.accesses_max);
+      by = ((e.grants, e.same, e.same_step), e.serials, e.before, e.live, e.step, e.accesses_max);
       heaps = search rules;
     }
