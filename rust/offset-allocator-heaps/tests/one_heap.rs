@@ -7,7 +7,10 @@ mod random;
 use offset_allocator_heaps::{AllocatorOf, ByField, ByNode, Global, GuardedOf, HeapsOf, Limits, Move, Place, Tables, Ticket};
 use random::Xorshift as Numbers;
 
-const LIMITS: Limits = Limits { size: 4096, first_size: 1024, max_allocs: 64, first_allocs: 64, most: 3, most_larger: 1 };
+// The limits, with the node limit that heaps begin with: it stays, since no call on a heap raises it.
+fn limits(first_allocs: u32) -> Limits {
+    Limits { size: 4096, first_size: 1024, max_allocs: 64, first_allocs, most: 3, most_larger: 1 }
+}
 
 // Makes the same call on both, and compares what they return and the moves.
 macro_rules! both {
@@ -34,17 +37,17 @@ fn blocks<T: Tables>(space: &AllocatorOf<T>) -> Vec<(u32, u32, Option<u32>)> {
     space.blocks().map(|it| (it.offset, it.size, it.allocation.map(|it| it.to_parts().1))).collect()
 }
 
-fn plays<T: Tables>(seed: u64, calls: u32) {
+fn plays<T: Tables>(seed: u64, first_allocs: u32, calls: u32) {
     let mut numbers = Numbers(seed.wrapping_mul(0x9e37_79b9_7f4a_7c15));
     let mut below = |limit: u32| ((numbers.next() >> 11) % u64::from(limit)) as u32;
-    let mut heaps = HeapsOf::<T>::with_realms(Global, LIMITS, 7, 40).unwrap();
+    let mut heaps = HeapsOf::<T>::with_realms(Global, limits(first_allocs), 7, 40).unwrap();
     // heap 0 has 1024 units, heap 1 2048 and heap 2 4096
     let sizes = [1000, 2000, 3000];
     let places: Vec<Place> = sizes.iter().map(|&size| heaps.allocate(size).unwrap().place).collect();
     assert_eq!(places.iter().map(|it| it.heap).collect::<Vec<_>>(), [0, 1, 2]);
     let number = below(3);
     let units = 1024 << number;
-    let mut space = GuardedOf::<T>::with_realm(Global, units, 64, 41 + number).unwrap();
+    let mut space = GuardedOf::<T>::with_realm(Global, units, first_allocs, 41 + number).unwrap();
     let first = space.allocate(sizes[number as usize]).unwrap();
     assert_eq!(places[number as usize].ticket(first.offset), first);
     let mut tickets: Vec<Ticket> = vec![first];
@@ -99,7 +102,9 @@ fn plays<T: Tables>(seed: u64, calls: u32) {
         if tickets.len() > 40 {
             tickets.drain(..20);
         }
-        assert_eq!(blocks(heaps.heap(number).unwrap().allocator()), blocks(space.allocator()));
+        // blocks, bins, names and serials
+        let states = [heaps.heap(number).unwrap(), &space].map(|it| it.write_state(Global).unwrap().to_vec());
+        assert_eq!(states[0], states[1]);
         for k in (0..3).filter(|&k| k != number) {
             assert_eq!(heaps.heap(k).map(|it| blocks(it.allocator())), others[k as usize]);
         }
@@ -121,14 +126,16 @@ fn plays<T: Tables>(seed: u64, calls: u32) {
 #[test]
 fn a_heap_does_what_a_space_does() {
     for seed in 1..=40 {
-        plays::<ByNode<u32>>(seed, 400);
-        plays::<ByNode<u16>>(seed + 100, 400);
-        plays::<ByField<u32>>(seed + 200, 400);
+        for first_allocs in [64, 12] {
+            plays::<ByNode<u32>>(seed, first_allocs, 300);
+            plays::<ByNode<u16>>(seed + 100, first_allocs, 300);
+            plays::<ByField<u32>>(seed + 200, first_allocs, 300);
+        }
     }
 }
 
 #[test]
 fn a_number_without_a_heap_has_none_to_change() {
-    let mut heaps = HeapsOf::<ByNode<u32>>::with_realms(Global, LIMITS, 7, 40).unwrap();
+    let mut heaps = HeapsOf::<ByNode<u32>>::with_realms(Global, limits(64), 7, 40).unwrap();
     assert!(heaps.heap_mut(0).is_none() && heaps.heap_mut(4).is_none() && heaps.heap_mut(u32::MAX).is_none());
 }
