@@ -1,26 +1,23 @@
 -- The same call on twins has the same answer and the same moves, and leaves twins.
-use Rattle.std.proofs.Common.{◌≡◌, ◌↔◌, ℕ, ◌+◌, ◌<◌, ◌≤◌, ◌⊎◌, Bool, true, false, List, [], ◌∷◌, ◌++◌, Option, Some, None, IfSome, IsSome, IsTrue, is_some, option_map, if◌then◌else◌, refl, sym, ap, ap₂, subst, subst₂, ◌∙◌, inl, inr, arith}
+use Rattle.std.proofs.Common.{◌≡◌, ◌↔◌, ℕ, ◌<◌, ◌≤◌, ◌⊎◌, Bool, true, false, List, [], Option, Some, None, IsSome, IsTrue, is_some, option_map, if◌then◌else◌, refl, sym, ap, ap₂, subst, subst₂, ◌∙◌, inl, inr, arith}
 use Rattle.std.proofs.lemmas.Bool.{cases_lt}
 use Rattle.std.specs.Int.{IsGcd}
 use Rattle.std.specs.List.{FoldsTo}
 use Rattle.offset_allocator.specs.Resizing.{CanGrow, CanShrink, Grows, Shrinks}
 use Rattle.offset_allocator.specs.Relations as space
 use Rattle.offset_allocator.specs.Ranges.{Range, size_of}
-use Rattle.offset_allocator.specs.{Classes.up, Classes.value, Relations.SameState, Requests.blocks_needed, Requests.units_needed, View.Handle, View.View, View.IsWellFormed}
-use Rattle.offset_allocator.specs.Moving.{BySteps.CompactsBy, BySteps.moves_by, Compacting.Move, Compacting.moves, Relocating.RelocatesAligned, Relocating.offset_of, RoomBySteps.IsLeastCostBy, RoomBySteps.MakesRoomBy, RoomBySteps.names_short, Room.IsLeastCost, Budget.CompactsWithin}
-use Rattle.offset_allocator.specs.declared.moves.over_frames.Progress.{Progress}
-use Rattle.offset_allocator.specs.declared.moves.room.RoomCost.{RoomCost}
+use Rattle.offset_allocator.specs.{Classes.up, Classes.value, Relations.SameState, Requests.blocks_needed, Requests.units_needed, View.View, View.IsWellFormed}
+use Rattle.offset_allocator.specs.Moving.{BySteps.CompactsBy, BySteps.moves_by, Compacting.Move, Compacting.moves, Relocating.offset_of, RoomBySteps.IsLeastCostBy, RoomBySteps.MakesRoomBy, RoomBySteps.names_short, Budget.CompactsWithin}
 use Rattle.offset_allocator.proofs.{AtOffset.at_decided, Decided.allocates_decided, Decided.aligns_decided, Decided.relocates_aligned_decided, Decided.relocates_decided, Decided.tight_decided, DecidedChanges.compacts_decided, DecidedChanges.extends_decided, DecidedChanges.grows_decided, DecidedChanges.retracts_decided, DecidedChanges.shrinks_decided}
 use Rattle.offset_allocator.proofs.Moving.{DecidedBudget.within_decided, DecidedRooms.folds_same, DecidedRooms.noted_decided, DecidedRoomsBySteps.noted_by_decided, DecidedSteps.compacts_by_decided}
 use Rattle.offset_guarded.specs.Answers as tickets
 use Rattle.offset_guarded.specs.Answers.{Answer, Answers, Call, Notes, Requests, RequestsSecond, Resizes}
 use Rattle.offset_guarded.specs.Answers.Answer.{Requested, Was_done, Resized, Progressed, Room_made, Nothing}
 use Rattle.offset_guarded.specs.Answers.Call.{Allocate, Allocate_aligned, Allocate_tight, Allocate_tight_aligned, Allocate_at, Relocate, Relocate_aligned, Relocate_unaligned, Free, Shrink, Grow_in_place, Extend, Retract, Raise_step, Reset, Compact, Compact_by, Compact_unaligned, Compact_within, Compact_within_by, Make_room, Make_room_by, Make_room_unaligned}
-use Rattle.offset_guarded.specs.Guard.{Guard, HasSerialLeft, IsLive, KeepsSizes, Ticket, handle_in, last_serial, range_of}
-use Rattle.offset_guarded.specs.Step.{IsJoined}
+use Rattle.offset_guarded.specs.Guard.{Guard, HasSerialLeft, IsLive, KeepsSizes, Ticket, handle_in, last_serial}
 use Rattle.offset_guarded.specs.Twins.{IsTwin}
 use Rattle.offset_guarded.proofs.Divisors.{gcd_there}
-use Rattle.offset_guarded.proofs.Twins.{as_twin, free_twins, grant_twins, joined_twins, kept_twins, range_twin, reset_twins, same_ticket, same_twin, slid_twins, twin_sym, twin_trans}
+use Rattle.offset_guarded.proofs.Twins.{free_twins, grant_twins, joined_twins, kept_twins, range_twin, reset_twins, same_ticket, same_twin, slid_twins, twin_sym, twin_trans}
 
 -- ---- requests
 -- the space grants the same handle, and is left in the same state
@@ -149,9 +146,9 @@ answers_decided (Relocate u) g g' h h' known t a a' ms ms' x y = elim (cases_lt 
       let some : 1 ≤ g.step = omega (arith, l) in
       let d = granted (size_of u.name g.space) (size_of u.name g'.space) g g' h h' x.0 y.0 (size_same g g' h h' t u.name) t x.2.0.request y.2.0.request
       (second g g' h h' t u x.0 y.0 x.2.0 y.2.0 (λ l m l' m'.
-          let align = gcd_there (offset_of u.name g.space) g.step some in
-          relocates_aligned_decided u.name align.0 g.space g'.space h.space h'.space align.1 known t.space (option_map handle_in x.0) (option_map handle_in y.0)
-          (x.2.4 l m some align.0 align.2) (y.2.4 l' m' (omega (arith, some, t.step)) align.0 (subst₂ (λ (o s : ℕ). IsGcd o s align.0) (sym offset') (sym t.step) align.2))))
+      let align = gcd_there (offset_of u.name g.space) g.step some in
+      relocates_aligned_decided u.name align.0 g.space g'.space h.space h'.space align.1 known t.space (option_map handle_in x.0) (option_map handle_in y.0)
+      (x.2.4 l m some align.0 align.2) (y.2.4 l' m' (omega (arith, some, t.step)) align.0 (subst₂ (λ (o s : ℕ). IsGcd o s align.0) (sym offset') (sym t.step) align.2))))
       (λ p q. same_step g g' h h' t x.2.1 y.2.1) in
       still Requested x.0 y.0 a a' ms ms' h h' x.1 y.1 x.3 y.3 d
   | inr m ↦
@@ -187,22 +184,26 @@ answers_decided (Extend more) g g' h h' known t a a' ms ms' x y =
 answers_decided (Retract less) g g' h h' known t a a' ms ms' x y =
     let e = retracts_decided less g.space g'.space h.space h'.space t.space x.0 y.0 x.2.5 y.2.5 in
     still Was_done x.0 y.0 a a' ms ms' h h' x.1 y.1 x.3 y.3 (e.0, slid_twins g g' h h' t x.2.1 y.2.1 (λ u. ap (option_map (λ (r : Range). r.size)) (x.2.0 u)) e.1)
-answers_decided (Raise_step align) g g' h h' known t a a' ms ms' x y = (x.0 ∙ sym y.0, x.2 ∙ sym y.2, subst₂ IsTwin (sym x.1.1) (sym y.1.1) (record {
-  space = t.space;
-  serials = t.serials;
-  given = t.given;
-  realm = t.realm;
-  step = joined_twins align g g' h h' t x.1.0 y.1.0;
-}))
+answers_decided (Raise_step align) g g' h h' known t a a' ms ms' x y = (
+  x.0 ∙ sym y.0,
+  x.2 ∙ sym y.2,
+  subst₂ IsTwin (sym x.1.1) (sym y.1.1) (record {
+    space = t.space;
+    serials = t.serials;
+    given = t.given;
+    realm = t.realm;
+    step = joined_twins align g g' h h' t x.1.0 y.1.0;
+  }),
+)
 answers_decided Reset g g' h h' known t a a' ms ms' x y = (x.0 ∙ sym y.0, x.2 ∙ sym y.2, reset_twins g g' h h' known t x.1.2 y.1.2 x.1.1 y.1.1 x.1.0)
 answers_decided Compact g g' h h' known t a a' ms ms' x y = moving Was_done x.0 y.0 a a' ms ms' h h' x.1 y.1
     (stepped g g' h h' x.0 y.0 ms ms' t x.2.0 x.2.1 y.2.1
     (λ e f.
-        let p = x.2.3 e in
-        let q = y.2.3 f in
-        (p.0 ∙ sym q.0, noted g g' h h' t [] [] ms ms' refl (none g ms x.0 p.0 x.2.5) (none g' ms' y.0 q.0 y.2.5), p.1, q.1))
+    let p = x.2.3 e in
+    let q = y.2.3 f in
+    (p.0 ∙ sym q.0, noted g g' h h' t [] [] ms ms' refl (none g ms x.0 p.0 x.2.5) (none g' ms' y.0 q.0 y.2.5), p.1, q.1))
     (λ l m. by_step g g' h h' t g.step x.0 y.0 ms ms' (x.2.4 l) (subst (λ s. CompactsBy s g'.space h'.space y.0) t.step (y.2.4 m)) x.2.5
-        (subst (λ s. FoldsTo Notes [] (if y.0 then moves_by s 0 0 g'.space.blocks else []) ms') t.step y.2.5)))
+    (subst (λ s. FoldsTo Notes [] (if y.0 then moves_by s 0 0 g'.space.blocks else []) ms') t.step y.2.5)))
   where
     none : (g : Guard) (ms : List Move) (r : Bool) → r ≡ false → FoldsTo Notes [] (if r then moves_by g.step 0 0 g.space.blocks else []) ms → FoldsTo Notes [] [] ms
     none g ms r e f = subst (λ (b : Bool). FoldsTo Notes [] (if b then moves_by g.step 0 0 g.space.blocks else []) ms) e f
@@ -217,23 +218,23 @@ answers_decided Compact_unaligned g g' h h' known t a a' ms ms' x y = (
 answers_decided (Compact_within from units ranges) g g' h h' known t a a' ms ms' x y = moving Progressed x.0 y.0 a a' ms ms' h h' x.1 y.1
     (stepped g g' h h' x.0 y.0 ms ms' t x.2.0 x.2.1 y.2.1
     (λ e f.
-        let p = x.2.4 e in
-        let q = y.2.4 f in
-        (p.0 ∙ sym q.0, p.2 ∙ sym q.2, p.1, q.1))
+    let p = x.2.4 e in
+    let q = y.2.4 f in
+    (p.0 ∙ sym q.0, p.2 ∙ sym q.2, p.1, q.1))
     (λ l m. within_decided g.step from units ranges g.space g'.space h.space h'.space known t.space x.0 y.0 ms ms' (x.2.5 l)
-        (subst (λ s. CompactsWithin Notes s from units ranges g'.space [] y.0 h'.space ms') t.step (y.2.5 m))))
+    (subst (λ s. CompactsWithin Notes s from units ranges g'.space [] y.0 h'.space ms') t.step (y.2.5 m))))
 answers_decided (Compact_within_by s from units ranges) g g' h h' known t a a' ms ms' x y =
     let e = within_decided s from units ranges g.space g'.space h.space h'.space known t.space x.0 y.0 ms ms' x.2.4 y.2.4 in
     moving Progressed x.0 y.0 a a' ms ms' h h' x.1 y.1 (e.0, e.1, slid_twins g g' h h' t x.2.1 y.2.1 x.2.0 e.2)
 answers_decided (Make_room n align) g g' h h' known t a a' ms ms' x y = moving Room_made x.0 y.0 a a' ms ms' h h' x.1 y.1
     (stepped g g' h h' x.0 y.0 ms ms' t x.2.0 x.2.1 y.2.1
     (λ e f.
-        let p = x.2.5 e in
-        let q = y.2.5 f in
-        (p.0 ∙ sym q.0, p.2 ∙ sym q.2, p.1, q.1))
+    let p = x.2.5 e in
+    let q = y.2.5 f in
+    (p.0 ∙ sym q.0, p.2 ∙ sym q.2, p.1, q.1))
     (λ l m. noted_by_decided g.step want blocks g.space g'.space h.space h'.space known t.space x.0 y.0 ms ms' (x.2.3 l)
-        (subst (λ s. IsLeastCostBy s want (names_short blocks g'.space) g'.space.blocks y.0) t.step (y.2.3 m)) (x.2.6 l)
-        (subst (λ s. MakesRoomBy Notes s want (names_short blocks g'.space) g'.space [] y.0 h'.space ms') t.step (y.2.6 m))))
+    (subst (λ s. IsLeastCostBy s want (names_short blocks g'.space) g'.space.blocks y.0) t.step (y.2.3 m)) (x.2.6 l)
+    (subst (λ s. MakesRoomBy Notes s want (names_short blocks g'.space) g'.space [] y.0 h'.space ms') t.step (y.2.6 m))))
   where
     want : ℕ
     want = value (up (units_needed n align))

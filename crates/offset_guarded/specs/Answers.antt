@@ -85,7 +85,7 @@ Relocates t g h r = RequestsSecond t g h r × (h.step ≡ g.step)
     × IfSome r (λ u. (a : ℕ) → a ∣ g.step → a ∣ offset_of t.name g.space → a ∣ u.offset)
     × (g.step ≡ 0 → (r ≡ None) × (h ≡ g))
     × (IsLive t g → HasSerialLeft g → 1 ≤ g.step → (align : ℕ) → IsGcd (offset_of t.name g.space) g.step align
-        → second.RelocatesAligned t.name align g.space h.space (option_map handle_in r))
+    → second.RelocatesAligned t.name align g.space h.space (option_map handle_in r))
 
 abbrev pub RelocatesAligned : Ticket → ℕ → Guard → Guard → Option Ticket → Type 0
 RelocatesAligned t align g h r = RequestsSecond t g h r × Aligns align g h r

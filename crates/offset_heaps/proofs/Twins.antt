@@ -1,5 +1,5 @@
 -- Twins: what calls read of them is the same, and so is what a change of one heap leaves.
-use Rattle.std.proofs.Common.{◌≡◌, ◌≢◌, ℕ, suc, ◌+◌, ◌<◌, length, List, [], ◌∷◌, Option, Some, None, IfSome, option_map, slice_set, if◌then◌else◌, nat_eq, refl, sym, ap, ap₂}
+use Rattle.std.proofs.Common.{◌≡◌, ℕ, suc, ◌<◌, length, List, [], ◌∷◌, Option, Some, None, IfSome, slice_set, if◌then◌else◌, nat_eq, refl, sym, ap, ap₂}
 use Rattle.std.proofs.Common.{subst, ◌∙◌, inl, inr, arith}
 use Rattle.std.proofs.lemmas.Bool.{cases_eq}
 use Rattle.offset_allocator.specs.{Ranges.Range, View.IsWellFormed}

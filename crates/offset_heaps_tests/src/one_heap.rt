@@ -23,7 +23,7 @@ pub fn allocate_aligned(
     size: u32,
     align: u32,
 ) -> Option<Ticket>
-    requires { 1 ≤ align }
+    requires alignment { 1 ≤ align }
     ensures { TakesOn heap.old.number (tickets.Call.Allocate_aligned size align) heap.old.heaps.now heap.new.heaps.now (tickets.Answer.Requested result) [] }
 {
     heap.allocate_aligned(size, align)
@@ -42,7 +42,7 @@ pub fn allocate_tight_aligned(
     size: u32,
     align: u32,
 ) -> Option<Ticket>
-    requires { 1 ≤ align }
+    requires alignment { 1 ≤ align }
     ensures { TakesOn heap.old.number (tickets.Call.Allocate_tight_aligned size align) heap.old.heaps.now heap.new.heaps.now (tickets.Answer.Requested result) [] }
 {
     heap.allocate_tight_aligned(size, align)
@@ -68,7 +68,7 @@ pub fn relocate_aligned(
     ticket: Ticket,
     align: u32,
 ) -> Option<Ticket>
-    requires { 1 ≤ align }
+    requires alignment { 1 ≤ align }
     ensures { TakesOn heap.old.number (tickets.Call.Relocate_aligned ticket align) heap.old.heaps.now heap.new.heaps.now (tickets.Answer.Requested result) [] }
 {
     heap.relocate_aligned(ticket, align)
@@ -111,7 +111,7 @@ pub fn extend(heap: &mut HeapMut<'_, ByNode<u32>>, more: u32) -> bool
 
 /// A larger step.
 pub fn raise_step(heap: &mut HeapMut<'_, ByNode<u32>>, align: u32)
-    requires { 1 ≤ align }
+    requires alignment { 1 ≤ align }
     ensures { TakesOn heap.old.number (tickets.Call.Raise_step align) heap.old.heaps.now heap.new.heaps.now tickets.Answer.Nothing [] }
 {
     heap.raise_step(align);
@@ -133,7 +133,7 @@ pub fn compact(heap: &mut HeapMut<'_, ByNode<u32>>) -> bool
 
 /// A compaction by a step.
 pub fn compact_by(heap: &mut HeapMut<'_, ByNode<u32>>, step: u32) -> bool
-    requires { 1 ≤ step }
+    requires some { 1 ≤ step }
     ensures { (ms : List Move) × TakesOn heap.old.number (tickets.Call.Compact_by step) heap.old.heaps.now heap.new.heaps.now (tickets.Answer.Was_done result) ms }
 {
     heap.compact_by(step, &mut |_range: Moved<u32>| ())
@@ -166,7 +166,7 @@ pub fn compact_within_by(
     units: u32,
     ranges: u32,
 ) -> Option<Progress>
-    requires { 1 ≤ step }
+    requires some { 1 ≤ step }
     ensures { (ms : List Move) × TakesOn heap.old.number (tickets.Call.Compact_within_by step from units ranges) heap.old.heaps.now heap.new.heaps.now (tickets.Answer.Progressed result) ms }
 {
     heap.compact_within_by(step, from, units, ranges, &mut |_range: Moved<u32>| ())
@@ -185,7 +185,7 @@ pub fn make_room_aligned(
     size: u32,
     align: u32,
 ) -> Option<RoomCost>
-    requires { 1 ≤ align }
+    requires alignment { 1 ≤ align }
     ensures { (ms : List Move) × TakesOn heap.old.number (tickets.Call.Make_room size align) heap.old.heaps.now heap.new.heaps.now (tickets.Answer.Room_made result) ms }
 {
     heap.make_room_aligned(size, align, &mut |_range: Moved<u32>| ())
@@ -198,8 +198,8 @@ pub fn make_room_by(
     align: u32,
     step: u32,
 ) -> Option<RoomCost>
-    requires { 1 ≤ align }
-    requires { 1 ≤ step }
+    requires alignment { 1 ≤ align }
+    requires some { 1 ≤ step }
     ensures { (ms : List Move) × TakesOn heap.old.number (tickets.Call.Make_room_by size align step) heap.old.heaps.now heap.new.heaps.now (tickets.Answer.Room_made result) ms }
 {
     heap.make_room_by(size, align, step, &mut |_range: Moved<u32>| ())

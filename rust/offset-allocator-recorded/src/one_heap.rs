@@ -112,6 +112,15 @@ impl<T: Tables, W: Write> RecordedHeap<'_, T, W> {
     }
 
     calls_with_tickets!();
+
+    /// `HeapMut::retract`. Where it is not done nothing is written, since a space may give up what a heap keeps.
+    pub fn retract(&mut self, less: u32) -> bool {
+        let done = self.calls().retract(less);
+        if done {
+            self.line(format_args!("retract {less}"));
+        }
+        done
+    }
 }
 
 impl<T: Tables, W: Write> Deref for RecordedHeap<'_, T, W> {

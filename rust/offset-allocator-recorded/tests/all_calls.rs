@@ -70,7 +70,7 @@ fn in_rust() {
         all
     };
     let lacking = |all: BTreeSet<String>, of| -> Vec<String> { all.difference(&recorded(of)).cloned().collect() };
-    assert!(space.len() == 19 && tickets.len() == 24 && heaps.len() == 19 && heap.len() == 23, "{space:?} {tickets:?} {heaps:?} {heap:?}");
+    assert!(space.len() == 19 && tickets.len() == 24 && heaps.len() == 19 && heap.len() == 24, "{space:?} {tickets:?} {heaps:?} {heap:?}");
     assert_eq!(lacking(space, "impl<T: Tables, W: Write> Recorded<AllocatorOf<T>, W> {"), [""; 0]);
     assert_eq!(lacking(tickets, "impl<T: Tables, W: Write> Recorded<GuardedOf<T>, W> {"), [""; 0]);
     assert_eq!(lacking(heaps, "impl<T: Tables, W: Write> RecordedHeaps<T, W> {"), [""; 0]);

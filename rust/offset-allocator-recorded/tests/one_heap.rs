@@ -94,6 +94,7 @@ enum Call {
     RoomBy(u32, u32, u32),
     RoomUnaligned(u32),
     Extend(u32),
+    Retract(u32),
     RaiseStep(u32),
     Reset,
 }
@@ -125,7 +126,8 @@ fn random_call(random: &mut Random, size: u32) -> Call {
         89..=90 => Call::RoomBy(n, a, s),
         91..=92 => Call::RoomUnaligned(n),
         93..=95 => Call::Extend(random.below(60)),
-        96..=98 => Call::RaiseStep(s),
+        96 => Call::Retract(random.below(60)),
+        97..=98 => Call::RaiseStep(s),
         _ => Call::Reset,
     }
 }
@@ -189,6 +191,8 @@ macro_rules! call {
             Call::RoomBy(n, a, s) => (of_room(heap.make_room_by(n, a, s, |_| ())), false),
             Call::RoomUnaligned(n) => (of_room(heap.make_room_unaligned(n, |_| ())), false),
             Call::Extend(n) => (of_done("extended", heap.extend(n)), false),
+            // one that is not done has no line
+            Call::Retract(n) => (heap.retract(n).then(|| "retracted".to_owned()), false),
             Call::RaiseStep(a) => {
                 heap.raise_step(a);
                 (None, false)

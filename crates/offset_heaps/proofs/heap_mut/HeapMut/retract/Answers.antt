@@ -1,4 +1,4 @@
-use Rattle.std.proofs.Common.{◌≡◌, ◌↔◌, ◌+◌, ◌≤◌, ℕ, IsTrue, rules, subst}
+use Rattle.std.proofs.Common.{◌↔◌, ◌+◌, ◌≤◌, ℕ, IsTrue, rules, subst}
 use Rattle.offset_allocator.specs.Moving.Retracting.{CanRetract}
 use Rattle.offset_guarded.specs.Guard.{Guard}
 use Rattle.offset_heaps.specs.Heaps.{Heaps, least_units}
@@ -25,7 +25,7 @@ returns-clause-change g c =
       by = record {
         done = subst (λ (hs : Heaps). IsTrue c.retract_to-result.result
             ↔ ((least_units hs.limits c.args.self.now.number + c.args.less ≤ before.space.size) × (1 ≤ c.args.less → CanRetract c.args.less before.space))) c.heaps.view_is
-        (subst (λ (n : ℕ). IsTrue c.retract_to-result.result ↔ ((n + c.args.less ≤ before.space.size) × (1 ≤ c.args.less → CanRetract c.args.less before.space))) c.least_units-least.ensures e.done);
+            (subst (λ (n : ℕ). IsTrue c.retract_to-result.result ↔ ((n + c.args.less ≤ before.space.size) × (1 ≤ c.args.less → CanRetract c.args.less before.space))) c.least_units-least.ensures e.done);
         step = e.step;
         same = e.same;
       };
