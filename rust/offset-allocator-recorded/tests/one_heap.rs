@@ -4,7 +4,7 @@
 use offset_allocator_guarded::{GuardedOf, Ticket};
 use offset_allocator_heaps::{Heaps, HeapsOf, Limits, Place};
 use offset_allocator_proved::{ByField, ByNode, Global, Progress, RoomCost, Tables};
-use offset_allocator_recorded::{course, draw, draw_heap, play, HeapLine, Line, Lines, Recorded, RecordedHeaps};
+use offset_allocator_recorded::{course, draw, draw_heap, play, Beside, HeapLine, Line, Lines, Recorded, RecordedHeaps};
 use std::cell::RefCell;
 use std::collections::BTreeMap;
 use std::io::{self, Write};
@@ -399,10 +399,8 @@ fn a_heap_with_few_nodes_begins_anew() {
     let limits = Limits { size: 100, first_size: 100, max_allocs: 16, first_allocs: 8, most: 1, most_larger: 0 };
     let seen = Seen::default();
     let mut heaps = RecordedHeaps::new(Heaps::<u32>::with_realm(Global, limits, 1).unwrap(), seen.clone()).unwrap();
-    for _ in 0..5 {
-        heaps.name("mesh").allocate(10).unwrap();
-    }
-    heaps.allocate(10).unwrap();
+    let named: Vec<Place> = (0..5).map(|_| heaps.name("mesh").allocate(10).unwrap().place).collect();
+    let last = heaps.allocate(10).unwrap().place;
     let before = "heap 0 space 100 nodes 16 index 32\n".to_owned() + &"# mesh\nheap 0 alloc 10\n".repeat(5) + "heap 0 alloc 10\n";
     assert_eq!(seen.text(), before);
     // six ranges and the free block behind them: of eight nodes one is left, and a request needs two
@@ -423,6 +421,13 @@ fn a_heap_with_few_nodes_begins_anew() {
     assert!(heaps.heap_mut(0).unwrap().allocate_tight(9).is_some() && heaps.heap_mut(1).is_none());
     let after = format!("{after}heap 0 alloc 11\nheap 0 tight 9\n");
     assert_eq!(seen.text(), after);
+    // what had a name has it still, and what had none gets one
+    let mut beside = Beside::new(Global);
+    for place in [named[2], last] {
+        assert!(beside.put(heaps.heap(0).unwrap(), place.ticket(0), "beside").is_ok());
+    }
+    heaps.name_all(0, &beside, |name| name);
+    assert_eq!(seen.text(), format!("{after}#! heap 0 name 6 beside\n"));
     let mut wanted = BTreeMap::from([(23, "heap 0 none"), (24, "heap 0 none"), (37, "heap 0 at 60"), (38, "heap 0 none"), (39, "heap 0 at 90")].map(|(line, answer)| (line, answer.to_owned())));
     assert_eq!(compared(&after, &wanted), Ok(()), "{after}");
     // and a wrong answer is found: what the recording would be without the nodes that the heap had
