@@ -18,6 +18,10 @@ impl Seen {
     fn text(&self) -> String {
         String::from_utf8(self.0.borrow().clone()).unwrap()
     }
+
+    fn lines(&self) -> usize {
+        self.0.borrow().iter().filter(|byte| **byte == b'\n').count()
+    }
 }
 
 impl Write for Seen {
@@ -283,7 +287,7 @@ fn random_heaps<T: Tables>(seed: u64, begun: &mut usize) -> (String, BTreeMap<us
     let mut heaps = RecordedHeaps::new(HeapsOf::<T>::with_realm(Global, limits, 3).unwrap(), seen.clone()).unwrap();
     let (mut given, mut places): (BTreeMap<usize, String>, Vec<Place>) = Default::default();
     for i in 0..250 {
-        let lines = seen.text().lines().count();
+        let lines = seen.lines();
         let place = random.one_of(&places);
         if random.below(4) == 0 {
             heaps.name(&format!("call {i}"));
@@ -327,18 +331,18 @@ fn random_heaps<T: Tables>(seed: u64, begun: &mut usize) -> (String, BTreeMap<us
                 })
             }
         };
-        let text = seen.text();
-        let now = text.lines().count();
-        *begun += text.lines().skip(lines).filter(|line| *line == "#! begun").count();
+        let now = seen.lines();
         match answer {
             Some(answer) => assert!(now > lines && given.insert(now, answer).is_none(), "seed {seed}"),
             // nothing is written but a heap that begins anew for room that is then not made
-            None => assert!(now == lines || text.ends_with("#! begun\n"), "seed {seed}: {text}"),
+            None => assert!(now == lines || seen.text().ends_with("#! begun\n"), "seed {seed}: {}", seen.text()),
         }
-        assert!(heaps.failure().is_none(), "seed {seed}: {text}");
+        assert!(heaps.failure().is_none(), "seed {seed}: {}", seen.text());
     }
+    let text = seen.text();
+    *begun += text.lines().filter(|line| *line == "#! begun").count();
     let live = (0..limits.most + limits.most_larger).filter_map(|number| heaps.heap(number).map(|heap| (number, state_of(heap)))).collect();
-    (seen.text(), given, live)
+    (text, given, live)
 }
 
 // What tells the state of a space: its live ranges in order, and, where it has nodes enough, which a recording may have more of, what
