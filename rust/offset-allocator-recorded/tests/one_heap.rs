@@ -4,7 +4,7 @@
 use offset_allocator_guarded::{GuardedOf, Ticket};
 use offset_allocator_heaps::{Heaps, HeapsOf, Limits, Place};
 use offset_allocator_proved::{ByField, ByNode, Global, Progress, RoomCost, Tables};
-use offset_allocator_recorded::{course, draw, draw_heap, play, HeapLine, Line, Lines, Recorded, RecordedHeaps};
+use offset_allocator_recorded::{course, draw, draw_heap, play, Beside, HeapLine, Line, Lines, Recorded, RecordedHeaps};
 use std::cell::RefCell;
 use std::collections::BTreeMap;
 use std::io::{self, Write};
@@ -17,6 +17,10 @@ struct Seen(Rc<RefCell<Vec<u8>>>);
 impl Seen {
     fn text(&self) -> String {
         String::from_utf8(self.0.borrow().clone()).unwrap()
+    }
+
+    fn lines(&self) -> usize {
+        self.0.borrow().iter().filter(|byte| **byte == b'\n').count()
     }
 }
 
@@ -287,7 +291,7 @@ fn random_heaps<T: Tables>(seed: u64, begun: &mut usize) -> (String, BTreeMap<us
     let mut heaps = RecordedHeaps::new(HeapsOf::<T>::with_realm(Global, limits, 3).unwrap(), seen.clone()).unwrap();
     let (mut given, mut places): (BTreeMap<usize, String>, Vec<Place>) = Default::default();
     for i in 0..250 {
-        let lines = seen.text().lines().count();
+        let lines = seen.lines();
         let place = random.one_of(&places);
         if random.below(4) == 0 {
             heaps.name(&format!("call {i}"));
@@ -331,18 +335,18 @@ fn random_heaps<T: Tables>(seed: u64, begun: &mut usize) -> (String, BTreeMap<us
                 })
             }
         };
-        let text = seen.text();
-        let now = text.lines().count();
-        *begun += text.lines().skip(lines).filter(|line| *line == "#! begun").count();
+        let now = seen.lines();
         match answer {
             Some(answer) => assert!(now > lines && given.insert(now, answer).is_none(), "seed {seed}"),
             // nothing is written but a heap that begins anew for room that is then not made
-            None => assert!(now == lines || text.ends_with("#! begun\n"), "seed {seed}: {text}"),
+            None => assert!(now == lines || seen.text().ends_with("#! begun\n"), "seed {seed}: {}", seen.text()),
         }
-        assert!(heaps.failure().is_none(), "seed {seed}: {text}");
+        assert!(heaps.failure().is_none(), "seed {seed}: {}", seen.text());
     }
+    let text = seen.text();
+    *begun += text.lines().filter(|line| *line == "#! begun").count();
     let live = (0..limits.most + limits.most_larger).filter_map(|number| heaps.heap(number).map(|heap| (number, state_of(heap)))).collect();
-    (seen.text(), given, live)
+    (text, given, live)
 }
 
 // What tells the state of a space: its live ranges in order, and, where it has nodes enough, which a recording may have more of, what
@@ -403,10 +407,8 @@ fn a_heap_with_few_nodes_begins_anew() {
     let limits = Limits { size: 100, first_size: 100, max_allocs: 16, first_allocs: 8, most: 1, most_larger: 0 };
     let seen = Seen::default();
     let mut heaps = RecordedHeaps::new(Heaps::<u32>::with_realm(Global, limits, 1).unwrap(), seen.clone()).unwrap();
-    for _ in 0..5 {
-        heaps.name("mesh").allocate(10).unwrap();
-    }
-    heaps.allocate(10).unwrap();
+    let named: Vec<Place> = (0..5).map(|_| heaps.name("mesh").allocate(10).unwrap().place).collect();
+    let last = heaps.allocate(10).unwrap().place;
     let before = "heap 0 space 100 nodes 16 index 32\n".to_owned() + &"# mesh\nheap 0 alloc 10\n".repeat(5) + "heap 0 alloc 10\n";
     assert_eq!(seen.text(), before);
     // six ranges and the free block behind them: of eight nodes one is left, and a request needs two
@@ -427,6 +429,13 @@ fn a_heap_with_few_nodes_begins_anew() {
     assert!(heaps.heap_mut(0).unwrap().allocate_tight(9).is_some() && heaps.heap_mut(1).is_none());
     let after = format!("{after}heap 0 alloc 11\nheap 0 tight 9\n");
     assert_eq!(seen.text(), after);
+    // what had a name has it still, and what had none gets one
+    let mut beside = Beside::new(Global);
+    for place in [named[2], last] {
+        assert!(beside.put(heaps.heap(0).unwrap(), place.ticket(0), "beside").is_ok());
+    }
+    heaps.name_all(0, &beside, |name| name);
+    assert_eq!(seen.text(), format!("{after}#! heap 0 name 6 beside\n"));
     let mut wanted = BTreeMap::from([(23, "heap 0 none"), (24, "heap 0 none"), (37, "heap 0 at 60"), (38, "heap 0 none"), (39, "heap 0 at 90")].map(|(line, answer)| (line, answer.to_owned())));
     assert_eq!(compared(&after, &wanted), Ok(()), "{after}");
     // and a wrong answer is found: what the recording would be without the nodes that the heap had
