@@ -83,7 +83,7 @@ def text_of(report):
 
 # the page of results, whose parts are of several reports
 HEAD = ["# Results", "", "Speed beside the original and other allocators. [README.md](README.md) says how all is measured."]
-PARTS = ("## As a user builds it", "## Special builds", "## Beside other allocators")
+PARTS = ("## As a user builds it", "## Special builds", "## Beside other allocators", "## What `room_cost` takes")
 
 
 def put(folder, part, page, name, report):

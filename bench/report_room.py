@@ -1,5 +1,5 @@
 """Runs the programs that bench/room built in the folder $1, prints what they take, and writes it into room.txt
-and ROOM.md, which has the chief of it, in the folder $2."""
+and the fourth part of RESULTS.md, which has the chief of it, in the folder $2."""
 import os, pathlib, re, sys, time
 
 import pages
@@ -79,15 +79,16 @@ shown = [
 
 
 def brief(report):
-    """The page: how long a call takes, and a block and a range."""
-    block, moved = pages.table(report, "A block"), pages.table(report, "A range that moves")
-    head = ["blocks", "nodes", "`room_cost`, a block", "`make_room`, a range that moves", "`compact`"]
-    return [report[0], "",
-            "Nanoseconds, where every other block is free, and nodes lie in space order or in none; [room.txt](room.txt) has "
-            "more, [README.md](README.md#compact-heaps-corpus-room) how it is measured.", "",
-            next(line for line in report if line.startswith("A call takes")), "",
-            *pages.lines_of(head, [[*a[:2], a[3], *b[2:4]] for a, b in zip(block[1:], moved[1:])], 2)]
+    """The part of the page: how long a call takes, and by the order of nodes a block and a range."""
+    block, moved = pages.table(report, "A block")[1:], pages.table(report, "A range that moves")[1:]
+    head = ["nodes", "`room_cost`, a block", "`make_room`, a range that moves", "`compact`"]
+    rows = []
+    for words in ORDERS.values():
+        columns = ([row[3] for row in block if row[1] == words], *([row[at] for row in moved if row[1] == words] for at in (2, 3)))
+        rows.append([words, *(f"{min(column, key=float)} to {max(column, key=float)}" for column in columns)])
+    return [next(line for line in report if line.startswith("A call takes")) + " Nanoseconds, where every other block is free; "
+            "[room.txt](room.txt) has each number of blocks.", "", *pages.lines_of(head, rows)]
 
 
-pages.write(HERE, "room", brief(shown), shown)
+pages.put(HERE, 3, brief(shown), "room", shown)
 print(pages.text_of(shown))

@@ -349,11 +349,12 @@ ALWAYS = {
 HIDDEN = ["pub mod laws;", "pub use accesses::Accesses;"]
 HIDDEN_METHODS = ["Tables"]
 
-# The order in which rustdoc shows the calls of a root, and modules with calls: those that are named here come first. `calls` has
-# the first calls of the root, and `more_calls` its others.
-FIRST = ["new", "with_max_allocs", "with_realm", "with_realms", "allocate", "free", "free_if_live", "allocate_aligned"]
+# The order in which rustdoc shows the calls of a root, and modules with calls: those that are named here come first. `constructors`
+# and `calls` have the first calls of the root, and `more_calls` its others.
+CONSTRUCTORS = ["new", "with_max_allocs", "with_realm", "with_realms"]
+FIRST = [*CONSTRUCTORS, "allocate", "allocate_aligned", "free", "free_if_live"]
 MODULES = [
-    "calls", "allocate", "tight", "at_offset", "more_calls", "resize", "relocate", "compact", "moves", "drop", "extend", "walks", "foretell",
+    "constructors", "calls", "allocate", "tight", "at_offset", "more_calls", "resize", "relocate", "compact", "moves", "drop", "extend", "walks", "foretell",
     "heap_numbers", "totals", "reports", "step", "states", "save", "restore", "copy",
 ]
 

@@ -226,6 +226,62 @@ def a_space_that_there_was(b):
     same(b.run("return $('heaps').hidden"), True, "a recording of one space has no rows of heaps")
 
 
+# What `RecordedHeaps` writes: heap 1 is changed by `heap_mut` alone, heap 0 begins anew for a request that its own node limit refuses.
+ONE_HEAP = """heap 0 space 100 nodes 16 index 32
+# mesh
+heap 0 alloc 30
+heap 0 alloc 30
+heap 1 space 100 nodes 16 index 32
+heap 1 at 20 30
+# capture
+heap 1 at 80 10
+heap 1 free 1
+heap 0 at 90 5
+heap 0 space 100 nodes 8 index 32
+heap 0 at 0 30
+heap 0 at 30 60
+heap 0 at 90 10
+heap 0 shrink 3 5
+heap 0 shrink 2 30
+#! begun
+# second
+heap 0 alloc 20
+heap 1 alloc 88
+heap 1 room 88
+heap 1 compact 1 0 90 4
+heap 1 relocate 2 1
+heap 1 retract 10
+heap 1 tight 80
+heap 0 compact 1 0 100 1
+heap 0 grow 3 6
+"""
+
+
+def calls_on_one_heap(b):
+    """Lines of one heap of many are those of a space: each is answered and stepped through, and the mark of a heap that begins
+    anew is that of no other."""
+    answers = recorded(ONE_HEAP)[0].splitlines()
+    b.open()
+    give(b, ONE_HEAP, "one.script")
+    same(b.run("return $('fault').textContent"), "", "it is read")
+    same(b.run("return S.run.file.parts.map((of, i) => nameOfPart(S.run.file, i))"), ["heap 0", "heap 1", "heap 0 (2)"], "a heap that begins anew has a row")
+    # the answers of each, in the order of the file
+    parts = [answers[:2] + answers[5:6], answers[2:5] + answers[12:18], answers[6:12] + answers[18:]]
+    for i, of in enumerate(parts):
+        b.run("return openPart(arguments[0])", i)
+        found = b.run("const found = []; for (let p = 1; p <= S.run.count; p++) { go(p); found.push(answered(S.run, S.p - 1)); } return found")
+        same([f"heap {i % 2} {answer}" for answer in found], of, f"each row of part {i} is answered as by the program")
+    same(b.run("return S.run.file.parts.map((of, i) => { const d = document.createElement('div'); drawHeap(d, i); return [...d.children].slice(1, 7).map(e => e.textContent); })"),
+         [["100", "0 ranges, 0", "65", "3", "", "replaced"], ["90", "2 ranges, 90", "90", "9", "2", ""], ["100", "4 ranges, 86", "100", "8", "", ""]], "and what lives in each")
+    same(b.run("return [S.run.nameOf(1), S.run.nameOf(4)]"), ["mesh", "second"], "names go on")
+    b.run("return openPart(1)")
+    b.run("go(4)")
+    until(b, "!Work.now && $('helps').children.length", "what would have helped")
+    same(b.run("return $('helps').children[0].textContent"), "compact: after it the request is granted; but it moves grant 2 “capture”, requested at a place",
+         "a request at a place is one, though another heap began anew since")
+    same([b.run("return openPart(arguments[0]).then(() => begunAt(S.run))", i) for i in range(3)], [0, 0, 5], "where each begins")
+
+
 def between_marks(b):
     """What is granted between two marks and never freed, by a model of its own."""
     r = random.Random(5)
@@ -463,5 +519,5 @@ def a_dropped_file_is_named(b):
     same([b.run(named), b.run("return S.name")], [[], "levels"], "of another run it has none")
 
 
-ALL = [heaps_are_rows, rows_of_heaps_fit, sizes_fit, faulty_heaps, a_space_that_there_was, between_marks, refused_at_a_place, two_files, dumps, each_heap_has_its_unit,
+ALL = [heaps_are_rows, rows_of_heaps_fit, sizes_fit, faulty_heaps, a_space_that_there_was, calls_on_one_heap, between_marks, refused_at_a_place, two_files, dumps, each_heap_has_its_unit,
        another_heap_is_opened, a_dropped_file_is_named]

@@ -13,6 +13,8 @@ const NAMES = CALLS.map(c => c[0]), KINDS = CALLS.map(c => c[1]), OP = { free: 2
 const isOnGrant = op => KINDS[op][0] === 'k', isTight = op => op === OP.tight || op === OP.tightAligned;
 const isRelocation = op => NAMES[op] === 'relocate', isSlide = op => ['compact', 'room'].includes(NAMES[op]);
 const said = (op, ...of) => [NAMES[op], ...of.slice(0, KINDS[op].length)].join(' ');
+// The calls that make a space what it was when its recording began.
+const BEGINS = ['at', 'shrink', 'free', 'retract'];
 // The units that a request asks for, or null for another call.
 const unitsAsked = (op, a, b) => op === OP.at ? b : KINDS[op][0] === 'n' ? a : null;
 const filled = call => [...call, 0, 0, 0, 0].slice(0, WIDE);
@@ -48,12 +50,14 @@ function inOrder(count, key) {
 // A part is the recording of one space: of one heap of many, or of what takes the place of the one before.
 class Part {
   constructor(heap, head, from, title) {
-    Object.assign(this, { heap, head, from, title, calls: new Growing(Uint32Array, 8 * WIDE), lines: new Growing(Uint32Array, 8), names: new Map(), given: [], drops: [], to: null, end: '', before: null, refused: new Uint32Array(0) });
+    Object.assign(this, { heap, head, from, title, calls: new Growing(Uint32Array, 8 * WIDE), lines: new Growing(Uint32Array, 8), names: new Map(), given: [], drops: [], begun: 0, isFresh: true, to: null, end: '', before: null, refused: new Uint32Array(0) });
   }
   run(m) { return Object.assign(new Run(this.head, this.calls, this.names, this.lines, m), { given: this.given, firstStep: this.firstStep || 1 }); }
 }
 async function readText(bytes, work) {
   const m = new Module(), decoder = new TextDecoder(), one = new Map(), file = { parts: [], marks: [], others: [], isMany: false, isDump: false, lines: 0, unit: 0, units: new Map() }, open = new Map(), seen = new Map();
+  // the part of the last call, and whether all calls so far are of beginnings
+  let last = null, isFirst = true;
   const bad = line => new Fault(`line ${line}: bad command`, line, ...spanOf(bytes, line));
   let at = 0, part = 0;
   do {
@@ -85,6 +89,7 @@ async function readText(bytes, work) {
         of.calls.reserve(WIDE);
         for (let j = 0; j < WIDE; j++) of.calls.list[of.calls.length++] = rows[i + j];
         of.lines.push(line);
+        last = of; of.isFresh &&= BEGINS.includes(NAMES[kind]); isFirst &&= of.isFresh;
       } else if (kind === OTHER.header || kind === OTHER.heap) {
         const before = open.get(heap), isMore = before && !before.drops.length;
         const next = new Part(kind === OTHER.heap ? heap : null, [rows[i + 1], rows[i + 2], rows[i + 3]], line, word || (isMore ? before.title : ''));
@@ -109,7 +114,11 @@ async function readText(bytes, work) {
         const [, heap, k, name] = /^(?:heap (\d+) )?name (\d+) +(.*)$/s.exec(word), of = file.isMany === (heap !== undefined) ? open.get(Number(heap || 0)) : null;
         if (!one.has(name)) one.set(name, name);
         if (of) of.given.push([Number(k), one.get(name), of.lines.length]);
-      } else if (kind === OTHER.mark) file.marks.push(marked(file.marks.at(-1), line, word));
+      } else if (kind === OTHER.mark) {
+        file.marks.push(marked(file.marks.at(-1), line, word));
+        // what is before it is no call of the program's: of all heaps where the file begins, and later of the one that begins anew
+        if (word === 'begun') for (const of of isFirst ? file.parts : [last]) if (of?.isFresh) Object.assign(of, { begun: of.lines.length, isFresh: false });
+      }
       else { file.isMany = true; file.others.push({ line, kind, n: rows[i + 1], a: rows[i + 2], why: rows[i + 3], isTight: rows[i + 4] === 1, name: word }); }
     }
     at = end; part = 1;

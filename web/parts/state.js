@@ -114,7 +114,7 @@ async function take(bytes, title, isTyped = false) {
   return true;
 }
 // Where a recording of a space that there was begins.
-const begunAt = run => { const i = run.file.marks.findIndex(m => m.text === 'begun' && m.line > run.part.from); return i < 0 ? 0 : flagsOf(run)[i]; };
+const begunAt = run => run.part.begun;
 // Back and Forward: each run and each row that the user jumps to is a place, with all that is shown there; steps from row to row
 // stay at one. The places of the run and of the last ones before are kept, of so many calls in all.
 const places = new Map(), MOST_RUNS = 2, MOST_KEPT = 1e6;

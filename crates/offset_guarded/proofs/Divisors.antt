@@ -1,8 +1,9 @@
 -- Greatest common divisors, and least common multiples.
-use Rattle.std.proofs.Common.{◌≡◌, ℕ, ◌+◌, ◌*◌, ◌/◌, ◌%◌, ◌<◌, ◌≤◌, inl, inr, sym, subst, ap, ◌∙◌, arith}
+use Rattle.std.proofs.Common.{◌≡◌, ℕ, zero, suc, ◌+◌, ◌*◌, ◌/◌, ◌%◌, ◌<◌, ◌≤◌, inl, inr, sym, subst, ap, ◌∙◌, arith}
 use Rattle.std.proofs.Math.Nat.{div-add-mod', dvd-add_iff_right, dvd-mul_left_of_dvd, dvd-mul_left, dvd-mul_right, div-mul_cancel, dvd_of_mul-dvd-mul_left, mul_assoc, mul_comm, add-mul, mul-dvd-mul_left}
-use Rattle.std.proofs.Math.Nat.{dvd_of_mod-eq-zero, dvd_antisymm, dvd_refl, dvd-zero, le_of_dvd, pos_of_dvd_of_pos}
+use Rattle.std.proofs.Math.Nat.{mod-lt, dvd_of_mod-eq-zero, dvd_antisymm, dvd_refl, dvd-zero, le_of_dvd, pos_of_dvd_of_pos}
 use Rattle.std.proofs.lemmas.Bool.{cases_eq}
+use Rattle.std.proofs.lemmas.Nat.Gcd.{IsGcd-from_mod}
 use Rattle.std.specs.Int.{◌∣◌, IsGcd}
 use Rattle.offset_guarded.specs.Step.{IsJoined}
 
@@ -59,3 +60,17 @@ joined_stays a b c few d p = one_joined a b c a p (record { fits = few; first = 
 -- a divisor of something is something
 pub divisor_of_some : (g n : ℕ) → g ∣ n → 1 ≤ n → 1 ≤ g
 divisor_of_some g n d some = pos_of_dvd_of_pos d some
+
+-- two numbers, of which the second is not 0, have a greatest common divisor
+pub gcd_there : (a b : ℕ) → 1 ≤ b → (g : ℕ) × (1 ≤ g) × IsGcd a b g
+gcd_there a b some = go b a b (omega arith) some
+  where
+    go : (n a b : ℕ) → b ≤ n → 1 ≤ b → (g : ℕ) × (1 ≤ g) × IsGcd a b g
+    go zero a b l some = absurd (omega (arith, l, some))
+    go (suc n) a b l some = elim (cases_eq (a % b) 0) [
+      | inl e ↦ (b, some, (dvd_of_mod-eq-zero b e, dvd_refl b, λ d p q. q))
+      | inr d ↦
+          let less : a % b < b = mod-lt a some in
+          let r = go n b (a % b) (omega (arith, less, l)) (omega (arith, d)) in
+          (r.0, r.1, IsGcd-from_mod a b r.0 r.2)
+    ]

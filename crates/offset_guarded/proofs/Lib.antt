@@ -1,9 +1,13 @@
+pub mod Answered
 pub mod Asked
 pub mod Bytes
+pub mod Decided
 pub mod Divisors
 pub mod Entries
 pub mod FaultPlaces
 pub mod Guards
 pub mod Headed
+pub mod Noted
 pub mod Offsets
 pub mod States
+pub mod Twins

@@ -1,3 +1,4 @@
+pub mod Answers
 pub mod Calls
 pub mod Faults
 pub mod Guard
@@ -6,4 +7,5 @@ pub mod Numbers
 pub mod State
 pub mod StateFaults
 pub mod Step
+pub mod Twins
 pub mod Values

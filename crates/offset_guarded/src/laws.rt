@@ -3,10 +3,15 @@
 ghost use Rattle.std.specs.Int.{◌∣◌};
 ghost use Rattle.std.specs.Prelude.{◌≡◌, ◌+◌, ◌<◌, ℕ, List, Option, Some};
 ghost use Rattle.std.specs.List.{AllByRecursion};
+ghost use Rattle.offset_allocator.specs.Moving.Compacting.{Move};
 ghost use Rattle.offset_allocator.specs.Ranges.{Range};
+ghost use Rattle.offset_allocator.specs.View as view;
+ghost use Rattle.offset_guarded.specs.Answers as answers;
+ghost use Rattle.offset_guarded.specs.Answers.{Answer, Answers, KeepsStep};
 ghost use Rattle.offset_guarded.specs.Calls.{Call, HasAsked, KeepsAsked, Takes, TakesAligned, TakesAll, TakesSecond};
-ghost use Rattle.offset_guarded.specs.Guard.{Guard, Ticket, range_of};
+ghost use Rattle.offset_guarded.specs.Guard.{Guard, IsCopy, Ticket, range_of};
 ghost use Rattle.offset_guarded.specs.State.{IsStateOf, IsWellFormed, SameGuard};
+ghost use Rattle.offset_guarded.specs.Twins.{IsTwin};
 
 use crate::GuardedOf;
 pub use crate::allocate::would_begin_counted;
@@ -47,4 +52,19 @@ pub fn alignments_are_kept()
     ensures lists { (n align : ℕ) (g h i : Guard) (t : Ticket) (cs : List Call) (rs : List (Option Ticket))
         → TakesAligned n align g h (Some t) → TakesAll h cs rs i
         → (r : Range) → range_of t i ≡ Some r → align ∣ r.offset }
+    // What each call answers says so much, where it goes by the step of the space or a multiple of it.
+    ensures answers { (c : answers.Call) (g h : Guard) (a : Answer) (ms : List Move) → KeepsStep c g
+        → Answers c g h a ms → (d : Call) × (r : Option Ticket) × Takes d g h r }
+{}
+
+/// A space with tickets and a call decide what is returned, which moves are seen, and what is left. Two are twins where
+/// their spaces are in the same state, and live names have the same serials, however many accesses were counted: of twins
+/// a call returns the same, tickets included, and leaves twins. So a copy, and what was read from a state, continue as the
+/// first one does.
+pub fn a_state_decides_each_step()
+    ensures each { (c : answers.Call) (g g' h h' : Guard) → view.IsWellFormed g.space → IsTwin g g'
+        → (a a' : Answer) (ms ms' : List Move) → Answers c g h a ms → Answers c g' h' a' ms'
+        → (a ≡ a') × (ms ≡ ms') × IsTwin h h' }
+    ensures copy { (g h : Guard) → IsCopy g h → IsTwin g h }
+    ensures read { (g h : Guard) → SameGuard g h → IsTwin g h }
 {}

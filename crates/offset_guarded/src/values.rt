@@ -25,6 +25,8 @@ use std::mem::replace;
 /// more than the node limit of the space, and each call but `put`, `clear` and a walk takes constant time; any
 /// ticket may be given, and one of another grant has no value here.
 ///
+/// States have no values: store each that `iter` has, with the parts of its ticket, and put it beside the space that is read.
+///
 /// ```
 /// let mut names = Beside::new(alloc);
 /// let mesh = guarded.allocate(300).unwrap();
@@ -222,7 +224,7 @@ impl<V> Beside<V> {
     /// let mesh = guarded.allocate(300).unwrap();
     /// assert!(names.put(&guarded, mesh, "mesh").is_ok());
     /// guarded.free(rock);
-    /// guarded.compact_unaligned(|range| {
+    /// guarded.compact_unaligned(&mut |range| {
     ///     assert_eq!(names.under(range.allocation().name()), Some((mesh, &"mesh")));
     /// });
     /// ```
@@ -278,6 +280,8 @@ impl<V> Beside<V> {
         ensures value { result ≡ value_of ticket self.old }
         ensures gone { value_of ticket self.new ≡ None }
         ensures others { KeepsOtherEntries ticket.name self.old self.new }
+        // Its cell is empty, and no cell is gone.
+        ensures cell { IfSome result (λ _. self.new ≡ slice_set self.old ticket.name None) }
         ensures same { result ≡ None → self.new ≡ self.old }
     {
         if self.get(ticket).is_none() {

@@ -2,9 +2,7 @@
 use Rattle.std.proofs.Common.{◌≡◌, ℕ, ◌<◌, Bool, true, false, length, List, [], ◌∷◌, ◌++◌, Option, Some, None, slice_set, refl, sym, ap, subst, ◌∙◌, inl, inr, arith}
 use Rattle.std.proofs.Common.{zero, suc, ◌+◌, ◌≤◌, IfSome, if◌then◌else◌, length-append}
 use Rattle.std.proofs.lemmas.Bool.{cases_eq, cases_lt}
-use Rattle.std.proofs.lemmas.List.{append_assoc, append-nil}
-use Rattle.std.specs.List.{FoldsTo}
-use Rattle.offset_allocator.specs.{Classes.up, Classes.value, Moving.BySteps.moves_by, Moving.Compacting.Move, Moving.RoomBySteps.MakesRoomBy, Moving.RoomBySteps.names_short, View.Block, View.units}
+use Rattle.offset_allocator.specs.{Classes.up, Classes.value, Moving.Compacting.Move, Moving.RoomBySteps.MakesRoomBy, Moving.RoomBySteps.names_short, View.Block, View.units}
 use Rattle.offset_allocator.specs.Requests.{blocks_needed, units_needed}
 use Rattle.offset_allocator.specs.Ranges.{Range}
 use Rattle.offset_allocator.specs.declared.moves.room.RoomCost.{RoomCost}
@@ -16,14 +14,17 @@ use Rattle.offset_allocator.specs.{Ranges.size_of, View.IsWellFormed, View.free_
 use Rattle.offset_allocator.proofs.{Holding.place_there, Reading.size_at, Reading.size_is}
 use Rattle.offset_guarded.specs.Guard.{Guard, Ticket}
 use Rattle.offset_guarded.specs.Guard as guarded
+use Rattle.offset_guarded.specs.Answers.{Notes}
+use Rattle.offset_guarded.specs.Twins.{IsTwin}
+use Rattle.offset_guarded.proofs.Noted.{room_by_noted}
+use Rattle.offset_guarded.proofs.Twins.{own_twin}
 use Rattle.offset_heaps.specs.Places.{Place, ticket_of}
 use Rattle.offset_heaps.specs.Changing.{NewSize, Shrunk, Grown, Alters, AltersIn, MakesRoomAt, MakesRoomIn, Resizes, ResizesSpace}
-use Rattle.offset_heaps.specs.Calls.{Notes}
 use Rattle.offset_heaps.specs.Heaps.{Heaps, KeepsOthers, Puts, heap_at, range_in, range_of, slot}
-use Rattle.offset_heaps.specs.{Slots.Changes, Twins.AreTwins, Twins.IsTwin, Twins.IsTwinIn}
+use Rattle.offset_heaps.specs.{Slots.Changes, Twins.AreTwins, Twins.IsTwinIn}
 use Rattle.offset_heaps.proofs.Numbers.{slot_other, slot_same}
 use Rattle.offset_heaps.proofs.Places.{other_realm, put_keeps, put_others, same_realm}
-use Rattle.offset_heaps.proofs.Twins.{own_twin, twin_some}
+use Rattle.offset_heaps.proofs.Twins.{twin_some}
 
 module _ (k : ℕ) (P : Guard → Guard → Type 0) (hs ks : Heaps) (change : Changes k (AltersIn P) hs.slots ks.slots)
     (rest : ks ≡ record hs { slots = ks.slots; accesses = ks.accesses }) where
@@ -122,26 +123,11 @@ room_limits R size align f c f' g h m = elim (cases_lt 0 g.step) [
     ]
 
 -- whatever a closure does, there are the moves that it is called with
-notes_all : (ys xs : List Move) → FoldsTo Notes ys xs (ys ++ xs)
-notes_all ys [] = sym (append-nil ys)
-notes_all ys (x ∷ xs) = (ys ++ x ∷ [], refl, subst (λ z. FoldsTo Notes (ys ++ x ∷ []) xs z) (append_assoc ys (x ∷ []) xs) (notes_all (ys ++ x ∷ []) xs))
-
-noted : {F : Type 0} (R : F → Move → F → Type 0) (s want short : ℕ) (v : View) (f : F) (c : Option RoomCost) (w : View) (g : F) → MakesRoomBy R s want short v f c w g
-    → (xs : List Move) × MakesRoomBy Notes s want short v [] c w xs
-noted R s want short v f None w g m = ([], (m.0, refl))
-noted R s want short v f (Some c) w g m = elim (cases_lt 0 c.ranges) [
-  | inl l ↦
-      let e = m.1 l in
-      let xs = moves_by s (units e.0.front) (units e.0.front) e.0.run in
-      (xs, (λ z. absurd (omega (arith, l, z)), λ _. (e.0, e.1, notes_all [] xs)))
-  | inr l ↦ let e = m.0 (omega (arith, l)) in ([], (λ _. (e.0, refl), λ n. absurd (omega (arith, l, n))))
-]
-
 noted_in : {F : Type 0} (R : F → Move → F → Type 0) (size align : ℕ) (f : F) (c : Option RoomCost) (f' : F) (g h : Guard) → MakesRoomIn R size align f c f' g h
     → (xs : List Move) × MakesRoomIn Notes size align [] c xs g h
 noted_in R size align f c f' g h m = elim (cases_lt 0 g.step) [
   | inl some ↦
-      let n = noted R g.step (value (up (units_needed size align))) (names_short (blocks_needed align) g.space) g.space f c h.space f' (m.step some) in
+      let n = room_by_noted R f f' g.step (value (up (units_needed size align))) (names_short (blocks_needed align) g.space) g.space h.space c (m.step some) in
       (n.0, record { cost = m.cost; step = λ _. n.1; none = λ e. absurd (omega (arith, some, e)); granted = m.granted; serials = m.serials; sizes = m.sizes; aligned = m.aligned; accesses = m.accesses })
   | inr lack ↦
       let e = m.none (omega (arith, lack)) in

@@ -5,12 +5,12 @@ use Rattle.std.specs.List.{FoldsTo}
 use Rattle.offset_allocator.specs.{Moving.Compacting.Move, Ranges.Range, View.View}
 use Rattle.offset_guarded.specs.Guard.{Guard, Ticket, serial_of}
 use Rattle.offset_guarded.specs.Guard as guarded
+use Rattle.offset_guarded.specs.Twins.{IsTwin}
+use Rattle.offset_guarded.proofs.Twins.{own_twin}
 use Rattle.offset_heaps.specs.declared.limits.Limits.{Limits}
 use Rattle.std.proofs.lemmas.Bool.{cases_eq, cases_lt, le-ltb, lt-ltb}
 use Rattle.offset_allocator.specs.Moving.BySteps.{CompactsBy, run_by, used_up}
 use Rattle.offset_heaps.specs.Changing.{CompactsAll, CompactsIn, CompactsSlot, KeepsSizes, can_compact, can_slide, moves_from, moves_in, numbered}
-use Rattle.offset_heaps.specs.Twins.{IsTwin}
-use Rattle.offset_heaps.proofs.Twins.{own_twin}
 use Rattle.offset_heaps.specs.Places.{ticket_of}
 use Rattle.offset_heaps.specs.Heaps.{Heaps, IsOfKind, heap_at, range_in, slot}
 use Rattle.offset_heaps.proofs.Sound.{kind_kept}

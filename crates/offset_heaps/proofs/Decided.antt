@@ -5,6 +5,8 @@ use Rattle.std.proofs.lemmas.Bool.{cases_lt}
 use Rattle.offset_allocator.specs.{Relations.Aligns, Relations.SameState, Requests.blocks_needed, Requests.units_needed, View.View, View.IsWellFormed, View.free_block, View.push_all}
 use Rattle.offset_allocator.proofs.{Decided.aligns_decided, Decided.tight_decided, Views.ViewTaken.well_alone}
 use Rattle.offset_guarded.specs.Guard.{Guard, Ticket, handle_in}
+use Rattle.offset_guarded.specs.Twins.{IsTwin}
+use Rattle.offset_guarded.proofs.Twins.{as_twin, grant_twins, joined_twins, own_twin, same_ticket, twin_sym}
 use Rattle.offset_heaps.specs.declared.limits.Limits.{Limits}
 use Rattle.offset_heaps.specs.declared.place.Granted.{Granted}
 use Rattle.offset_heaps.specs.declared.refusal.Refusal.{Refusal}
@@ -12,10 +14,10 @@ use Rattle.offset_heaps.specs.declared.refusal.Refusal.TheVariants.{Empty, TooLa
 use Rattle.offset_heaps.specs.Heaps.{Heaps, Grants, IsBefore, IsFirstFit, IsRaisedAsNeeded, IsRaisedWhere, IsNew, IsNext, IsSame, IsSpareLarger, IsSpareUsual, IsUsual, IsWhy, MayEverFit, MustRaise, MustRaiseIn, NoneFits, Puts, raised_limit, heap_at, larger_limit, room_of, slot, ticket_in, usual_room, usual_size}
 use Rattle.offset_heaps.specs.Places.{place_of}
 use Rattle.offset_heaps.specs.State as state
-use Rattle.offset_heaps.specs.Twins.{AreTwins, IsTwin, IsTwinIn}
+use Rattle.offset_heaps.specs.Twins.{AreTwins, IsTwinIn}
 use Rattle.offset_heaps.proofs.Doubling.{size_low}
 use Rattle.offset_heaps.proofs.Raising.{raised_formed}
-use Rattle.offset_heaps.proofs.Twins.{as_twin, grant_twins, none_twins, own_twin, put_twins, room_twins, same_ticket, some_twin, twin_sym, twins_sym}
+use Rattle.offset_heaps.proofs.Twins.{none_twins, put_twins, room_twins, some_twin, twins_sym}
 
 -- ---- what a request finds
 module _ (hs ks : Heaps) (t : AreTwins hs ks) where
@@ -239,7 +241,8 @@ module _ (size align : ℕ) (hs hs' ks ks' : Heaps) (grant grant' : Granted) (sm
   ticket = same_ticket size s.before s'.before s.after s'.after (ticket_in grant) (ticket_in grant') before.0 s.grants s'.grants step
 
   after : IsTwin s.after s'.after
-  after = grant_twins size s.before s'.before s.after s'.after (ticket_in grant) (ticket_in grant') before.0 s.grants s'.grants step align s.joined s'.joined
+  after = grant_twins size s.before s'.before s.after s'.after (ticket_in grant) (ticket_in grant') before.0 s.grants s'.grants step
+      (joined_twins align s.before s'.before s.after s'.after before.0 s.joined s'.joined)
 
   there : grant.place.heap < length hs'.slots
   there = subst (λ k. k < length hs'.slots) (sym number) s'.number

@@ -10,6 +10,11 @@ use Rattle.std.specs.Int.{IsGcd}
 use Rattle.std.proofs.lemmas.Nat.Gcd.{same_from_IsGcd}
 use Rattle.offset_guarded.specs.Guard.{Guard, serial_of}
 use Rattle.std.specs.declared.alloc.AllocError.{AllocError}
+use Rattle.offset_guarded.specs.Answers as tickets
+use Rattle.offset_guarded.specs.Answers.{Notes}
+use Rattle.offset_guarded.specs.Twins.{IsTwin}
+use Rattle.offset_guarded.proofs.Decided.{answers_decided}
+use Rattle.offset_guarded.proofs.Twins.{as_twin, free_twins, kept_twins, slid_twins, twin_sym}
 use Rattle.offset_heaps.specs.declared.limits.Limits.{Limits}
 use Rattle.offset_heaps.specs.declared.place.Granted.{Granted}
 use Rattle.offset_heaps.specs.declared.refusal.Refusal.{Refusal}
@@ -17,17 +22,17 @@ use Rattle.offset_heaps.specs.declared.refusal.Refusal.TheVariants.{Memory}
 use Rattle.offset_heaps.specs.Changing.{CanResizeAt, CanResizeIn, ResizesAt, NewSize, Shrunk, Grown, Alters, CompactsAll, CompactsIn, CompactsSlot, IsCompactible, MakesRoomIn, Resizes, ResizesSpace, can_compact, can_compact_in}
 use Rattle.offset_heaps.specs.Extending.{CanExtendIn, ExtendsIf, MustExtend}
 use Rattle.offset_heaps.specs.Heaps.{Heaps, Grants, IsFirstFit, IsRaisedWhere, IsNext, IsWhy, NoneFits, Puts, heap_at, is_empty, empties, live_units_of, numbers, part, slot, step_at, step_of, AreTotals, free_of, largest_room}
-use Rattle.offset_heaps.specs.{Heaps.range_of, Heaps.room_of, Heaps.total, Heaps.units_of_heap, Histories.ResetsAll, State.quiet, Twins.AreTwins, Twins.IsTwin, Twins.IsTwinIn}
+use Rattle.offset_heaps.specs.{Heaps.range_of, Heaps.room_of, Heaps.total, Heaps.units_of_heap, Histories.ResetsAll, State.quiet, Twins.AreTwins, Twins.IsTwinIn}
 use Rattle.offset_heaps.specs.declared.totals.Totals.{Totals}
 use Rattle.offset_heaps.specs.Places.{Place, ticket_of}
 use Rattle.offset_heaps.specs.Relocating.{HasLive, IsEmptiest, NoneLive, TakesRange, live_units_at, units_in, size_of, IsOwnAlign, offset_in, offset_of}
 use Rattle.offset_heaps.specs.State as state
 use Rattle.offset_heaps.proofs.{States.slot_quiet, Empties.empty_there, Grants.memory_alone, Grants.none_found, Grants.one_reason, Numbers.slot_there}
-use Rattle.offset_heaps.specs.Calls.{Allocates, TakesAll, Call, Allocate, Allocate_tight, Free, Relocate, Drop_empty, Drop_heap, Give_up, Reset, Resize, Extend_heap, Compact_heap, Compact_all, Make_room, Drops, DropsEmpty, Frees, GivesUp, IsStarved, ExtendsOne, Relocates, Reply, Requested, Second, Dropped, Was_done, Resized, Extended, Room_made, Takes, MakesRoomOne, TakesSize, CompactsOne, Notes, CompactsEach, RelocatesOwn, Relocate_aligned}
+use Rattle.offset_heaps.specs.Calls.{Allocates, TakesAll, Call, Allocate, Allocate_tight, Free, Relocate, Drop_empty, Drop_heap, Give_up, Reset, Resize, Extend_heap, Compact_heap, Compact_all, Make_room, On_heap, Answered, Drops, DropsEmpty, Frees, GivesUp, IsStarved, ExtendsOne, Relocates, Reply, Requested, Second, Dropped, Was_done, Resized, Extended, Room_made, Takes, MakesRoomOne, TakesSize, CompactsOne, CompactsEach, RelocatesOwn, Relocate_aligned, TakesOn}
 use Rattle.offset_heaps.proofs.Decided.{first_twins, grants_decided, known, known_at, must_in_twins, next_twins, none_fit_twins, one_first, one_fit, one_next, puts_twins, same_twins, where_twins, why_twins}
 use Rattle.offset_heaps.proofs.DecidedTight.{tights_decided}
 use Rattle.offset_heaps.proofs.Raising.{where_formed}
-use Rattle.offset_heaps.proofs.Twins.{as_twin, free_twins, kept_twins, none_twins, option_twin, range_twins, reset_twins, room_twins, slid_twins, some_twin, total_twins, twin_some, twin_sym, twins_sym, twins_trans}
+use Rattle.offset_heaps.proofs.Twins.{none_twins, option_twin, range_twins, reset_twins, room_twins, some_twin, total_twins, twin_some, twins_sym, twins_trans}
 
 -- ---- requests
 pub refused : (size align : ℕ) (hs : Heaps) (why : Refusal) (g : Granted) → (size ≡ 0 → ⊥) → IsWhy size align hs why → (why ≡ Memory → ⊥)
@@ -272,6 +277,16 @@ room_decided k size align hs hs' ks ks' is t r r' x y = go (heap_at k hs) refl
         let one = made a.before b.before a.after b.after m.0 n.0 (known_at hs (known hs is) k a.before a.heap) before a.by b.by in
         (one.0, alters_twins k P Q hs hs' ks ks' t a b one.1)
 
+-- ---- calls of tickets on one heap
+pub on_heap_decided : (k : ℕ) (c : tickets.Call) (hs hs' ks ks' : Heaps) → state.IsWellFormed hs → AreTwins hs hs' → (a a' : tickets.Answer) (ms ms' : List Move)
+    → TakesOn k c hs ks a ms → TakesOn k c hs' ks' a' ms' → (a ≡ a') × (ms ≡ ms') × AreTwins ks ks'
+on_heap_decided k c hs hs' ks ks' is t a a' ms ms' x y =
+    let P : Guard → Guard → Type 0 = λ g h. tickets.Answers c g h a ms in
+    let Q : Guard → Guard → Type 0 = λ g h. tickets.Answers c g h a' ms' in
+    let before = before_twins k P Q hs hs' ks ks' t x y in
+    let e = answers_decided c x.before y.before x.after y.after (known_at hs (known hs is) k x.before x.heap) before a a' ms ms' x.by y.by in
+    (e.0, e.1, alters_twins k P Q hs hs' ks ks' t x y e.2)
+
 -- ---- second ranges
 module _ (p : Place) (hs ks : Heaps) (t : AreTwins hs ks) where
   size_twins : size_of p ks ≡ size_of p hs
@@ -470,6 +485,7 @@ takes_decided (Extend_heap k more) hs hs' ks ks' is t r r' x y m n =
 takes_decided (Compact_heap k) hs hs' ks ks' is t r r' x y m n = let e = compacts_one_decided k hs hs' ks ks' t x.0 y.0 x.2 y.2 in (x.1 ∙ ap Was_done e.0 ∙ sym y.1, e.1)
 takes_decided Compact_all hs hs' ks ks' is t r r' x y m n = let e = compacts_all_decided hs hs' ks ks' t x.0 y.0 x.2 y.2 in (x.1 ∙ ap Was_done e.0 ∙ sym y.1, e.1)
 takes_decided (Make_room k size align) hs hs' ks ks' is t r r' x y m n = let e = room_decided k size align hs hs' ks ks' is t x.0 y.0 x.2 y.2 in (x.1 ∙ ap Room_made e.0 ∙ sym y.1, e.1)
+takes_decided (On_heap k c) hs hs' ks ks' is t r r' x y m n = let e = on_heap_decided k c hs hs' ks ks' is t x.0 y.0 x.1 y.1 x.3 y.3 in (x.2 ∙ ap₂ Answered e.0 e.1 ∙ sym y.2, e.2)
 
 pub taken_decided : (cs : List Call) (hs hs' ks ks' : Heaps) → state.IsWellFormed hs → AreTwins hs hs' → (rs rs' : List Reply) → TakesAll hs cs rs ks → TakesAll hs' cs rs' ks' → (rs ≡ rs') × AreTwins ks ks'
 taken_decided [] hs hs' ks ks' is t [] [] x y = (refl, subst₂ AreTwins (sym x) (sym y) t)

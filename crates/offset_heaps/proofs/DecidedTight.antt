@@ -4,6 +4,8 @@ use Rattle.std.proofs.lemmas.Bool.{cases_Bool}
 use Rattle.offset_allocator.specs.{Relations.SameState, Requests.blocks_needed}
 use Rattle.offset_allocator.proofs.Decided.{tight_decided}
 use Rattle.offset_guarded.specs.Guard.{Guard, handle_in}
+use Rattle.offset_guarded.specs.Twins.{IsTwin}
+use Rattle.offset_guarded.proofs.Twins.{as_twin, grant_twins, joined_twins, same_ticket, twin_sym}
 use Rattle.offset_heaps.specs.declared.limits.Limits.{Limits}
 use Rattle.offset_heaps.specs.declared.place.Granted.{Granted}
 use Rattle.offset_heaps.specs.declared.refusal.Refusal.{Refusal}
@@ -11,9 +13,9 @@ use Rattle.offset_heaps.specs.declared.refusal.Refusal.TheVariants.{Empty, TooLa
 use Rattle.offset_heaps.specs.Calls.{AllocatesTight}
 use Rattle.offset_heaps.specs.Heaps.{Heaps, IsNext, IsRaisedAsNeeded, Puts, heap_at, ticket_in}
 use Rattle.offset_heaps.specs.Places.{Place}
-use Rattle.offset_heaps.specs.{Slots.CanHoldIn, State.IsWellFormed, Tight.GrantsTight, Tight.IsFirstHolding, Tight.IsWhyTight, Tight.NoneHolds, Twins.AreTwins, Twins.IsTwin, Twins.IsTwinIn}
+use Rattle.offset_heaps.specs.{Slots.CanHoldIn, State.IsWellFormed, Tight.GrantsTight, Tight.IsFirstHolding, Tight.IsWhyTight, Tight.NoneHolds, Twins.AreTwins, Twins.IsTwinIn}
 use Rattle.offset_heaps.proofs.Decided.{grants_decided, same_grants, known, known_at, may_twins, must_in_twins, next_twins, one_first, one_next, puts_twins, raised_twins, same_twins}
-use Rattle.offset_heaps.proofs.{Holders.one_reason_tight, Holders.tight_refused, Numbers.slot_there, Raising.raised_formed, Twins.as_twin, Twins.grant_twins, Twins.same_ticket, Twins.some_twin, Twins.twin_sym, Twins.twins_sym}
+use Rattle.offset_heaps.proofs.{Holders.one_reason_tight, Holders.tight_refused, Numbers.slot_there, Raising.raised_formed, Twins.some_twin, Twins.twins_sym}
 
 -- ---- what a request finds
 holds_twin : (limits : Limits) (k size align : ℕ) (o p : Option Guard) → IsTwinIn o p → CanHoldIn limits k size align o → CanHoldIn limits k size align p
@@ -74,7 +76,8 @@ module _ (size align : ℕ) (hs hs' ks ks' : Heaps) (grant grant' : Granted) (is
   ticket = same_ticket size s.before s'.before s.after s'.after (ticket_in grant) (ticket_in grant') before s.grants s'.grants step
 
   after : IsTwin s.after s'.after
-  after = grant_twins size s.before s'.before s.after s'.after (ticket_in grant) (ticket_in grant') before s.grants s'.grants step align s.joined s'.joined
+  after = grant_twins size s.before s'.before s.after s'.after (ticket_in grant) (ticket_in grant') before s.grants s'.grants step
+      (joined_twins align s.before s'.before s.after s'.after before s.joined s'.joined)
 
   filled_decided : (grant ≡ grant') × AreTwins ks ks'
   filled_decided = (

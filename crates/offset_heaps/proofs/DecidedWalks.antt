@@ -9,8 +9,9 @@ use Rattle.offset_allocator.specs.Ranges as named
 use Rattle.offset_allocator.proofs.{Reporting.AlongLive.all_met, Reporting.AlongLive.backward, Tallies.hit_cases, Tallies.tally_append}
 use Rattle.offset_guarded.proofs.Guards.{live_name}
 use Rattle.offset_guarded.specs.Guard.{Guard, Ticket}
+use Rattle.offset_guarded.specs.Twins.{IsTwin}
 use Rattle.offset_heaps.specs.Places.{Place, ticket_of}
-use Rattle.offset_heaps.specs.{Heaps.Heaps, Heaps.IsLive, Heaps.heap_at, Heaps.range_in, Relocating.last_live_in, Relocating.live_before_in, Relocating.place_in, Twins.AreTwins, Twins.IsTwin}
+use Rattle.offset_heaps.specs.{Heaps.Heaps, Heaps.IsLive, Heaps.heap_at, Heaps.range_in, Relocating.last_live_in, Relocating.live_before_in, Relocating.place_in, Twins.AreTwins}
 use Rattle.offset_heaps.specs.Twins.{IsTwinIn}
 use Rattle.offset_heaps.specs.State as state
 use Rattle.offset_heaps.proofs.Decided.{known}

@@ -1,21 +1,23 @@
 -- A call of one space on the heap of a number, which keeps alignments, leaves a step of a history.
-use Rattle.std.proofs.Common.{◌≡◌, ℕ, ◌≤◌, Bool, true, false, Option, Some, None, IsSome, refl, sym, ap, subst, ◌∙◌, inl, inr, arith}
+use Rattle.std.proofs.Common.{◌≡◌, ℕ, ◌≤◌, Bool, true, false, List, Option, Some, None, IsSome, refl, sym, ap, subst, ◌∙◌, inl, inr, arith}
 use Rattle.std.proofs.lemmas.Bool.{cases_eq}
 use Rattle.std.proofs.Math.Nat.{dvd_refl, dvd_trans}
 use Rattle.std.specs.Int.{◌∣◌}
 use Rattle.offset_allocator.specs.Ranges.{Range, size_of}
+use Rattle.offset_allocator.specs.Moving.Compacting.{Move}
+use Rattle.offset_guarded.specs.Answers.{Answer, Answers, Call, KeepsStep}
+use Rattle.offset_guarded.proofs.Answered.{takes}
 use Rattle.offset_guarded.specs.Calls as tickets
 use Rattle.offset_guarded.specs.Calls.{Moves, TakesAligned, TakesPlain, TakesSecond, TakesUnits}
 use Rattle.offset_guarded.specs.Calls.Call.{Allocate, Allocate_aligned, Allocate_at, Allocate_tight, Allocate_tight_aligned, By_steps, Compact, Compact_within, Copied, Extend, Free, Grow_in_place, Make_room, Make_room_aligned, Raise_step, Raised, Relocate, Relocate_aligned, Reset, Retract, Shrink, Stored}
 use Rattle.offset_guarded.specs.Guard.{AreAlike, Grants, Guard, HasUnits, IsSame, KeepsAll, KeepsLive, KeepsOthers, KeepsSerials, Ticket, range_of}
 use Rattle.offset_guarded.proofs.Offsets.{kept_alignments}
+use Rattle.offset_guarded.proofs.Twins.{range_twin, same_twin}
 use Rattle.offset_heaps.specs.Changing.{Alters}
 use Rattle.offset_heaps.specs.Heaps.{Heaps}
 use Rattle.offset_heaps.specs.Histories.{IsStep, KeepsIn}
 use Rattle.offset_heaps.proofs.Alignments.{freed_live, sized}
-use Rattle.offset_heaps.proofs.Longer.{twin_same}
 use Rattle.offset_heaps.proofs.StillRanges.{alike_range, emptied, freed, granted, stayed}
-use Rattle.offset_heaps.proofs.Twins.{range_twin}
 
 divides : (g h : Guard) → h.step ≡ g.step → g.step ∣ h.step
 divides g h e = subst (λ (n : ℕ). g.step ∣ n) (sym e) (dvd_refl g.step)
@@ -30,7 +32,7 @@ all g h realm more step same = record {
 }
 
 same : (g h : Guard) → IsSame g h → KeepsIn g h
-same g h s = all g h s.1.realm (omega (arith, s.1.given)) (divides g h s.1.step) (λ t. range_twin t g h (twin_same g h s))
+same g h s = all g h s.1.realm (omega (arith, s.1.given)) (divides g h s.1.step) (λ t. range_twin t g h (same_twin g h s))
 
 -- a range is granted
 grants : (n : ℕ) (g h : Guard) (t : Ticket) → Grants n g h t → g.step ∣ h.step → KeepsIn g h
@@ -140,3 +142,8 @@ taken Stored g h r s = hidden g h (ap (λ (z : Guard). z.realm) s) (ap (λ (z : 
 
 pub on_heap : (k : ℕ) (c : tickets.Call) (r : Option Ticket) (hs ks : Heaps) → Alters k (λ g h. tickets.Takes c g h r) hs ks → IsStep hs ks
 on_heap k c r hs ks a = inr (inr (inr (inr (inr (inl (k, record { before = a.before; after = a.after; heap = a.heap; by = taken c a.before a.after r a.by; heaps = a.heaps }))))))
+
+pub answered : (k : ℕ) (c : Call) (r : Answer) (ms : List Move) (hs ks : Heaps) → Alters k (λ g h. KeepsStep c g × Answers c g h r ms) hs ks → IsStep hs ks
+answered k c r ms hs ks a =
+    let t = takes c a.before a.after r ms a.by.0 a.by.1 in
+    on_heap k t.0 t.1 hs ks (record { before = a.before; after = a.after; heap = a.heap; by = t.2; heaps = a.heaps })

@@ -1,11 +1,10 @@
 -- A heap that a call changes in place keeps its realm and its node limit, and has no fewer units: so the index and the heaps
 -- stay right.
-use Rattle.std.proofs.Common.{◌≡◌, ℕ, zero, suc, ◌%◌, ◌<◌, ◌≤◌, Bool, true, false, List, Option, Some, None, IfSome, IsSome, option_map, slice_set, is_some, refl, ap, ◌∙◌, inl, inr, arith}
-use Rattle.std.proofs.lemmas.Bool.{cases_eq, cases_lt}
-use Rattle.std.proofs.lemmas.Nat.Gcd.{IsGcd-from_zero, IsGcd-from_mod}
+use Rattle.std.proofs.Common.{◌≡◌, ◌↔◌, ℕ, ◌+◌, ◌≤◌, Bool, true, false, IsTrue, if◌then◌else◌, List, Option, Some, None, IfSome, IsSome, option_map, slice_set, is_some, refl, ap, ◌∙◌, inl, inr, arith}
+use Rattle.std.proofs.lemmas.Bool.{cases_eq, cases_lt, le-ltb, lt-ltb}
 use Rattle.std.specs.Int.{IsGcd}
-use Rattle.std.proofs.Math.Nat.{mod-lt}
 use Rattle.offset_allocator.specs.AtOffset.{AllocatesAt}
+use Rattle.offset_allocator.specs.Moving.Retracting.{CanRetract, Retracts}
 use Rattle.offset_allocator.specs.Moving.Budget.{CompactsWithin}
 use Rattle.offset_allocator.specs.Moving.BySteps.{CompactsBy}
 use Rattle.offset_allocator.specs.Moving.Compacting.{Compacts, Move}
@@ -21,9 +20,11 @@ use Rattle.offset_allocator.specs.declared.moves.over_frames.Progress.{Progress}
 use Rattle.offset_allocator.specs.declared.moves.room.RoomCost.{RoomCost}
 use Rattle.offset_guarded.specs.Guard.{Guard, Ticket, HasSerialLeft, handle_in}
 use Rattle.offset_guarded.specs.Guard as guarded
+use Rattle.offset_guarded.specs.Answers as tickets
+use Rattle.offset_guarded.proofs.Divisors.{gcd_there}
 use Rattle.offset_heaps.specs.declared.index.Index.{Index}
 use Rattle.offset_heaps.specs.declared.limits.Limits.{Limits}
-use Rattle.offset_heaps.specs.{Heaps.IsOfKind, Heaps.slot, Soundness.IsNoted, Soundness.IsSound, Soundness.IsWide}
+use Rattle.offset_heaps.specs.{Heaps.IsOfKind, Heaps.least_units, Heaps.slot, Heaps.usual_size, Soundness.IsNoted, Soundness.IsSound, Soundness.IsWide}
 use Rattle.offset_heaps.proofs.{Numbers.slot_there, Sound.realm_kept, Sound.sound_put}
 
 -- ---- what each step of a space keeps
@@ -153,17 +154,6 @@ raised g h e = record { realm = ap (λ (z : Guard). z.realm) e; space = both g.s
 pub was_reset : (g h : Guard) → h ≡ record g { space = h.space; step = 1 } → Resets g.space h.space → IsLimited g h
 was_reset g h e s = record { realm = ap (λ (z : Guard). z.realm) e; space = resets g.space h.space s }
 
--- two numbers have a greatest common divisor
-common_divisor : (n a b : ℕ) → b ≤ n → (d : ℕ) × IsGcd a b d
-common_divisor zero a b l = (a, IsGcd-from_zero a b (omega (arith, l)))
-common_divisor (suc n) a b l = elim (cases_eq b 0) [
-  | inl e ↦ (a, IsGcd-from_zero a b e)
-  | inr d ↦
-      let less : a % b < b = mod-lt a (omega (arith, d)) in
-      let rest = common_divisor n b (a % b) (omega (arith, l, less)) in
-      (rest.0, IsGcd-from_mod a b rest.0 rest.1)
-]
-
 -- a second range is granted, at what the step and the offset of the first one have in common
 pub relocated : (t : Ticket) (g h : Guard) (r : Option Ticket) → (r ≡ None → guarded.IsSame g h) → IfSome r (guarded.Grants (size_of t.name g.space) g h) → (IsSome r → guarded.IsLive t g × HasSerialLeft g)
     → (g.step ≡ 0 → (r ≡ None) × (h ≡ g))
@@ -171,8 +161,8 @@ pub relocated : (t : Ticket) (g h : Guard) (r : Option Ticket) → (r ≡ None �
 relocated t g h r refused granted live none s = requested (size_of t.name g.space) g h r refused granted (λ some. elim (cases_eq g.step 0) [
   | inl e ↦ (same g h (none e).1).space
   | inr d ↦
-      let common = common_divisor g.step (offset_of t.name g.space) g.step (omega arith) in
-      relocates t.name common.0 g.space h.space (option_map handle_in r) (s (live some).0 (live some).1 (omega (arith, d)) common.0 common.1)
+      let common = gcd_there (offset_of t.name g.space) g.step (omega (arith, d)) in
+      relocates t.name common.0 g.space h.space (option_map handle_in r) (s (live some).0 (live some).1 (omega (arith, d)) common.0 common.2)
 ])
 
 -- by the step, where there is one
@@ -183,14 +173,48 @@ by_step g h none serials s = elim (cases_eq g.step 0) [
 ]
 
 -- ---- all heaps
+retracted : (less : ℕ) (v w : View) → Retracts less v w true → w.max_allocs ≡ v.max_allocs
+retracted less v w (inl s) = ap (λ (z : View). z.max_allocs) s.1
+retracted less v w (inr c) = ap (λ (z : View). z.max_allocs) c.1.view
+
+same_limited : (g h : Guard) → guarded.IsSame g h → IsLimited g h
+same_limited g h s = record { realm = s.1.realm; space = stays g.space h.space s.0 }
+
+shorter_kind : (limits : Limits) (k less : ℕ) (g h : Guard) → least_units limits k + less ≤ g.space.size → h.space.size + less ≡ g.space.size → h.space.max_allocs ≡ g.space.max_allocs
+    → IsOfKind limits k g → IsOfKind limits k h
+shorter_kind limits k less g h enough size limit (inl u) =
+    let least : least_units limits k ≡ usual_size limits k = ap (λ (b : Bool). if b then usual_size limits k else 1) (lt-ltb k limits.most u.0) in
+    inl (u.0, omega (arith, enough, size, least), (omega (arith, limit, u.2.0), omega (arith, limit, u.2.1)))
+shorter_kind limits k less g h enough size limit (inr l) =
+    let least : least_units limits k ≡ 1 = ap (λ (b : Bool). if b then usual_size limits k else 1) (le-ltb k limits.most l.0) in
+    inr (l.0, omega (arith, enough, size, least), limit ∙ l.2)
+
 kind_kept : (limits : Limits) (k : ℕ) (g h : Guard) → SameLimits g.space h.space → IsOfKind limits k g → IsOfKind limits k h
 kind_kept limits k g h s (inl u) = inl (u.0, omega (arith, s.0, u.1), (omega (arith, s.1, u.2.0), omega (arith, s.1, u.2.1)))
 kind_kept limits k g h s (inr l) = inr (l.0, omega (arith, s.0, l.1), s.1 ∙ l.2)
 
-pub sound_changed : (max : ℕ) (slots : List (Option Guard)) (limits : Limits) (made : ℕ) (old new : Index) (k : ℕ) (g h : Guard) → IsSound max slots limits made old → slot k slots ≡ Some g → IsLimited g h
-    → IsWide (slice_set slots k (Some h)) new → IsNoted limits (slice_set slots k (Some h)) new k
-    → ((j : ℕ) → (j ≡ k → ⊥) → IsNoted limits (slice_set slots k (Some h)) old j → IsNoted limits (slice_set slots k (Some h)) new j)
-    → new.one.height ≡ old.one.height → IsSound max (slice_set slots k (Some h)) limits made new
-sound_changed max slots limits made old new k g h is was l wide here others levels =
-    sound_put max slots limits made made old new k (Some h) is (omega arith) (realm_kept made (slot k slots) (Some h) g h was refl l.realm (is.realms k))
-    (kind_kept limits k g h l.space (rw was at (is.kinds k))) (slot_there slots k (ap is_some was)) wide here others levels
+module _ (max : ℕ) (slots : List (Option Guard)) (limits : Limits) (made : ℕ) (old new : Index) (k : ℕ) (g h : Guard) (is : IsSound max slots limits made old) (was : slot k slots ≡ Some g) where
+  sound_kind : h.realm ≡ g.realm → (IsOfKind limits k g → IsOfKind limits k h)
+      → IsWide (slice_set slots k (Some h)) new → IsNoted limits (slice_set slots k (Some h)) new k
+      → ((j : ℕ) → (j ≡ k → ⊥) → IsNoted limits (slice_set slots k (Some h)) old j → IsNoted limits (slice_set slots k (Some h)) new j)
+      → new.one.height ≡ old.one.height → IsSound max (slice_set slots k (Some h)) limits made new
+  sound_kind realm kind wide here others levels =
+      sound_put max slots limits made made old new k (Some h) is (omega arith) (realm_kept made (slot k slots) (Some h) g h was refl realm (is.realms k))
+      (kind (rw was at (is.kinds k))) (slot_there slots k (ap is_some was)) wide here others levels
+
+  pub sound_changed : IsLimited g h
+      → IsWide (slice_set slots k (Some h)) new → IsNoted limits (slice_set slots k (Some h)) new k
+      → ((j : ℕ) → (j ≡ k → ⊥) → IsNoted limits (slice_set slots k (Some h)) old j → IsNoted limits (slice_set slots k (Some h)) new j)
+      → new.one.height ≡ old.one.height → IsSound max (slice_set slots k (Some h)) limits made new
+  sound_changed l = sound_kind l.realm (kind_kept limits k g h l.space)
+
+  -- units at the end went, and it has those of its kind
+  pub sound_shorter : (less : ℕ) (r : Bool) → IsTrue r ↔ ((least_units limits k + less ≤ g.space.size) × (1 ≤ less → CanRetract less g.space)) → (r ≡ true → tickets.Retracts less g h true)
+      → (r ≡ false → guarded.IsSame g h)
+      → IsWide (slice_set slots k (Some h)) new → IsNoted limits (slice_set slots k (Some h)) new k
+      → ((j : ℕ) → (j ≡ k → ⊥) → IsNoted limits (slice_set slots k (Some h)) old j → IsNoted limits (slice_set slots k (Some h)) new j)
+      → new.one.height ≡ old.one.height → IsSound max (slice_set slots k (Some h)) limits made new
+  sound_shorter less false done step same = sound_changed (same_limited g h (same refl))
+  sound_shorter less true done step same =
+      let x = step refl in
+      sound_kind (ap (λ (z : Guard). z.realm) x.1) (shorter_kind limits k less g h (done.0 refl).0 (x.4 refl) (retracted less g.space h.space x.5))

@@ -5,11 +5,10 @@ use Rattle.offset_allocator.specs.{Relations.CanExtend, Relations.Extends, Repor
 use Rattle.offset_allocator.proofs.Reporting.Nearby.{back}
 use Rattle.offset_guarded.specs.Guard.{Guard}
 use Rattle.offset_guarded.specs.Guard as guarded
+use Rattle.offset_guarded.proofs.Twins.{range_twin, same_twin}
 use Rattle.offset_heaps.specs.declared.limits.Limits.{Limits}
 use Rattle.offset_heaps.specs.Extending.{CanExtendIn, EndsFree, ExtendsIf, ExtendsIn, MustExtend}
 use Rattle.offset_heaps.specs.Heaps.{IsOfKind, IsRaisedWhere, raised_limit, top_limit}
-use Rattle.offset_heaps.specs.Twins.{IsTwin}
-use Rattle.offset_heaps.proofs.Twins.{range_twin}
 use Rattle.offset_heaps.proofs.{Raising.where_kind, Raising.where_same, Rooms.admitted, Rooms.top_above, Rooms.top_usual}
 
 -- ---- what becomes of a space
@@ -165,9 +164,6 @@ realm_longer limits k more true g h e = e.serials.realm
 realm_longer limits k more false g h e = e.1.realm
 
 -- every ticket keeps its range, and where it is not done, every later call returns the same for both heaps
-pub twin_same : (g h : Guard) → guarded.IsSame g h → IsTwin g h
-twin_same g h s = record { space = s.0; serials = λ x live. s.1.cells x; given = s.1.given; realm = s.1.realm; step = s.1.step }
-
 pub range_longer : (limits : Limits) (k more : ℕ) (done : Bool) (g h : Guard) → ExtendsIf limits k more done g h → guarded.KeepsAll g h
 range_longer limits k more true g h e = e.kept
-range_longer limits k more false g h e = λ t. range_twin t g h (twin_same g h e)
+range_longer limits k more false g h e = λ t. range_twin t g h (same_twin g h e)

@@ -1,10 +1,11 @@
 -- Calls, their results and what they leave: of the contract of each call the clauses of the same names.
-use Rattle.std.specs.Prelude.{◌≡◌, ◌↔◌, ℕ, ◌+◌, ◌<◌, ◌≤◌, ◌⊎◌, Bool, true, false, List, [], ◌∷◌, ◌++◌, Option, None, Some, IfSome, IsSome, IsTrue, Result, Ok, Err, IfOk, IfErr, OnErr, min}
+use Rattle.std.specs.Prelude.{◌≡◌, ◌↔◌, ℕ, ◌+◌, ◌<◌, ◌≤◌, ◌⊎◌, Bool, true, false, List, [], ◌∷◌, Option, None, Some, IfSome, IsSome, IsTrue, Result, Ok, Err, IfOk, IfErr, OnErr, min}
 use Rattle.std.specs.declared.alloc.AllocError.{AllocError}
 use Rattle.offset_allocator.specs.Moving.Compacting.{Move}
 use Rattle.offset_allocator.specs.Requests.{blocks_needed, units_needed}
 use Rattle.offset_allocator.specs.declared.moves.room.RoomCost.{RoomCost}
-use Rattle.offset_heaps.specs.Changing.{CanResizeAt, CompactsAll, CompactsHeap, IsCompactible, MakesRoomAt, ResizesAt, NewSize, can_compact_in}
+use Rattle.offset_guarded.specs.Answers as tickets
+use Rattle.offset_heaps.specs.Changing.{Alters, CanResizeAt, CompactsAll, CompactsHeap, IsCompactible, MakesRoomAt, ResizesAt, NewSize, can_compact_in}
 use Rattle.offset_heaps.specs.Extending.{CanExtendIn, ExtendsHeap}
 use Rattle.offset_heaps.specs.declared.place.Granted.{Granted}
 use Rattle.offset_heaps.specs.declared.refusal.Refusal.{Refusal}
@@ -119,14 +120,14 @@ pub record CompactsEach (hs ks : Heaps) (r : Bool) : Type 0 where
   pub done : IsTrue r ↔ ((k : ℕ) → IsCompactible (heap_at k hs))
   pub step : CompactsAll hs ks
 
--- moves in their order
-abbrev pub Notes : List Move → Move → List Move → Type 0
-Notes xs x ys = ys ≡ xs ++ x ∷ []
-
 -- `make_room_aligned`, and with the alignment 1 `make_room`, by the moves of some ranges
 pub record MakesRoomOne (k size align : ℕ) (hs ks : Heaps) (r : Option RoomCost) : Type 0 where
   pub none : heap_at k hs ≡ None → IsSame hs ks × (r ≡ None)
-  pub step : IsSome (heap_at k hs) → (xs : List Move) × MakesRoomAt Notes k size align hs [] r ks xs
+  pub step : IsSome (heap_at k hs) → (xs : List Move) × MakesRoomAt tickets.Notes k size align hs [] r ks xs
+
+-- a call of tickets on the heap of a number: its answer, and its moves
+abbrev pub TakesOn : ℕ → tickets.Call → Heaps → Heaps → tickets.Answer → List Move → Type 0
+TakesOn k c hs ks a ms = Alters k (λ g h. tickets.Answers c g h a ms) hs ks
 
 -- a call that may change heaps
 pub data Call : Type 0 where
@@ -147,6 +148,8 @@ pub data Call : Type 0 where
   Compact_all : Call
   -- room for a request, by its size and alignment, in the heap of a number
   Make_room : ℕ → ℕ → ℕ → Call
+  -- a call of tickets on the heap of a number
+  On_heap : ℕ → tickets.Call → Call
 
 -- the result of a call
 pub data Reply : Type 0 where
@@ -158,6 +161,8 @@ pub data Reply : Type 0 where
   Resized : Option Bool → Reply
   Extended : Result Bool AllocError → Reply
   Room_made : Option RoomCost → Reply
+  -- with the moves
+  Answered : tickets.Answer → List Move → Reply
 
 -- a call is taken: what it leaves, and its result. The units of a request have 32 bits
 abbrev pub Takes : Call → Heaps → Heaps → Reply → Type 0
@@ -175,6 +180,7 @@ Takes (Extend_heap k more) hs ks reply = (r : Result Bool AllocError) × (reply 
 Takes (Compact_heap k) hs ks reply = (r : Bool) × (reply ≡ Was_done r) × CompactsOne k hs ks r
 Takes Compact_all hs ks reply = (r : Bool) × (reply ≡ Was_done r) × CompactsEach hs ks r
 Takes (Make_room k size align) hs ks reply = (r : Option RoomCost) × (reply ≡ Room_made r) × MakesRoomOne k size align hs ks r
+Takes (On_heap k c) hs ks reply = (a : tickets.Answer) × (ms : List Move) × (reply ≡ Answered a ms) × TakesOn k c hs ks a ms
 
 -- a request, or more units for a heap, were refused for want of memory
 abbrev pub IsStarved : Reply → Type 0

@@ -1,5 +1,5 @@
 -- What a call changes of one heap alone, in place: its ranges keep their places.
-use Rattle.std.specs.Prelude.{◌≡◌, ℕ, ◌+◌, ◌*◌, ◌≤◌, Bool, true, false, not, ◌&&◌, ◌||◌, nat_eq, nat_lt, if◌then◌else◌, List, [], ◌∷◌, ◌++◌, Option, None, Some, IfSome, is_some, length, map, option_map}
+use Rattle.std.specs.Prelude.{◌≡◌, ◌↔◌, ℕ, ◌+◌, ◌*◌, ◌≤◌, IsTrue, Bool, true, false, not, ◌&&◌, ◌||◌, nat_eq, nat_lt, if◌then◌else◌, List, [], ◌∷◌, ◌++◌, Option, None, Some, IfSome, is_some, length, map, option_map}
 use Rattle.offset_allocator.specs.Classes.{up, value}
 use Rattle.offset_allocator.specs.Moving.BySteps.{CompactsBy, moves_by, run_by, used_up}
 use Rattle.offset_allocator.specs.Moving.Compacting.{IsCalledWith, Move}
@@ -14,9 +14,12 @@ use Rattle.offset_allocator.specs.Resizing as space
 use Rattle.offset_allocator.specs.View.{Block, View}
 use Rattle.offset_guarded.specs.Guard.{Guard, Ticket}
 use Rattle.offset_guarded.specs.Guard as guarded
+use Rattle.offset_allocator.specs.Moving.Retracting.{CanRetract}
+use Rattle.offset_guarded.specs.Answers as tickets
+use Rattle.offset_heaps.specs.declared.limits.Limits.{Limits}
 use Rattle.offset_heaps.specs.declared.resize.Resize.{Resize}
 use Rattle.offset_heaps.specs.declared.resize.Resize.TheVariants.{Shrink, Grow}
-use Rattle.offset_heaps.specs.Heaps.{Heaps, Puts, heap_at, range_of}
+use Rattle.offset_heaps.specs.Heaps.{Heaps, Puts, least_units, heap_at, range_of}
 use Rattle.offset_heaps.specs.Places.{Place, ticket_of}
 
 -- the heap of a number, which is there, is another one now, and all else stays
@@ -183,3 +186,10 @@ pub record MakesRoomIn {F : Type 0} (R : F → Move → F → Type 0) (size alig
 -- the same of the heap of a number; all other heaps stay as they are
 abbrev pub MakesRoomAt : {F : Type 0} → (F → Move → F → Type 0) → ℕ → ℕ → ℕ → Heaps → F → Option RoomCost → Heaps → F → Type 0
 MakesRoomAt R k size align hs f c ks f' = Alters k (MakesRoomIn R size align f c f') hs ks
+
+-- the space of the heap of a number gives up units at its end, where it can, and where the heap has as many as it has at least
+-- after it; else all stays
+pub record GivesUpUnits (limits : Limits) (k less : ℕ) (r : Bool) (g h : Guard) : Type 0 where
+  pub done : IsTrue r ↔ ((least_units limits k + less ≤ g.space.size) × (1 ≤ less → CanRetract less g.space))
+  pub step : r ≡ true → tickets.Retracts less g h true
+  pub same : r ≡ false → guarded.IsSame g h

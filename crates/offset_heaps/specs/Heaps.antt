@@ -173,6 +173,10 @@ HasUsualLimit limits g = (limits.first_allocs ≤ g.space.max_allocs) × (g.spac
 abbrev pub IsFirstSize : Limits → Type 0
 IsFirstSize limits = (min 1 limits.size ≤ limits.first_size) × (limits.first_size ≤ limits.size)
 
+-- the units that the heap of a number has at least: those of the usual heap of that number, or one of a larger heap
+abbrev pub least_units : Limits → ℕ → ℕ
+least_units limits k = if nat_lt k limits.most then usual_size limits k else 1
+
 -- the heap of a number has a size and a node limit of its kind: where the number is below most, at least the units of the
 -- usual heap of that number, and the limit of such a heap; else those of a larger one, which has the units of some request
 abbrev pub IsOfKind : Limits → ℕ → Guard → Type 0

@@ -1,33 +1,17 @@
 //! One heap of many, changed by the calls of one space with tickets. Each call changes one slot, and notes it in the
 //! index.
-ghost use Rattle.std.specs.Prelude.{ℕ, ◌≡◌, ◌↔◌, ◌+◌, ◌*◌, ◌≤◌, ◌⊎◌, [], None, Some, IfSome, IsSome, IsTrue, max};
-ghost use Rattle.std.specs.Prelude.{false, true, if◌then◌else◌, length, min, option_map};
+ghost use Rattle.std.specs.Prelude.{◌≡◌, ◌↔◌, ◌+◌, ◌≤◌, Some, IfSome, IsSome, IsTrue, false, true};
 ghost use Rattle.std.specs.Borrow.{sem};
-ghost use Rattle.std.specs.Int.{IsGcd};
-ghost use Rattle.std.specs.List.{FoldsTo};
-ghost use Rattle.offset_allocator.specs.AtOffset.{AllocatesAt, CanGrantAt};
-ghost use Rattle.offset_allocator.specs.Classes.{down, up, value};
-ghost use Rattle.offset_allocator.specs.Moving.Budget.{CompactsWithin};
-ghost use Rattle.offset_allocator.specs.Moving.BySteps.{CompactsBy, moves_by};
-ghost use Rattle.offset_allocator.specs.Moving.Compacting.{Compacts, IsCalledWith, moves};
-ghost use Rattle.offset_allocator.specs.Moving.Relocating.{Relocates, RelocatesAligned, offset_of};
-ghost use Rattle.offset_allocator.specs.Moving.Room.{IsLeastCost, MakesRoom, ranges_of};
-ghost use Rattle.offset_allocator.specs.Moving.RoomBySteps.{IsLeastCostBy, MakesRoomBy, names_short};
-ghost use Rattle.offset_allocator.specs.Ranges.{size_of};
-ghost use Rattle.offset_allocator.specs.Relations.{Aligns, Allocates, CanExtend, Extends, Frees, Resets};
-ghost use Rattle.offset_allocator.specs.Requests.{CanGrant, blocks_needed, units_needed};
-ghost use Rattle.offset_allocator.specs.Resizing.{CanGrow, CanShrink, Grows, Shrinks};
-ghost use Rattle.offset_allocator.specs.Tight.{AlignsTight, CanHold, listed_from};
-ghost use Rattle.offset_allocator.specs.View.{bin_at, count_used, reported_largest};
-ghost use Rattle.offset_guarded.specs.Calls.{Takes};
-ghost use Rattle.offset_guarded.specs.Calls as calls;
-ghost use Rattle.offset_guarded.specs.Guard.{CoversNodes, HasSerialLeft, HasUnits, IsLive, IsSame, KeepsAlignments, KeepsAll};
-ghost use Rattle.offset_guarded.specs.Guard.{KeepsDivisors, KeepsLive, KeepsOthers, KeepsSerials, KeepsSizes, handle_in};
-ghost use Rattle.offset_heaps.specs.Changing.{Alters};
+ghost use Rattle.offset_allocator.specs.Moving.Compacting.{IsCalledWith};
+ghost use Rattle.offset_allocator.specs.Moving.Retracting.{CanRetract};
+ghost use Rattle.offset_guarded.specs.Answers as tickets;
+ghost use Rattle.offset_guarded.specs.Guard.{IsSame};
+ghost use Rattle.offset_heaps.specs.Changing.{Alters, GivesUpUnits};
 ghost use Rattle.offset_heaps.specs.Heaps.{TakesFewAccesses, heap_at};
 ghost use Rattle.offset_heaps.specs.Places.{place_of};
 
 use crate::HeapsOf;
+use crate::limits::least_units;
 use crate::place::Place;
 use offset_allocator::{Accesses, Move, Progress, RoomCost, Tables};
 use offset_guarded::{GuardedOf, Ticket};
@@ -35,8 +19,7 @@ use std::ops::Deref;
 
 /// The heap of a number, to be changed by the calls of one space with tickets: each does in this heap what it does in a
 /// `GuardedOf`, under the node limit that the heap has now, and no other heap changes. A refused call leaves all heaps as
-/// they were. `heap_mut` of `Heaps` returns one. It derefs to the `GuardedOf`, for all questions. It has no `retract`, since a
-/// heap keeps the units of its kind.
+/// they were. `heap_mut` of `Heaps` returns one. It derefs to the `GuardedOf`, for all questions.
 ///
 /// A place of `Heaps` and a ticket here are of one grant: `Place::ticket` makes the ticket, `place` the place. A ticket has
 /// the realm of the heap alone, and not that of the `Heaps`: of two whose realms were chosen by hand tickets may be alike.
@@ -108,6 +91,20 @@ impl<T: Tables> Deref for HeapMut<'_, T> {
     }
 }
 
+// Takes `less` units off the end of a heap, where it has `least` units after it.
+fn retract_to<T: Tables>(heap: &mut GuardedOf<T>, least: u32, less: u32) -> bool
+    ensures done { IsTrue result
+        ↔ ((least + less ≤ heap.old.space.size) × (1 ≤ less → CanRetract less heap.old.space)) }
+    ensures step { result ≡ true → tickets.Retracts less heap.old heap.new true }
+    ensures same { result ≡ false → IsSame heap.old heap.new }
+{
+    let size = heap.allocator().size();
+    if (least as u64) + (less as u64) > size as u64 {
+        return false;
+    }
+    heap.retract(less)
+}
+
 impl<T: Tables> HeapMut<'_, T> {
     /// The number of the heap.
     ///
@@ -145,12 +142,7 @@ impl<T: Tables> HeapMut<'_, T> {
     pub fn allocate(&mut self, size: u32) -> Option<Ticket>
         ensures number { self.new.number ≡ self.old.number }
         ensures same_reference { self.new.heaps.ghost_name ≡ self.old.heaps.ghost_name }
-        ensures change { Alters self.old.number (λ g h. Takes (calls.Call.Allocate size) g h result
-            × (result ≡ None → h ≡ record g { space = h.space })
-            × (1 ≤ size → (IsSome result ↔ (HasSerialLeft g × (size ≤ reported_largest g.space))))
-            × (IsSome result ↔ (HasSerialLeft g × CanGrant 1 size g.space))
-            × (HasSerialLeft g → Allocates size g.space h.space (option_map handle_in result))
-            × (h.space.accesses ≤ g.space.accesses + 64))
+        ensures change { Alters self.old.number (λ g h. tickets.Allocates size g h result)
             self.old.heaps.now self.new.heaps.now }
         ensures accesses { TakesFewAccesses self.old.heaps.now self.new.heaps.now }
     {
@@ -173,11 +165,7 @@ impl<T: Tables> HeapMut<'_, T> {
         requires alignment { 1 ≤ align }
         ensures number { self.new.number ≡ self.old.number }
         ensures same_reference { self.new.heaps.ghost_name ≡ self.old.heaps.ghost_name }
-        ensures change { Alters self.old.number (λ g h. Takes (calls.Call.Allocate_aligned size align) g h result
-            × (result ≡ None → h ≡ record g { space = h.space })
-            × (IsSome result ↔ (HasSerialLeft g × CanGrant (blocks_needed align) (units_needed size align) g.space))
-            × (HasSerialLeft g → Aligns size align g.space h.space (option_map handle_in result))
-            × (h.space.accesses ≤ g.space.accesses + 128))
+        ensures change { Alters self.old.number (λ g h. tickets.AllocatesAligned size align g h result)
             self.old.heaps.now self.new.heaps.now }
         ensures accesses { TakesFewAccesses self.old.heaps.now self.new.heaps.now }
     {
@@ -200,11 +188,7 @@ impl<T: Tables> HeapMut<'_, T> {
     pub fn free(&mut self, ticket: Ticket) -> bool
         ensures number { self.new.number ≡ self.old.number }
         ensures same_reference { self.new.heaps.ghost_name ≡ self.old.heaps.ghost_name }
-        ensures change { Alters self.old.number (λ g h. Takes (calls.Call.Free ticket) g h None
-            × (IsTrue result ↔ IsLive ticket g)
-            × (result ≡ false → h ≡ g)
-            × (result ≡ true → Frees ticket.name g.space h.space)
-            × (h.space.accesses ≤ g.space.accesses + 128))
+        ensures change { Alters self.old.number (λ g h. tickets.Frees ticket g h result)
             self.old.heaps.now self.new.heaps.now }
         ensures accesses { TakesFewAccesses self.old.heaps.now self.new.heaps.now }
     {
@@ -226,11 +210,7 @@ impl<T: Tables> HeapMut<'_, T> {
     pub fn allocate_tight(&mut self, size: u32) -> Option<Ticket>
         ensures number { self.new.number ≡ self.old.number }
         ensures same_reference { self.new.heaps.ghost_name ≡ self.old.heaps.ghost_name }
-        ensures change { Alters self.old.number (λ g h. Takes (calls.Call.Allocate_tight size) g h result
-            × (result ≡ None → h ≡ record g { space = h.space })
-            × (IsSome result ↔ (HasSerialLeft g × CanHold size 1 g.space))
-            × (HasSerialLeft g → AlignsTight size 1 g.space h.space (option_map handle_in result))
-            × (h.space.accesses ≤ g.space.accesses + 140 + 6 * length (bin_at g.space.bins (down size))))
+        ensures change { Alters self.old.number (λ g h. tickets.AllocatesTight size g h result)
             self.old.heaps.now self.new.heaps.now }
         ensures accesses { TakesFewAccesses self.old.heaps.now self.new.heaps.now }
     {
@@ -253,11 +233,7 @@ impl<T: Tables> HeapMut<'_, T> {
         requires alignment { 1 ≤ align }
         ensures number { self.new.number ≡ self.old.number }
         ensures same_reference { self.new.heaps.ghost_name ≡ self.old.heaps.ghost_name }
-        ensures change { Alters self.old.number (λ g h. Takes (calls.Call.Allocate_tight_aligned size align) g h result
-            × (result ≡ None → h ≡ record g { space = h.space })
-            × (IsSome result ↔ (HasSerialLeft g × CanHold size align g.space))
-            × (HasSerialLeft g → AlignsTight size align g.space h.space (option_map handle_in result))
-            × (h.space.accesses ≤ g.space.accesses + 140 + 6 * length (listed_from (down size) g.space.bins)))
+        ensures change { Alters self.old.number (λ g h. tickets.AllocatesTightAligned size align g h result)
             self.old.heaps.now self.new.heaps.now }
         ensures accesses { TakesFewAccesses self.old.heaps.now self.new.heaps.now }
     {
@@ -279,11 +255,7 @@ impl<T: Tables> HeapMut<'_, T> {
     pub fn allocate_at(&mut self, offset: u32, size: u32) -> Option<Ticket>
         ensures number { self.new.number ≡ self.old.number }
         ensures same_reference { self.new.heaps.ghost_name ≡ self.old.heaps.ghost_name }
-        ensures change { Alters self.old.number (λ g h. Takes (calls.Call.Allocate_at offset size) g h result
-            × (result ≡ None → h ≡ record g { space = h.space })
-            × (IsSome result ↔ (HasSerialLeft g × CanGrantAt offset size g.space))
-            × (HasSerialLeft g → AllocatesAt offset size g.space h.space (option_map handle_in result))
-            × (h.space.accesses ≤ g.space.accesses + 80 + 3 * length g.space.blocks))
+        ensures change { Alters self.old.number (λ g h. tickets.AllocatesAt offset size g h result)
             self.old.heaps.now self.new.heaps.now }
         ensures accesses { TakesFewAccesses self.old.heaps.now self.new.heaps.now }
     {
@@ -305,17 +277,7 @@ impl<T: Tables> HeapMut<'_, T> {
     pub fn shrink(&mut self, ticket: Ticket, size: u32) -> Option<bool>
         ensures number { self.new.number ≡ self.old.number }
         ensures same_reference { self.new.heaps.ghost_name ≡ self.old.heaps.ghost_name }
-        ensures change { Alters self.old.number (λ g h. KeepsOthers ticket g h
-            × KeepsLive g h
-            × KeepsSerials g h
-            × IfSome result (λ _. CoversNodes g h)
-            × (IsSome result ↔ IsLive ticket g)
-            × IfSome result (λ done. IsTrue done ↔ CanShrink ticket.name size g.space)
-            × (result ≡ Some true → HasUnits ticket size g h)
-            × (result ≡ Some false → IsSame g h)
-            × (result ≡ None → h ≡ g)
-            × IfSome result (Shrinks ticket.name size g.space h.space)
-            × (h.space.accesses ≤ g.space.accesses + 128))
+        ensures change { Alters self.old.number (λ g h. tickets.Shrinks ticket size g h result)
             self.old.heaps.now self.new.heaps.now }
         ensures accesses { TakesFewAccesses self.old.heaps.now self.new.heaps.now }
     {
@@ -337,17 +299,7 @@ impl<T: Tables> HeapMut<'_, T> {
     pub fn grow_in_place(&mut self, ticket: Ticket, size: u32) -> Option<bool>
         ensures number { self.new.number ≡ self.old.number }
         ensures same_reference { self.new.heaps.ghost_name ≡ self.old.heaps.ghost_name }
-        ensures change { Alters self.old.number (λ g h. KeepsOthers ticket g h
-            × KeepsLive g h
-            × KeepsSerials g h
-            × IfSome result (λ _. CoversNodes g h)
-            × (IsSome result ↔ IsLive ticket g)
-            × IfSome result (λ done. IsTrue done ↔ CanGrow ticket.name size g.space)
-            × (result ≡ Some true → HasUnits ticket size g h)
-            × (result ≡ Some false → IsSame g h)
-            × (result ≡ None → h ≡ g)
-            × IfSome result (Grows ticket.name size g.space h.space)
-            × (h.space.accesses ≤ g.space.accesses + 128))
+        ensures change { Alters self.old.number (λ g h. tickets.Grows ticket size g h result)
             self.old.heaps.now self.new.heaps.now }
         ensures accesses { TakesFewAccesses self.old.heaps.now self.new.heaps.now }
     {
@@ -372,14 +324,7 @@ impl<T: Tables> HeapMut<'_, T> {
     pub fn relocate(&mut self, ticket: Ticket) -> Option<Ticket>
         ensures number { self.new.number ≡ self.old.number }
         ensures same_reference { self.new.heaps.ghost_name ≡ self.old.heaps.ghost_name }
-        ensures change { Alters self.old.number (λ g h. Takes (calls.Call.Relocate ticket) g h result
-            × (result ≡ None → h ≡ record g { space = h.space })
-            × IfSome result (λ t. t.offset + size_of ticket.name g.space ≤ offset_of ticket.name g.space)
-            × (IsSome result → HasSerialLeft g)
-            × (g.step ≡ 0 → (result ≡ None) × (h ≡ g))
-            × (IsLive ticket g → HasSerialLeft g → 1 ≤ g.step → (align : ℕ) → IsGcd (offset_of ticket.name g.space) g.step align
-            → RelocatesAligned ticket.name align g.space h.space (option_map handle_in result))
-            × (h.space.accesses ≤ g.space.accesses + 67))
+        ensures change { Alters self.old.number (λ g h. tickets.Relocates ticket g h result)
             self.old.heaps.now self.new.heaps.now }
         ensures accesses { TakesFewAccesses self.old.heaps.now self.new.heaps.now }
     {
@@ -404,13 +349,7 @@ impl<T: Tables> HeapMut<'_, T> {
         requires alignment { 1 ≤ align }
         ensures number { self.new.number ≡ self.old.number }
         ensures same_reference { self.new.heaps.ghost_name ≡ self.old.heaps.ghost_name }
-        ensures change { Alters self.old.number (λ g h. Takes (calls.Call.Relocate_aligned ticket align) g h result
-            × (result ≡ None → h ≡ record g { space = h.space })
-            × IfSome result (λ t. t.offset + size_of ticket.name g.space ≤ offset_of ticket.name g.space)
-            × (IsSome result → IsLive ticket g × HasSerialLeft g)
-            × (IsLive ticket g → HasSerialLeft g
-            → RelocatesAligned ticket.name align g.space h.space (option_map handle_in result))
-            × (h.space.accesses ≤ g.space.accesses + 67))
+        ensures change { Alters self.old.number (λ g h. tickets.RelocatesAligned ticket align g h result)
             self.old.heaps.now self.new.heaps.now }
         ensures accesses { TakesFewAccesses self.old.heaps.now self.new.heaps.now }
     {
@@ -434,12 +373,7 @@ impl<T: Tables> HeapMut<'_, T> {
     pub fn relocate_unaligned(&mut self, ticket: Ticket) -> Option<Ticket>
         ensures number { self.new.number ≡ self.old.number }
         ensures same_reference { self.new.heaps.ghost_name ≡ self.old.heaps.ghost_name }
-        ensures change { Alters self.old.number (λ g h. Takes (calls.Call.Allocate (size_of ticket.name g.space)) g h result
-            × (result ≡ None → h ≡ record g { space = h.space })
-            × IfSome result (λ t. t.offset + size_of ticket.name g.space ≤ offset_of ticket.name g.space)
-            × (IsSome result → IsLive ticket g × HasSerialLeft g)
-            × (IsLive ticket g → HasSerialLeft g → Relocates ticket.name g.space h.space (option_map handle_in result))
-            × (h.space.accesses ≤ g.space.accesses + 67))
+        ensures change { Alters self.old.number (λ g h. tickets.RelocatesUnaligned ticket g h result)
             self.old.heaps.now self.new.heaps.now }
         ensures accesses { TakesFewAccesses self.old.heaps.now self.new.heaps.now }
     {
@@ -464,14 +398,8 @@ impl<T: Tables> HeapMut<'_, T> {
         requires callable { F.IsAlwaysCallable moved.old }
         ensures number { self.new.number ≡ self.old.number }
         ensures same_reference { self.new.heaps.ghost_name ≡ self.old.heaps.ghost_name }
-        ensures change { Alters self.old.number (λ g h. KeepsSizes g h
-            × (h ≡ record g { space = h.space })
-            × KeepsAlignments g h
-            × (g.step ≡ 0 → (result ≡ false) × (h ≡ g))
-            × (1 ≤ g.step → CompactsBy g.step g.space h.space result)
-            × FoldsTo (IsCalledWith T.Index.NonMax.number (λ f range g. F.step f range tt g))
-            moved.old (if result then moves_by g.step 0 0 g.space.blocks else []) moved.new
-            × (h.space.accesses ≤ g.space.accesses + 21 * length g.space.blocks + 40))
+        ensures change { Alters self.old.number (λ g h. tickets.Compacts
+            (IsCalledWith T.Index.NonMax.number (λ f range g. F.step f range tt g)) moved.old g h moved.new result)
             self.old.heaps.now self.new.heaps.now }
         ensures accesses { TakesFewAccesses self.old.heaps.now self.new.heaps.now }
     {
@@ -497,13 +425,8 @@ impl<T: Tables> HeapMut<'_, T> {
         requires callable { F.IsAlwaysCallable moved.old }
         ensures number { self.new.number ≡ self.old.number }
         ensures same_reference { self.new.heaps.ghost_name ≡ self.old.heaps.ghost_name }
-        ensures change { Alters self.old.number (λ g h. KeepsSizes g h
-            × (h ≡ record g { space = h.space })
-            × KeepsDivisors step g h
-            × CompactsBy step g.space h.space result
-            × FoldsTo (IsCalledWith T.Index.NonMax.number (λ f range g. F.step f range tt g))
-            moved.old (if result then moves_by step 0 0 g.space.blocks else []) moved.new
-            × (h.space.accesses ≤ g.space.accesses + 21 * length g.space.blocks + 40))
+        ensures change { Alters self.old.number (λ g h. tickets.CompactsBy
+            (IsCalledWith T.Index.NonMax.number (λ f range g. F.step f range tt g)) step moved.old g h moved.new result)
             self.old.heaps.now self.new.heaps.now }
         ensures accesses { TakesFewAccesses self.old.heaps.now self.new.heaps.now }
     {
@@ -528,12 +451,8 @@ impl<T: Tables> HeapMut<'_, T> {
         requires callable { F.IsAlwaysCallable moved.old }
         ensures number { self.new.number ≡ self.old.number }
         ensures same_reference { self.new.heaps.ghost_name ≡ self.old.heaps.ghost_name }
-        ensures change { Alters self.old.number (λ g h. KeepsSizes g h
-            × (h ≡ record g { space = h.space })
-            × Compacts g.space h.space
-            × FoldsTo (IsCalledWith T.Index.NonMax.number (λ f range g. F.step f range tt g))
-            moved.old (moves 0 0 g.space.blocks) moved.new
-            × (h.space.accesses ≤ g.space.accesses + 10 * length g.space.blocks + 384))
+        ensures change { Alters self.old.number (λ g h. tickets.CompactsUnaligned
+            (IsCalledWith T.Index.NonMax.number (λ f range g. F.step f range tt g)) moved.old g h moved.new)
             self.old.heaps.now self.new.heaps.now }
         ensures accesses { TakesFewAccesses self.old.heaps.now self.new.heaps.now }
     {
@@ -566,15 +485,8 @@ impl<T: Tables> HeapMut<'_, T> {
         requires callable { F.IsAlwaysCallable moved.old }
         ensures number { self.new.number ≡ self.old.number }
         ensures same_reference { self.new.heaps.ghost_name ≡ self.old.heaps.ghost_name }
-        ensures change { Alters self.old.number (λ g h. KeepsSizes g h
-            × (h ≡ record g { space = h.space })
-            × KeepsAlignments g h
-            × IfSome result (λ p. (p.ranges ≡ 1) ⊎ ((p.units ≤ most_units) × (p.ranges ≤ most_ranges)))
-            × (g.step ≡ 0 → (result ≡ None) × (h ≡ g) × (moved.new ≡ moved.old))
-            × (1 ≤ g.step → CompactsWithin (IsCalledWith T.Index.NonMax.number (λ f range g. F.step f range tt g))
-            g.step from most_units most_ranges g.space moved.old result h.space moved.new)
-            × (h.space.accesses ≤ g.space.accesses + 26 * length g.space.blocks + 60)
-            × (h.space.accesses ≤ g.space.accesses + 5 * length g.space.blocks + 42 * max 1 most_ranges + 60))
+        ensures change { Alters self.old.number (λ g h. tickets.CompactsWithin
+            (IsCalledWith T.Index.NonMax.number (λ f range g. F.step f range tt g)) from most_units most_ranges moved.old g h moved.new result)
             self.old.heaps.now self.new.heaps.now }
         ensures accesses { TakesFewAccesses self.old.heaps.now self.new.heaps.now }
     {
@@ -608,14 +520,8 @@ impl<T: Tables> HeapMut<'_, T> {
         requires callable { F.IsAlwaysCallable moved.old }
         ensures number { self.new.number ≡ self.old.number }
         ensures same_reference { self.new.heaps.ghost_name ≡ self.old.heaps.ghost_name }
-        ensures change { Alters self.old.number (λ g h. KeepsSizes g h
-            × (h ≡ record g { space = h.space })
-            × KeepsDivisors step g h
-            × IfSome result (λ p. (p.ranges ≡ 1) ⊎ ((p.units ≤ most_units) × (p.ranges ≤ most_ranges)))
-            × CompactsWithin (IsCalledWith T.Index.NonMax.number (λ f range g. F.step f range tt g))
-            step from most_units most_ranges g.space moved.old result h.space moved.new
-            × (h.space.accesses ≤ g.space.accesses + 26 * length g.space.blocks + 60)
-            × (h.space.accesses ≤ g.space.accesses + 5 * length g.space.blocks + 42 * max 1 most_ranges + 60))
+        ensures change { Alters self.old.number (λ g h. tickets.CompactsWithinBy
+            (IsCalledWith T.Index.NonMax.number (λ f range g. F.step f range tt g)) step from most_units most_ranges moved.old g h moved.new result)
             self.old.heaps.now self.new.heaps.now }
         ensures accesses { TakesFewAccesses self.old.heaps.now self.new.heaps.now }
     {
@@ -645,17 +551,8 @@ impl<T: Tables> HeapMut<'_, T> {
         requires callable { F.IsAlwaysCallable moved.old }
         ensures number { self.new.number ≡ self.old.number }
         ensures same_reference { self.new.heaps.ghost_name ≡ self.old.heaps.ghost_name }
-        ensures change { Alters self.old.number (λ g h. KeepsSizes g h
-            × (h ≡ record g { space = h.space })
-            × KeepsAlignments g h
-            × (1 ≤ g.step → IsLeastCostBy g.step (value (up (units_needed size 1)))
-            (names_short (blocks_needed 1) g.space) g.space.blocks result)
-            × IfSome result (λ c. CanGrant (blocks_needed 1) (units_needed size 1) h.space)
-            × (g.step ≡ 0 → (result ≡ None) × (h ≡ g) × (moved.new ≡ moved.old))
-            × (1 ≤ g.step → MakesRoomBy (IsCalledWith T.Index.NonMax.number (λ f range g. F.step f range tt g))
-            g.step (value (up (units_needed size 1))) (names_short (blocks_needed 1) g.space)
-            g.space moved.old result h.space moved.new)
-            × (h.space.accesses ≤ g.space.accesses + 7 * length g.space.blocks + 36 * ranges_of result + 60))
+        ensures change { Alters self.old.number (λ g h. tickets.MakesRoom
+            (IsCalledWith T.Index.NonMax.number (λ f range g. F.step f range tt g)) size 1 moved.old g h moved.new result)
             self.old.heaps.now self.new.heaps.now }
         ensures accesses { TakesFewAccesses self.old.heaps.now self.new.heaps.now }
     {
@@ -683,17 +580,8 @@ impl<T: Tables> HeapMut<'_, T> {
         requires callable { F.IsAlwaysCallable moved.old }
         ensures number { self.new.number ≡ self.old.number }
         ensures same_reference { self.new.heaps.ghost_name ≡ self.old.heaps.ghost_name }
-        ensures change { Alters self.old.number (λ g h. KeepsSizes g h
-            × (h ≡ record g { space = h.space })
-            × KeepsAlignments g h
-            × (1 ≤ g.step → IsLeastCostBy g.step (value (up (units_needed size align)))
-            (names_short (blocks_needed align) g.space) g.space.blocks result)
-            × IfSome result (λ c. CanGrant (blocks_needed align) (units_needed size align) h.space)
-            × (g.step ≡ 0 → (result ≡ None) × (h ≡ g) × (moved.new ≡ moved.old))
-            × (1 ≤ g.step → MakesRoomBy (IsCalledWith T.Index.NonMax.number (λ f range g. F.step f range tt g))
-            g.step (value (up (units_needed size align))) (names_short (blocks_needed align) g.space)
-            g.space moved.old result h.space moved.new)
-            × (h.space.accesses ≤ g.space.accesses + 7 * length g.space.blocks + 36 * ranges_of result + 60))
+        ensures change { Alters self.old.number (λ g h. tickets.MakesRoom
+            (IsCalledWith T.Index.NonMax.number (λ f range g. F.step f range tt g)) size align moved.old g h moved.new result)
             self.old.heaps.now self.new.heaps.now }
         ensures accesses { TakesFewAccesses self.old.heaps.now self.new.heaps.now }
     {
@@ -727,16 +615,8 @@ impl<T: Tables> HeapMut<'_, T> {
         requires callable { F.IsAlwaysCallable moved.old }
         ensures number { self.new.number ≡ self.old.number }
         ensures same_reference { self.new.heaps.ghost_name ≡ self.old.heaps.ghost_name }
-        ensures change { Alters self.old.number (λ g h. KeepsSizes g h
-            × (h ≡ record g { space = h.space })
-            × KeepsDivisors step g h
-            × IsLeastCostBy step (value (up (units_needed size align)))
-            (names_short (blocks_needed align) g.space) g.space.blocks result
-            × IfSome result (λ c. CanGrant (blocks_needed align) (units_needed size align) h.space)
-            × MakesRoomBy (IsCalledWith T.Index.NonMax.number (λ f range g. F.step f range tt g))
-            step (value (up (units_needed size align))) (names_short (blocks_needed align) g.space)
-            g.space moved.old result h.space moved.new
-            × (h.space.accesses ≤ g.space.accesses + 7 * length g.space.blocks + 36 * ranges_of result + 60))
+        ensures change { Alters self.old.number (λ g h. tickets.MakesRoomBy
+            (IsCalledWith T.Index.NonMax.number (λ f range g. F.step f range tt g)) size align step moved.old g h moved.new result)
             self.old.heaps.now self.new.heaps.now }
         ensures accesses { TakesFewAccesses self.old.heaps.now self.new.heaps.now }
     {
@@ -766,13 +646,8 @@ impl<T: Tables> HeapMut<'_, T> {
         requires callable { F.IsAlwaysCallable moved.old }
         ensures number { self.new.number ≡ self.old.number }
         ensures same_reference { self.new.heaps.ghost_name ≡ self.old.heaps.ghost_name }
-        ensures change { Alters self.old.number (λ g h. KeepsSizes g h
-            × (h ≡ record g { space = h.space })
-            × IsLeastCost (value (up size)) g.space.blocks result
-            × IfSome result (λ c. 1 ≤ c.ranges → CanGrant 1 size h.space)
-            × MakesRoom (IsCalledWith T.Index.NonMax.number (λ f range g. F.step f range tt g))
-            (value (up size)) g.space moved.old result h.space moved.new
-            × (h.space.accesses ≤ g.space.accesses + 6 * length g.space.blocks + 40 * ranges_of result + 20))
+        ensures change { Alters self.old.number (λ g h. tickets.MakesRoomUnaligned
+            (IsCalledWith T.Index.NonMax.number (λ f range g. F.step f range tt g)) size moved.old g h moved.new result)
             self.old.heaps.now self.new.heaps.now }
         ensures accesses { TakesFewAccesses self.old.heaps.now self.new.heaps.now }
     {
@@ -794,14 +669,7 @@ impl<T: Tables> HeapMut<'_, T> {
     pub fn extend(&mut self, more: u32) -> bool
         ensures number { self.new.number ≡ self.old.number }
         ensures same_reference { self.new.heaps.ghost_name ≡ self.old.heaps.ghost_name }
-        ensures change { Alters self.old.number (λ g h. KeepsAll g h
-            × KeepsSerials g h
-            × CoversNodes g h
-            × (IsTrue result ↔ (1 ≤ more → CanExtend more g.space))
-            × (result ≡ false → IsSame g h)
-            × (IsTrue result → h.space.size ≡ g.space.size + more)
-            × Extends more g.space h.space result
-            × (h.space.accesses ≤ g.space.accesses + 128))
+        ensures change { Alters self.old.number (λ g h. tickets.Extends more g h result)
             self.old.heaps.now self.new.heaps.now }
         ensures accesses { TakesFewAccesses self.old.heaps.now self.new.heaps.now }
     {
@@ -810,6 +678,37 @@ impl<T: Tables> HeapMut<'_, T> {
             .slots
             .heap_mut(self.number, &mut heaps.accesses)
             .extend(more);
+        heaps.index.note(&heaps.slots, self.number, heaps.limits, &mut heaps.accesses);
+        result
+    }
+
+    /// As `GuardedOf::retract` in this heap, as long as it has the units then that it has at least: those that the limits
+    /// give its number, or one where it is a larger heap. So units that it was extended by can go again.
+    ///
+    /// `false` is returned where it would have fewer, or where its last block is not free or has fewer than `less`; then all is
+    /// as it was.
+    ///
+    /// ```
+    /// assert!(heap.extend(24));
+    /// assert!(heap.retract(24));
+    /// assert!(!heap.retract(1));
+    /// assert_eq!(heap.size(), 1000);
+    /// ```
+    pub fn retract(&mut self, less: u32) -> bool
+        ensures number { self.new.number ≡ self.old.number }
+        ensures same_reference { self.new.heaps.ghost_name ≡ self.old.heaps.ghost_name }
+        ensures change { Alters self.old.number
+            (GivesUpUnits self.old.heaps.now.limits self.old.number less result)
+            self.old.heaps.now self.new.heaps.now }
+        ensures accesses { TakesFewAccesses self.old.heaps.now self.new.heaps.now }
+    {
+        let heaps = &mut *self.heaps;
+        let least = least_units(heaps.limits, self.number);
+        let result = retract_to(
+            heaps.slots.heap_mut(self.number, &mut heaps.accesses),
+            least,
+            less,
+        );
         heaps.index.note(&heaps.slots, self.number, heaps.limits, &mut heaps.accesses);
         result
     }
@@ -824,7 +723,7 @@ impl<T: Tables> HeapMut<'_, T> {
         requires alignment { 1 ≤ align }
         ensures number { self.new.number ≡ self.old.number }
         ensures same_reference { self.new.heaps.ghost_name ≡ self.old.heaps.ghost_name }
-        ensures change { Alters self.old.number (λ g h. Takes (calls.Call.Raise_step align) g h None)
+        ensures change { Alters self.old.number (λ g h. tickets.RaisesStep align g h)
             self.old.heaps.now self.new.heaps.now }
         ensures accesses { TakesFewAccesses self.old.heaps.now self.new.heaps.now }
     {
@@ -846,9 +745,7 @@ impl<T: Tables> HeapMut<'_, T> {
     pub fn reset(&mut self)
         ensures number { self.new.number ≡ self.old.number }
         ensures same_reference { self.new.heaps.ghost_name ≡ self.old.heaps.ghost_name }
-        ensures change { Alters self.old.number (λ g h. Takes calls.Call.Reset g h None
-            × Resets g.space h.space
-            × (h.space.accesses ≤ g.space.accesses + min (130 * count_used g.space.blocks + 2) 270))
+        ensures change { Alters self.old.number (λ g h. tickets.Resets g h)
             self.old.heaps.now self.new.heaps.now }
         ensures accesses { TakesFewAccesses self.old.heaps.now self.new.heaps.now }
     {

@@ -9,6 +9,8 @@ ghost use Rattle.offset_allocator.specs.Ranges.{AreDisjoint, Range};
 ghost use Rattle.offset_allocator.specs.Reporting.Reports.{IsReport};
 ghost use Rattle.offset_allocator.specs.Requests.{AdmitsBlocks, CanGrant, blocks_needed, units_needed};
 ghost use Rattle.offset_allocator.specs.declared.reports.StorageReport.{StorageReport};
+ghost use Rattle.offset_allocator.specs.Moving.Compacting.{Move};
+ghost use Rattle.offset_guarded.specs.Answers as answers;
 ghost use Rattle.offset_guarded.specs.Calls as tickets;
 ghost use Rattle.offset_guarded.specs.Guard.{Guard, HasSerialLeft, IsRaised, Ticket};
 ghost use Rattle.offset_heaps.specs.Heaps.{Heaps, room, AreAlike, AreTotals, heap_at, numbers, range_of, top_limit};
@@ -24,7 +26,7 @@ ghost use Rattle.offset_heaps.specs.Relocating.{live_units_at, most_ranks, ranks
 ghost use Rattle.offset_heaps.specs.Tight.{GrantsTight, IsRefusedForTight, IsServedTight, IsWhyTight};
 ghost use Rattle.offset_heaps.specs.Twins.{AreTwins};
 ghost use Rattle.offset_heaps.specs.Calls.{Allocates, AllocatesTight, TakesAll, Call, Drops, DropsEmpty, Frees, GivesUp};
-ghost use Rattle.offset_heaps.specs.Calls.{CompactsEach, CompactsOne, RelocatesOwn};
+ghost use Rattle.offset_heaps.specs.Calls.{CompactsEach, CompactsOne, RelocatesOwn, TakesOn};
 ghost use Rattle.offset_heaps.specs.Calls.{GoAll, Goes, ExtendsOne, Relocates, Reply, MakesRoomOne, TakesSize};
 ghost use Rattle.offset_heaps.specs.Asking.{IsRefusedFor, IsServed};
 ghost use Rattle.offset_heaps.specs.Changing.{Alters, NewSize};
@@ -188,6 +190,8 @@ pub fn alignments_are_kept()
     // A call of tickets on the heap of a number leaves a step, and the ranges that it grants keep alignments too.
     ensures on_heap { (k : ℕ) (c : tickets.Call) (r : Option Ticket) (hs ks : Heaps)
         → Alters k (λ g h. tickets.Takes c g h r) hs ks → IsStep hs ks }
+    ensures answered_on_heap { (k : ℕ) (c : answers.Call) (a : answers.Answer) (ms : List Move) (hs ks : Heaps)
+        → Alters k (λ g h. answers.KeepsStep c g × answers.Answers c g h a ms) hs ks → IsStep hs ks }
     ensures lasts_on_heap { (k n align a : ℕ) (t : Ticket) (hs ks : Heaps) (later : List Heaps) → IsWellFormed hs
         → Alters k (λ g h. tickets.TakesAligned n align g h (Some t)) hs ks → a ∣ align
         → AreSteps ks later → AllByRecursion (BeginsAt a (place_of k hs.realm t)) (ks ∷ later) }
@@ -299,6 +303,10 @@ pub fn a_state_decides_each_step()
     ensures make_room { (k size align : ℕ) (hs hs' ks ks' : Heaps) → IsWellFormed hs → AreTwins hs hs'
         → (r r' : Option RoomCost) → MakesRoomOne k size align hs ks r → MakesRoomOne k size align hs' ks' r'
         → (r ≡ r') × AreTwins ks ks' }
+    // a call of tickets on the heap of a number, and its moves
+    ensures on_heap { (k : ℕ) (c : answers.Call) (hs hs' ks ks' : Heaps) → IsWellFormed hs → AreTwins hs hs'
+        → (a a' : answers.Answer) (ms ms' : List Move) → TakesOn k c hs ks a ms → TakesOn k c hs' ks' a' ms'
+        → (a ≡ a') × (ms ≡ ms') × AreTwins ks ks' }
     ensures range { (hs hs' : Heaps) (p : Place) → AreTwins hs hs' → range_of p hs' ≡ range_of p hs }
     ensures emptiest { (hs hs' : Heaps) → AreTwins hs hs' → (r r' : Option ℕ)
         → MatchOption r (NoneLive (numbers hs) hs.slots) (IsEmptiest (numbers hs) hs.slots)

@@ -1,6 +1,6 @@
 //! How many heaps there may be, and how large. It touches no heap.
 ghost use Rattle.std.specs.Prelude.{◌≡◌};
-ghost use Rattle.offset_heaps.specs.Heaps.{usual_room, usual_size};
+ghost use Rattle.offset_heaps.specs.Heaps.{least_units, usual_room, usual_size};
 
 use offset_allocator::small_float::{float_to_uint, uint_to_float_round_down};
 
@@ -38,7 +38,18 @@ pub(crate) fn usual_size(limits: Limits, number: u32) -> u32
     doubled.min(limits.size as u64) as u32
 }
 
-/// The largest request that it grants when it is fresh.
+/// The units that the heap of a number has at least.
+pub(crate) fn least_units(limits: Limits, number: u32) -> u32
+    ensures { result ≡ least_units limits number }
+{
+    if number < limits.most {
+        usual_size(limits, number)
+    } else {
+        1
+    }
+}
+
+/// The largest request that a usual heap grants when it is fresh.
 pub(crate) fn usual_room(limits: Limits, number: u32) -> u32
     ensures { result ≡ usual_room limits number }
 {

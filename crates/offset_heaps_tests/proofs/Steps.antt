@@ -5,6 +5,7 @@ use Rattle.std.proofs.Math.Nat.{dvd_refl, dvd_trans}
 use Rattle.std.specs.Int.{◌∣◌}
 use Rattle.std.specs.Prelude.{OnErr}
 use Rattle.std.specs.declared.alloc.AllocError.{AllocError}
+use Rattle.offset_guarded.proofs.Twins.{range_twin}
 use Rattle.offset_heaps.specs.declared.place.Granted.{Granted}
 use Rattle.offset_heaps.specs.declared.refusal.Refusal.{Refusal}
 use Rattle.offset_heaps.specs.Heaps.{Heaps, FreesIn, Grants, IsLive, IsSame, Puts, heap_at, range_of, step_at}
@@ -21,7 +22,7 @@ use Rattle.offset_heaps.specs.Extending.{ExtendsHeap, ExtendsIf}
 use Rattle.offset_heaps.specs.Histories.{IsStep, KeepsIn}
 use Rattle.offset_heaps.specs.Places.{Place, ticket_of}
 use Rattle.offset_heaps.specs.Tight.{GrantsTight}
-use Rattle.offset_heaps.proofs.{Changes.undone_twin, InPlace.units, Longer.range_longer, Longer.realm_longer, Twins.range_twin}
+use Rattle.offset_heaps.proofs.{Changes.undone_twin, InPlace.units, Longer.range_longer, Longer.realm_longer}
 
 -- what stays where it is
 stays_aligned : (g h : Guard) → (g.step ∣ h.step) → ((t : Ticket) (r q : Range) → guarded.range_of t g ≡ Some r → guarded.range_of t h ≡ Some q → q.offset ≡ r.offset) → guarded.KeepsAlignments g h

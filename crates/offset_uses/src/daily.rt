@@ -1,4 +1,4 @@
-//! The daily use of an allocator, as `CALLING.md` of `offset_allocator` lists it. `lacks_units`,
+//! The daily use of an allocator, as `docs/PROOFS.md` lists it. `lacks_units`,
 //! `place_packed`, `place_aligned_within` and `defragment` have a proof file.
 
 ghost use Rattle.std.specs.Prelude.{ℕ, ◌≡◌, ◌≢◌, ◌↔◌, ◌⊎◌, ◌+◌, ◌-◌, ◌*◌, ◌<◌, ◌≤◌, ◌%◌, Some, None, false};

@@ -62,7 +62,7 @@ struct HeapTotals {
     uint64_t freeUnits;
 };
 
-// The heap of a number, for every call of one space but retract: each does in this heap what it does in a GuardedAllocator, and no
+// The heap of a number, for every call of one space: each does in this heap what it does in a GuardedAllocator, and no
 // other heap changes. Where the number has no heap it converts to false, and every call is refused. It must not be used once the
 // heaps are dropped, or others are assigned to them; it stays valid where they are moved. Its tickets have the realm of the heap
 // alone: of two Heaps made by withRealm tickets may be alike.
@@ -90,6 +90,8 @@ public:
     bool shrink(Ticket ticket, uint32 size) { return oah_heap_shrink(heaps, index, detail::in(ticket), size); }
     bool growInPlace(Ticket ticket, uint32 size) { return oah_heap_grow_in_place(heaps, index, detail::in(ticket), size); }
     bool extend(uint32 more) { return oah_heap_extend(heaps, index, more); }
+    // Leaves at least the units that the limits give the number, or one of a larger heap.
+    bool retract(uint32 less) { return oah_heap_retract(heaps, index, less); }
     Ticket relocate(Ticket ticket) { return detail::of(oah_heap_relocate(heaps, index, detail::in(ticket))); }
     Ticket relocateAligned(Ticket ticket, uint32 align) { return detail::of(oah_heap_relocate_aligned(heaps, index, detail::in(ticket), align)); }
     Ticket relocateUnaligned(Ticket ticket) { return detail::of(oah_heap_relocate_unaligned(heaps, index, detail::in(ticket))); }

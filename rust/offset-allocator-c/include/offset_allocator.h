@@ -529,7 +529,7 @@ typedef struct oag_ticket {
 } oag_ticket;
 
 /* A space of `size` units, all free, as oa_new makes one, with a realm of its own, which is kept in its tickets: the next
- * number of one counter in this library, 1, 2, .., which begins again after 4294967295 of them. Null where memory is out,
+ * number of one counter in this library, 1, 2, .., which begins again after 2147483647 of them. Null where memory is out,
  * or the node limit is not from 2 to 4294967293. */
 oag_allocator *oag_new(uint32_t size, uint32_t max_allocs);
 

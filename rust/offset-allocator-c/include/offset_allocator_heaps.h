@@ -277,7 +277,8 @@ const oag_allocator *oah_heap(const oah_heaps *heaps, uint32_t number);
 /* The calls of one space on the heap of a number: each does in this heap what the oag_ call of its name does, under the node
  * limit that the heap has now, and no other heap changes. Where the number has no heap, or the heaps are null, it is refused as
  * by a null allocator. oah_heap_extend raises no node limit, as oah_extend_heap does; oah_heap_relocate grants in the same heap, as
- * oah_relocate does in another. `moved` must not use the heaps, or a pointer of oah_heap.
+ * oah_relocate does in another; oah_heap_retract leaves a heap the units that the limits give its number, or one of a larger heap.
+ * `moved` must not use the heaps, or a pointer of oah_heap.
  *
  * A ticket here and a place are of one grant: {ticket, number, oah_realm(heaps)} is the place. A ticket has the realm of the heap
  * alone: one of other heaps, whose realm is chosen too, may be taken for one of these. */
@@ -290,6 +291,7 @@ bool oah_heap_free(oah_heaps *heaps, uint32_t number, oag_ticket ticket);
 bool oah_heap_shrink(oah_heaps *heaps, uint32_t number, oag_ticket ticket, uint32_t size);
 bool oah_heap_grow_in_place(oah_heaps *heaps, uint32_t number, oag_ticket ticket, uint32_t size);
 bool oah_heap_extend(oah_heaps *heaps, uint32_t number, uint32_t more);
+bool oah_heap_retract(oah_heaps *heaps, uint32_t number, uint32_t less);
 oag_ticket oah_heap_relocate(oah_heaps *heaps, uint32_t number, oag_ticket ticket);
 oag_ticket oah_heap_relocate_aligned(oah_heaps *heaps, uint32_t number, oag_ticket ticket, uint32_t align);
 oag_ticket oah_heap_relocate_unaligned(oah_heaps *heaps, uint32_t number, oag_ticket ticket);

@@ -816,8 +816,6 @@ exports! {
         space.offset_of(ticket(allocation)).unwrap_or(NO_SPACE)
     } else NO_SPACE;
 
-    fn oag_retract([space: &mut GuardedSpace], less: u32) -> bool { space.retract(less) } else false;
-
     fn oag_first_live([space: &GuardedSpace],) -> Guard { guard(space.first_live()) } else NO_TICKET;
 
     fn oag_last_live([space: &GuardedSpace],) -> Guard { guard(space.last_live()) } else NO_TICKET;
@@ -958,6 +956,8 @@ on_both! {
     } else false;
 
     fn oag_extend, oah_heap_extend([space], more: u32) -> bool { space.extend(more) } else false;
+
+    fn oag_retract, oah_heap_retract([space], less: u32) -> bool { space.retract(less) } else false;
 
     fn oag_relocate, oah_heap_relocate([space], allocation: Guard) -> Guard {
         guard(space.relocate(ticket(allocation)))

@@ -535,7 +535,10 @@ static void one_heap(void) {
             }
             break;
         case 22:
+            /* a heap keeps the units that the limits give it */
             if (below(50) == 0) BOTH(extend, size);
+            else if (oag_size(space) >= 1024 + size) BOTH(retract, size);
+            else CHECK(!oah_heap_retract(heaps, 1, size));
             break;
         default: BOTH(free, t); break;
         }

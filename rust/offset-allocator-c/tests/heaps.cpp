@@ -55,6 +55,8 @@ template <class Space> std::vector<uint64_t> trace(Space &space, Ticket all) {
     space.compactUnaligned(moved);
     note(space.extend(100));
     note(space.size());
+    note(space.retract(60));
+    note(space.size());
     for (const Block &block : space.blocks()) note(block.offset + 5000 * uint64_t(block.size));
     space.eachLive([&](Ticket ticket) {
         note(ticket.serial);

@@ -41,67 +41,103 @@ pub fn would_begin_counted<T: Tables>(
     offset_allocator::laws::would_begin_counted(&guarded.space, size, align, count)
 }
 
-impl<T: Tables> GuardedOf<T> {
-    /// Grants a range of `size` units, and returns its ticket: of the range that `Allocator::allocate`
-    /// grants, with the next serial.
-    ///
-    /// `None` is returned where that call returns `None`, or where all serials are given; then all is as it
-    /// was.
-    ///
-    /// ```
-    /// # use offset_allocator_guarded::*;
-    /// # let alloc = Global;
-    /// let mut guarded = Guarded::<u32>::new(alloc, 1000)?;
-    /// let mesh = guarded.allocate(300).unwrap();
-    /// assert_eq!(guarded.offset_of(mesh), Some(0));
-    /// assert!(guarded.allocate(701).is_none());
-    /// # Ok::<(), AllocError>(())
-    /// ```
-    #[inline(always)]
-    pub fn allocate(&mut self, size: u32) -> Option<Ticket> {
-        if self.serials.is_spent() {
-            return None;
-        }
-        match self.space.allocate(size) {
-            None => None,
-            Some(handle) => Some(ticket_for(&self.space, &mut self.serials, &self.realm, handle)),
-        }
-    }
+mod calls {
+    use super::*;
 
-    /// Grants `size` units that begin at a multiple of `align`, from 1 on: the range that
-    /// `Allocator::allocate_aligned` grants, with the next serial.
-    ///
-    /// `None` is returned where that call returns `None`, or where all serials are given; then all is as it
-    /// was.
-    ///
-    /// # Panics
-    ///
-    /// It panics unless the alignment is at least 1.
-    ///
-    /// ```
-    /// # use offset_allocator_guarded::*;
-    /// # let alloc = Global;
-    /// let mut guarded = Guarded::<u32>::new(alloc, 1000)?;
-    /// guarded.allocate(10);
-    /// let uniforms = guarded.allocate_aligned(300, 256).unwrap();
-    /// assert_eq!(guarded.offset_of(uniforms), Some(256));
-    /// # Ok::<(), AllocError>(())
-    /// ```
-    #[track_caller]
-    pub fn allocate_aligned(&mut self, size: u32, align: u32) -> Option<Ticket> {
-        assert!(1 <= align, "the alignment must be at least 1");
-        if self.serials.is_spent() {
-            return None;
+    impl<T: Tables> GuardedOf<T> {
+        /// Grants a range of `size` units, and returns its ticket: of the range that `Allocator::allocate`
+        /// grants, with the next serial.
+        ///
+        /// `None` is returned where that call returns `None`, or where all serials are given; then all is as it
+        /// was.
+        ///
+        /// ```
+        /// # use offset_allocator_guarded::*;
+        /// # let alloc = Global;
+        /// let mut guarded = Guarded::<u32>::new(alloc, 1000)?;
+        /// let mesh = guarded.allocate(300).unwrap();
+        /// assert_eq!(guarded.offset_of(mesh), Some(0));
+        /// assert!(guarded.allocate(701).is_none());
+        /// # Ok::<(), AllocError>(())
+        /// ```
+        #[inline(always)]
+        pub fn allocate(&mut self, size: u32) -> Option<Ticket> {
+            if self.serials.is_spent() {
+                return None;
+            }
+            match self.space.allocate(size) {
+                None => None,
+                Some(handle) => Some(ticket_for(&self.space, &mut self.serials, &self.realm, handle)),
+            }
         }
-        match self.space.allocate_aligned(size, align) {
-            None => None,
-            Some(handle) => {
-                self.step = joined(self.step, align);
-                Some(ticket_for(&self.space, &mut self.serials, &self.realm, handle))
+
+        /// Grants `size` units that begin at a multiple of `align`, from 1 on: the range that
+        /// `Allocator::allocate_aligned` grants, with the next serial.
+        ///
+        /// `None` is returned where that call returns `None`, or where all serials are given; then all is as it
+        /// was.
+        ///
+        /// # Panics
+        ///
+        /// It panics unless the alignment is at least 1.
+        ///
+        /// ```
+        /// # use offset_allocator_guarded::*;
+        /// # let alloc = Global;
+        /// let mut guarded = Guarded::<u32>::new(alloc, 1000)?;
+        /// guarded.allocate(10);
+        /// let uniforms = guarded.allocate_aligned(300, 256).unwrap();
+        /// assert_eq!(guarded.offset_of(uniforms), Some(256));
+        /// # Ok::<(), AllocError>(())
+        /// ```
+        #[track_caller]
+        pub fn allocate_aligned(&mut self, size: u32, align: u32) -> Option<Ticket> {
+            assert!(1 <= align, "the alignment must be at least 1");
+            if self.serials.is_spent() {
+                return None;
+            }
+            match self.space.allocate_aligned(size, align) {
+                None => None,
+                Some(handle) => {
+                    self.step = joined(self.step, align);
+                    Some(ticket_for(&self.space, &mut self.serials, &self.realm, handle))
+                }
             }
         }
     }
+}
 
+// of lib.rt
+mod more_calls {
+    use crate::*;
+
+    impl<T: Tables> GuardedOf<T> {
+        /// Frees the range of a ticket, as `Allocator::free` does, and returns `true`; or `false` where the
+        /// ticket is not live, and then nothing changes.
+        ///
+        /// It reads at most one serial, and makes at most 136 accesses to the tables of the allocator: 8 to see
+        /// whether the name is live, which the allocator does not count, and 128 to free it, which it counts.
+        ///
+        /// ```
+        /// # use offset_allocator_guarded::*;
+        /// # let alloc = Global;
+        /// let mut guarded = Guarded::<u32>::new(alloc, 1000)?;
+        /// let mesh = guarded.allocate(300).unwrap();
+        /// assert!(guarded.free(mesh));
+        /// assert!(!guarded.free(mesh));
+        /// # Ok::<(), AllocError>(())
+        /// ```
+        #[inline(always)]
+        pub fn free(&mut self, ticket: Ticket) -> bool {
+            match self.handle_fitting(ticket) {
+                None => false,
+                Some(handle) => self.space.free_if_live(handle),
+            }
+        }
+    }
+}
+
+impl<T: Tables> GuardedOf<T> {
     /// Grants `size` units of any free block that has them: the range that `Allocator::allocate_tight`
     /// grants, with the next serial.
     ///

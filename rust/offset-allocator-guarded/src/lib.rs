@@ -18,7 +18,7 @@ pub use offset_allocator_memory::{AllocError, Global};
 pub use realms::next_realm;
 pub use offset_allocator::{Refusal as SpaceRefusal, StateFaultKind as SpaceFaultKind, ext, small_float};
 
-mod calls {
+mod constructors {
     use super::*;
 
     impl<T: Tables> GuardedOf<T> {
@@ -63,29 +63,6 @@ mod calls {
                 realm,
                 step: 1,
             })
-        }
-
-        /// Frees the range of a ticket, as `Allocator::free` does, and returns `true`; or `false` where the
-        /// ticket is not live, and then nothing changes.
-        ///
-        /// It reads at most one serial, and makes at most 136 accesses to the tables of the allocator: 8 to see
-        /// whether the name is live, which the allocator does not count, and 128 to free it, which it counts.
-        ///
-        /// ```
-        /// # use offset_allocator_guarded::*;
-        /// # let alloc = Global;
-        /// let mut guarded = Guarded::<u32>::new(alloc, 1000)?;
-        /// let mesh = guarded.allocate(300).unwrap();
-        /// assert!(guarded.free(mesh));
-        /// assert!(!guarded.free(mesh));
-        /// # Ok::<(), AllocError>(())
-        /// ```
-        #[inline(always)]
-        pub fn free(&mut self, ticket: Ticket) -> bool {
-            match self.handle_fitting(ticket) {
-                None => false,
-                Some(handle) => self.space.free_if_live(handle),
-            }
         }
     }
 }

@@ -18,6 +18,8 @@ use core::mem::replace;
 /// more than the node limit of the space, and each call but `put`, `clear` and a walk takes constant time; any
 /// ticket may be given, and one of another grant has no value here.
 ///
+/// States have no values: store each that `iter` has, with the parts of its ticket, and put it beside the space that is read.
+///
 /// ```
 /// # use offset_allocator_guarded::*;
 /// # let alloc = Global;

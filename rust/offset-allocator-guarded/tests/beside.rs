@@ -201,3 +201,29 @@ fn tickets_that_are_not_live_get_no_value() {
     assert_eq!(names.leaks().len(), 1);
     assert_eq!(names.leaks(), [Some((live, "live"))]);
 }
+
+// States have no values: each is stored with the parts of its ticket, and put beside the space that was read.
+#[test]
+fn values_go_with_a_state() {
+    let mut space = Guarded::<u32>::with_max_allocs(Global, 4000, 300).unwrap();
+    let mut names = Beside::new(Global);
+    let tickets: Vec<Ticket> = (1..=200).map(|size| space.allocate(size % 17 + 1).unwrap()).collect();
+    for (number, &ticket) in tickets.iter().enumerate() {
+        assert!(names.put(&space, ticket, number).is_ok());
+    }
+    for &ticket in tickets.iter().step_by(3) {
+        assert!(space.free(ticket) && names.take(ticket).is_some());
+    }
+    let stored: Vec<_> = names.iter().map(|(ticket, &number)| (ticket.to_parts(), number)).collect();
+    let bytes = space.write_state(Global).unwrap();
+    let read = Guarded::<u32>::read_state(Global, &bytes, 300).ok().unwrap();
+    let mut again = Beside::new(Global);
+    for ((offset, name, serial, realm), number) in stored {
+        let ticket = Ticket::from_parts(offset, name, serial, realm).unwrap();
+        assert!(again.put(&read, ticket, number).is_ok());
+    }
+    assert_eq!(again.len(), 133);
+    for (number, &ticket) in tickets.iter().enumerate() {
+        assert_eq!(again.get(ticket), (number % 3 != 0).then_some(&number));
+    }
+}

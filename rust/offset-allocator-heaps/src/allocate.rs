@@ -25,6 +25,105 @@ pub(crate) fn below(found: Option<u32>, limit: u32) -> Option<u32> {
     }
 }
 
+mod calls {
+    use super::*;
+
+    impl<T: Tables> HeapsOf<T> {
+        /// Grants `size` units of one heap: what `allocate_aligned(size, 1)` grants.
+        ///
+        /// A heap has room exactly for requests up to the `largest_free_region` that its report would have under its
+        /// largest node limit, while it has a serial left: see the law `room_is_reported` of the proved sources.
+        ///
+        /// ```
+        /// # use offset_allocator_heaps::*;
+        /// # let alloc = Global;
+        /// let limits = Limits { size: 1000, first_size: 1000, max_allocs: 100, first_allocs: 8, most: 2, most_larger: 1 };
+        /// let mut heaps = Heaps::<u32>::new(alloc, limits)?;
+        /// let mesh = heaps.allocate(300).unwrap();
+        /// assert!(mesh.is_new);
+        /// let level = heaps.allocate(5000).unwrap();
+        /// assert_eq!(heaps.size_of(level.place), Some(5000));
+        /// # Ok::<(), AllocError>(())
+        /// ```
+        pub fn allocate(&mut self, size: u32) -> Result<Granted, Refusal> {
+            self.allocate_aligned(size, 1)
+        }
+
+        /// Grants `size` units of one heap that begin at a multiple of `align`, from 1 on, in that heap.
+        ///
+        /// It is the first heap, by number, that has room for `size + align - 1` units, and it grants what
+        /// `GuardedOf::allocate_aligned` grants. Where none has, another heap is made,
+        /// whose first range begins at 0, a multiple of every alignment: so it needs room for `size` units alone.
+        /// If the last usual heap, the largest, would have that, it is a usual one, of the first number below
+        /// `most` that no heap has and whose heap would have it, of `first_size` units doubled as often as its
+        /// number says, and at most `size`; else a larger heap of exactly `size` units, all of which are granted,
+        /// with the first number from `most` on that no heap has, and with the node limit 4: it never has more than
+        /// two live ranges. A usual heap begins with the node limit `first_allocs`, and has room exactly where it
+        /// would have room under `max_allocs`: see the law `room_is_granted` of the proved sources. Where its own limit is
+        /// lower, and its space would refuse the request for want of nodes, the limit is first doubled, as
+        /// `GuardedOf::raised` does it, to `max_allocs` at most: that is always enough. Only for a new heap and for
+        /// more nodes memory is requested, and never where the request is granted without them.
+        ///
+        /// Where the request is refused, all is as it was, and the [`Refusal`](crate::Refusal) says why.
+        ///
+        /// # Panics
+        ///
+        /// It panics unless the alignment is at least 1.
+        ///
+        /// ```
+        /// # use offset_allocator_heaps::*;
+        /// # let alloc = Global;
+        /// let limits = Limits { size: 1000, first_size: 1000, max_allocs: 100, first_allocs: 8, most: 2, most_larger: 1 };
+        /// let mut heaps = Heaps::<u32>::new(alloc, limits)?;
+        /// heaps.allocate(10).unwrap();
+        /// let uniforms = heaps.allocate_aligned(300, 256).unwrap().place;
+        /// assert_eq!(heaps.offset_of(uniforms), Some(256));
+        /// let page = heaps.allocate_aligned(960, 256).unwrap().place;
+        /// assert_eq!((page.heap, heaps.offset_of(page)), (1, Some(0)));
+        /// # Ok::<(), AllocError>(())
+        /// ```
+        #[track_caller]
+        pub fn allocate_aligned(&mut self, size: u32, align: u32) -> Result<Granted, Refusal> {
+            assert!(1 <= align, "the alignment must be at least 1");
+            self.serve(size, align)
+        }
+    }
+}
+
+// of lib.rt
+mod more_calls {
+    use crate::*;
+
+    impl<T: Tables> HeapsOf<T> {
+        /// Frees the range of a place, as `GuardedOf::free` does in its heap, and returns `true`; or `false`
+        /// where the place is not live, and then nothing changes. The heap stays, also where it is empty then:
+        /// [`drop_empty`](Self::drop_empty) drops it.
+        ///
+        /// ```
+        /// # use offset_allocator_heaps::*;
+        /// # let alloc = Global;
+        /// let limits = Limits { size: 1000, first_size: 1000, max_allocs: 100, first_allocs: 8, most: 2, most_larger: 1 };
+        /// let mut heaps = Heaps::<u32>::new(alloc, limits)?;
+        /// let mesh = heaps.allocate(300).unwrap().place;
+        /// assert!(heaps.free(mesh));
+        /// assert!(!heaps.free(mesh));
+        /// # Ok::<(), AllocError>(())
+        /// ```
+        pub fn free(&mut self, place: Place) -> bool {
+            let (number, realm, ticket) = place.split();
+            if realm != self.realm {
+                return false;
+            }
+            if !self.slots.free(number, ticket, &mut self.accesses) {
+                return false;
+            }
+            self.index
+                .note(&self.slots, number, self.limits, &mut self.accesses);
+            true
+        }
+    }
+}
+
 impl<T: Tables> HeapsOf<T> {
     // The first heap that has room for a request.
     pub(crate) fn first_fit(&mut self, units: u64, align: u32) -> Option<u32> {
@@ -139,64 +238,5 @@ impl<T: Tables> HeapsOf<T> {
             Some(number) => self.grant_first(number, size, align),
             None => self.grant_new(size, align),
         }
-    }
-
-    /// Grants `size` units of one heap: what `allocate_aligned(size, 1)` grants.
-    ///
-    /// A heap has room exactly for requests up to the `largest_free_region` that its report would have under its
-    /// largest node limit, while it has a serial left: see the law `room_is_reported` of the proved sources.
-    ///
-    /// ```
-    /// # use offset_allocator_heaps::*;
-    /// # let alloc = Global;
-    /// let limits = Limits { size: 1000, first_size: 1000, max_allocs: 100, first_allocs: 8, most: 2, most_larger: 1 };
-    /// let mut heaps = Heaps::<u32>::new(alloc, limits)?;
-    /// let mesh = heaps.allocate(300).unwrap();
-    /// assert!(mesh.is_new);
-    /// let level = heaps.allocate(5000).unwrap();
-    /// assert_eq!(heaps.size_of(level.place), Some(5000));
-    /// # Ok::<(), AllocError>(())
-    /// ```
-    pub fn allocate(&mut self, size: u32) -> Result<Granted, Refusal> {
-        self.allocate_aligned(size, 1)
-    }
-
-    /// Grants `size` units of one heap that begin at a multiple of `align`, from 1 on, in that heap.
-    ///
-    /// It is the first heap, by number, that has room for `size + align - 1` units, and it grants what
-    /// `GuardedOf::allocate_aligned` grants. Where none has, another heap is made,
-    /// whose first range begins at 0, a multiple of every alignment: so it needs room for `size` units alone.
-    /// If the last usual heap, the largest, would have that, it is a usual one, of the first number below
-    /// `most` that no heap has and whose heap would have it, of `first_size` units doubled as often as its
-    /// number says, and at most `size`; else a larger heap of exactly `size` units, all of which are granted,
-    /// with the first number from `most` on that no heap has, and with the node limit 4: it never has more than
-    /// two live ranges. A usual heap begins with the node limit `first_allocs`, and has room exactly where it
-    /// would have room under `max_allocs`: see the law `room_is_granted` of the proved sources. Where its own limit is
-    /// lower, and its space would refuse the request for want of nodes, the limit is first doubled, as
-    /// `GuardedOf::raised` does it, to `max_allocs` at most: that is always enough. Only for a new heap and for
-    /// more nodes memory is requested, and never where the request is granted without them.
-    ///
-    /// Where the request is refused, all is as it was, and the [`Refusal`](crate::Refusal) says why.
-    ///
-    /// # Panics
-    ///
-    /// It panics unless the alignment is at least 1.
-    ///
-    /// ```
-    /// # use offset_allocator_heaps::*;
-    /// # let alloc = Global;
-    /// let limits = Limits { size: 1000, first_size: 1000, max_allocs: 100, first_allocs: 8, most: 2, most_larger: 1 };
-    /// let mut heaps = Heaps::<u32>::new(alloc, limits)?;
-    /// heaps.allocate(10).unwrap();
-    /// let uniforms = heaps.allocate_aligned(300, 256).unwrap().place;
-    /// assert_eq!(heaps.offset_of(uniforms), Some(256));
-    /// let page = heaps.allocate_aligned(960, 256).unwrap().place;
-    /// assert_eq!((page.heap, heaps.offset_of(page)), (1, Some(0)));
-    /// # Ok::<(), AllocError>(())
-    /// ```
-    #[track_caller]
-    pub fn allocate_aligned(&mut self, size: u32, align: u32) -> Result<Granted, Refusal> {
-        assert!(1 <= align, "the alignment must be at least 1");
-        self.serve(size, align)
     }
 }

@@ -4,6 +4,7 @@
 //! index.
 
 use crate::HeapsOf;
+use crate::limits::least_units;
 use crate::place::Place;
 use offset_allocator::{Accesses, Move, Progress, RoomCost, Tables};
 use offset_guarded::{GuardedOf, Ticket};
@@ -11,8 +12,7 @@ use core::ops::Deref;
 
 /// The heap of a number, to be changed by the calls of one space with tickets: each does in this heap what it does in a
 /// [`GuardedOf`](crate::GuardedOf), under the node limit that the heap has now, and no other heap changes. A refused call leaves all heaps as
-/// they were. `heap_mut` of [`Heaps`](crate::Heaps) returns one. It derefs to the `GuardedOf`, for all questions. It has no `retract`, since a
-/// heap keeps the units of its kind.
+/// they were. `heap_mut` of [`Heaps`](crate::Heaps) returns one. It derefs to the `GuardedOf`, for all questions.
 ///
 /// A place of `Heaps` and a ticket here are of one grant: `Place::ticket` makes the ticket, `place` the place. A ticket has
 /// the realm of the heap alone, and not that of the `Heaps`: of two whose realms were chosen by hand tickets may be alike.
@@ -73,6 +73,15 @@ impl<T: Tables> Deref for HeapMut<'_, T> {
             None => unreachable!(),
         }
     }
+}
+
+// Takes `less` units off the end of a heap, where it has `least` units after it.
+fn retract_to<T: Tables>(heap: &mut GuardedOf<T>, least: u32, less: u32) -> bool {
+    let size = heap.allocator().size();
+    if (least as u64) + (less as u64) > size as u64 {
+        return false;
+    }
+    heap.retract(less)
 }
 
 impl<T: Tables> HeapMut<'_, T> {
@@ -710,6 +719,40 @@ impl<T: Tables> HeapMut<'_, T> {
             .slots
             .heap_mut(self.number, &mut heaps.accesses)
             .extend(more);
+        heaps.index.note(&heaps.slots, self.number, heaps.limits, &mut heaps.accesses);
+        result
+    }
+
+    /// As `GuardedOf::retract` in this heap, as long as it has the units then that it has at least: those that the limits
+    /// give its number, or one where it is a larger heap. So units that it was extended by can go again.
+    ///
+    /// `false` is returned where it would have fewer, or where its last block is not free or has fewer than `less`; then all is
+    /// as it was.
+    ///
+    /// ```
+    /// # use offset_allocator_heaps::*;
+    /// # let alloc = Global;
+    /// let limits = Limits { size: 1000, first_size: 1000, max_allocs: 100, first_allocs: 8, most: 2, most_larger: 1 };
+    /// let mut heaps = Heaps::<u32>::new(alloc, limits)?;
+    /// let first = heaps.allocate(1).unwrap().place;
+    /// heaps.free(first);
+    /// let mut heap = heaps.heap_mut(0).unwrap();
+    /// assert!(heap.extend(24));
+    /// assert!(heap.retract(24));
+    /// assert!(!heap.retract(1));
+    /// assert_eq!(heap.size(), 1000);
+    /// # Ok::<(), AllocError>(())
+    /// ```
+    pub fn retract(&mut self, less: u32) -> bool {
+        let heaps = &mut *self.heaps;
+        let least = least_units(heaps.limits, self.number);
+        let result = retract_to(
+            heaps
+                .slots
+                .heap_mut(self.number, &mut heaps.accesses),
+            least,
+            less,
+        );
         heaps.index.note(&heaps.slots, self.number, heaps.limits, &mut heaps.accesses);
         result
     }

@@ -21,7 +21,7 @@ pub use offset_allocator_memory as memory;
 pub use offset_allocator_memory::{AllocError, Global};
 pub use offset_guarded::{Refusal as TicketRefusal, StateFaultKind as TicketFaultKind, ext, small_float};
 
-mod calls {
+mod constructors {
     use super::*;
 
     impl<T: Tables> HeapsOf<T> {
@@ -81,33 +81,6 @@ mod calls {
                 realm,
                 accesses: Accesses::new(),
             })
-        }
-
-        /// Frees the range of a place, as `GuardedOf::free` does in its heap, and returns `true`; or `false`
-        /// where the place is not live, and then nothing changes. The heap stays, also where it is empty then:
-        /// [`drop_empty`](Self::drop_empty) drops it.
-        ///
-        /// ```
-        /// # use offset_allocator_heaps::*;
-        /// # let alloc = Global;
-        /// let limits = Limits { size: 1000, first_size: 1000, max_allocs: 100, first_allocs: 8, most: 2, most_larger: 1 };
-        /// let mut heaps = Heaps::<u32>::new(alloc, limits)?;
-        /// let mesh = heaps.allocate(300).unwrap().place;
-        /// assert!(heaps.free(mesh));
-        /// assert!(!heaps.free(mesh));
-        /// # Ok::<(), AllocError>(())
-        /// ```
-        pub fn free(&mut self, place: Place) -> bool {
-            let (number, realm, ticket) = place.split();
-            if realm != self.realm {
-                return false;
-            }
-            if !self.slots.free(number, ticket, &mut self.accesses) {
-                return false;
-            }
-            self.index
-                .note(&self.slots, number, self.limits, &mut self.accesses);
-            true
         }
     }
 }

@@ -36,7 +36,16 @@ pub(crate) fn usual_size(limits: Limits, number: u32) -> u32 {
     doubled.min(limits.size as u64) as u32
 }
 
-/// The largest request that it grants when it is fresh.
+/// The units that the heap of a number has at least.
+pub(crate) fn least_units(limits: Limits, number: u32) -> u32 {
+    if number < limits.most {
+        usual_size(limits, number)
+    } else {
+        1
+    }
+}
+
+/// The largest request that a usual heap grants when it is fresh.
 pub(crate) fn usual_room(limits: Limits, number: u32) -> u32 {
     let class = uint_to_float_round_down(usual_size(limits, number));
     float_to_uint(class)

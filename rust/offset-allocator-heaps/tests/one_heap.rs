@@ -85,6 +85,11 @@ fn plays<T: Tables>(seed: u64, first_allocs: u32, calls: u32) {
                     24 => drop(both!(space, heap, |it, moved| it.make_room_unaligned(size, moved))),
                     _ if below(20) == 0 => both!(space, heap, |it, _moved| it.reset()),
                     _ if below(20) == 0 => drop(both!(space, heap, |it, _moved| it.extend(size))),
+                    // a heap keeps the units that it was made with
+                    _ if below(5) == 0 => {
+                        let kept = u64::from(units) + u64::from(size) <= u64::from(space.size());
+                        assert_eq!(heap.retract(size), kept && space.retract(size));
+                    }
                     _ => both!(space, heap, |it, _moved| it.raise_step(align)),
                 }
                 None

@@ -20,7 +20,7 @@ pub use offset_allocator_memory as memory;
 pub use offset_allocator_memory::{AllocError, Global};
 pub use nonmax::IsMax;
 
-mod calls {
+mod constructors {
     use super::*;
 
     impl<T: Tables> AllocatorOf<T> {
@@ -89,7 +89,13 @@ mod calls {
                 store,
             })
         }
+    }
+}
 
+mod calls {
+    use super::*;
+
+    impl<T: Tables> AllocatorOf<T> {
         /// Grants a range of `size` units, and returns its handle. It takes the first `size` units of the newest
         /// block of the smallest class that has a free block and whose blocks all have at least `size` units; what
         /// remains of the block stays free, directly after the range.
@@ -111,6 +117,38 @@ mod calls {
         /// ```
         pub fn allocate(&mut self, size: u32) -> Option<Allocation<T::Index>> {
             self.serve(size, 1)
+        }
+
+        /// Grants `size` units that begin at a multiple of `align`, which may be any number from 1 on: 256, or 12
+        /// for vertices of 12 bytes.
+        ///
+        /// The block is the one that a request for `size + align - 1` units would take. Its units before the
+        /// range (the padding) and after it (the remainder) stay free. `None` is returned if that request finds
+        /// no block, if `size + align - 1` is above 4294967295, or if `align` is above 1 and there is no room for
+        /// two more blocks, even if fewer would be added. Then the space is as it was. Where padding and
+        /// remainder are of one class, the remainder is the newer one. With `align` 1 the call is
+        /// `allocate(size)`. It makes at most 128 accesses to the tables, and takes no memory.
+        ///
+        /// A fresh space of 1,048,576 units grants 64 KiB at a multiple of 256 only 15 times. Where all requests
+        /// have one alignment, let a unit be as large as that, and call [`allocate`](Self::allocate): then it grants all 16.
+        ///
+        /// # Panics
+        ///
+        /// It panics unless the alignment is at least 1.
+        ///
+        /// ```
+        /// # use offset_allocator_proved::*;
+        /// # let alloc = Global;
+        /// let mut space = Allocator::<u32>::new(alloc, 1000)?;
+        /// space.allocate(10);
+        /// let uniforms = space.allocate_aligned(300, 256).unwrap();
+        /// assert_eq!(uniforms.offset, 256);
+        /// # Ok::<(), AllocError>(())
+        /// ```
+        #[track_caller]
+        pub fn allocate_aligned(&mut self, size: u32, align: u32) -> Option<Allocation<T::Index>> {
+            assert!(1 <= align, "the alignment must be at least 1");
+            self.serve(size, align)
         }
 
         /// Frees the range of a live handle. Its units are free at once, in one block with the free blocks
@@ -163,38 +201,6 @@ mod calls {
                 self.release(name);
             }
             live
-        }
-
-        /// Grants `size` units that begin at a multiple of `align`, which may be any number from 1 on: 256, or 12
-        /// for vertices of 12 bytes.
-        ///
-        /// The block is the one that a request for `size + align - 1` units would take. Its units before the
-        /// range (the padding) and after it (the remainder) stay free. `None` is returned if that request finds
-        /// no block, if `size + align - 1` is above 4294967295, or if `align` is above 1 and there is no room for
-        /// two more blocks, even if fewer would be added. Then the space is as it was. Where padding and
-        /// remainder are of one class, the remainder is the newer one. With `align` 1 the call is
-        /// `allocate(size)`. It makes at most 128 accesses to the tables, and takes no memory.
-        ///
-        /// A fresh space of 1,048,576 units grants 64 KiB at a multiple of 256 only 15 times. Where all requests
-        /// have one alignment, let a unit be as large as that, and call [`allocate`](Self::allocate): then it grants all 16.
-        ///
-        /// # Panics
-        ///
-        /// It panics unless the alignment is at least 1.
-        ///
-        /// ```
-        /// # use offset_allocator_proved::*;
-        /// # let alloc = Global;
-        /// let mut space = Allocator::<u32>::new(alloc, 1000)?;
-        /// space.allocate(10);
-        /// let uniforms = space.allocate_aligned(300, 256).unwrap();
-        /// assert_eq!(uniforms.offset, 256);
-        /// # Ok::<(), AllocError>(())
-        /// ```
-        #[track_caller]
-        pub fn allocate_aligned(&mut self, size: u32, align: u32) -> Option<Allocation<T::Index>> {
-            assert!(1 <= align, "the alignment must be at least 1");
-            self.serve(size, align)
         }
     }
 }

@@ -8,15 +8,18 @@
 
 mod allocator;
 mod beginning;
+mod calls;
 mod drawing;
 mod guarded;
 mod many;
+mod one_heap;
 mod playing;
 mod reading;
 mod tape;
 
 pub use drawing::{course, draw, draw_heap, draw_one, Drawn};
 pub use many::{Part, Recording, RecordedHeaps};
+pub use one_heap::RecordedHeap;
 pub use offset_allocator_guarded::{Beside, Guarded, GuardedOf, Ticket};
 pub use offset_allocator_heaps::{Granted, Heaps, HeapsOf, Limits, Place, Refusal as HeapRefusal};
 pub use offset_allocator_proved::{AllocError, Allocation, Allocator, AllocatorOf, ByField, ByNode, Global};

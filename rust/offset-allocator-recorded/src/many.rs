@@ -1,11 +1,13 @@
 //! One recording of many heaps, whose calls are written in the order in which they happen.
 
 use crate::tape::{bits_of, in_one_line, Numbers, Tape};
+use crate::one_heap::RecordedHeap;
 use crate::{word_of, Recorded};
 use offset_allocator_guarded::{Beside, GuardedOf};
-use offset_allocator_heaps::{AllocError, Granted, HeapsOf, Place, Refusal};
+use offset_allocator_heaps::{AllocError, Granted, HeapMut, HeapsOf, Place, Refusal};
 use offset_allocator_proved::{AllocatorOf, Move, RoomCost, Tables};
 use std::collections::HashMap;
+use std::fmt::Arguments;
 use std::io::{self, Write};
 use std::ops::Deref;
 use std::sync::{Arc, Mutex};
@@ -219,11 +221,22 @@ impl<W: Write> Write for Part<W> {
 pub struct RecordedHeaps<T: Tables, W: Write> {
     heaps: HeapsOf<T>,
     tape: Tape<W>,
-    // of each heap the numbers of its grants, and the names of those that have one, by the names of their blocks
-    grants: HashMap<u32, (Numbers, HashMap<u32, String>)>,
+    grants: HashMap<u32, Grants>,
     // the name of the next request
     name: Option<String>,
 }
+
+// Of a heap the numbers of its grants, and the names of those that have one, by the names of their blocks; and its node limit where
+// it began anew with that, in place of the largest.
+#[derive(Default)]
+struct Grants {
+    numbers: Numbers,
+    names: HashMap<u32, String>,
+    own_limit: Option<u32>,
+}
+
+// With so many unused nodes no call is answered by the node limit: it adds two blocks at most, and a request leaves one node.
+const ENOUGH: u32 = 4;
 
 // The greatest common divisor, by Euclid.
 fn common_divisor(first: u32, second: u32) -> u32 {
@@ -242,7 +255,7 @@ impl<T: Tables, W: Write> RecordedHeaps<T, W> {
                 break;
             }
             if recorded.heaps.heap(number).is_some() {
-                recorded.begin(number);
+                recorded.begin(number, None);
                 left -= 1;
             }
         }
@@ -262,16 +275,77 @@ impl<T: Tables, W: Write> RecordedHeaps<T, W> {
         if number < limits.most { limits.max_allocs } else { now }
     }
 
-    // Writes the lines with which a heap begins.
-    fn begin(&mut self, number: u32) {
+    // Writes the lines with which a heap begins, with a node limit of its own or the largest.
+    fn begin(&mut self, number: u32, own_limit: Option<u32>) {
         let Some(heap) = self.heaps.heap(number) else { return };
-        let nodes = self.nodes(number, heap.allocator().max_allocs());
+        let nodes = own_limit.unwrap_or(self.nodes(number, heap.allocator().max_allocs()));
         let mut numbers = Numbers::default();
         let tape = &mut self.tape;
         if let Err(error) = numbers.begin(heap.allocator(), nodes, &mut |line| tape.write(format_args!("heap {number} {line}"))) {
             self.tape.fail(error);
         }
-        self.grants.insert(number, (numbers, HashMap::new()));
+        // the names of blocks stay theirs
+        let names = self.grants.remove(&number).unwrap_or_default().names;
+        self.grants.insert(number, Grants { numbers, names, own_limit });
+    }
+
+    // Before a call that the nodes of its heap may decide: where who plays it has more than there are, it begins anew.
+    pub(crate) fn ready(&mut self, number: u32) {
+        let Some(space) = self.heaps.heap(number).map(|heap| heap.allocator()) else { return };
+        let limit = space.max_allocs();
+        let played = self.grants.get(&number).and_then(|grants| grants.own_limit).unwrap_or(self.nodes(number, limit));
+        if played != limit && limit - space.block_count() < ENOUGH && self.tape.failure().is_none() {
+            self.begin(number, Some(limit));
+            self.tape.mark(format_args!("begun"));
+        }
+    }
+
+    // After a call that raised the limit of a heap that had begun anew with that: it begins anew with the largest, and one line
+    // more makes it what it was before the call.
+    fn raised(&mut self, number: u32, before: impl FnOnce(&Self) -> String) {
+        let own_limit = self.grants.get(&number).and_then(|grants| grants.own_limit);
+        let limit = self.heaps.heap(number).map(|heap| heap.allocator().max_allocs());
+        if own_limit.is_some() && own_limit != limit && self.tape.failure().is_none() {
+            self.begin(number, None);
+            let line = before(self);
+            self.line(number, format_args!("{line}"));
+            self.tape.mark(format_args!("begun"));
+        }
+    }
+
+    // Writes a line of a heap.
+    pub(crate) fn line(&mut self, number: u32, line: Arguments) {
+        self.tape.write(format_args!("heap {number} {line}"));
+    }
+
+    // Writes a request of a heap, with its name.
+    fn request(&mut self, number: u32, request: Arguments, name: &Option<String>) {
+        if let Some(name) = name {
+            self.tape.write(format_args!("# {name}"));
+        }
+        self.line(number, request);
+    }
+
+    // The same of the next name, which it takes.
+    pub(crate) fn named(&mut self, number: u32, request: Arguments) -> Option<String> {
+        let name = self.name.take();
+        self.request(number, request, &name);
+        name
+    }
+
+    // What makes the calls of a heap that there is.
+    pub(crate) fn calls_of(&mut self, number: u32) -> HeapMut<'_, T> {
+        match self.heaps.heap_mut(number) {
+            Some(heap) => heap,
+            None => unreachable!("a heap of which there is a view is not dropped"),
+        }
+    }
+
+    /// `HeapsOf::heap_mut`: the heap of a number, for the calls of a space with tickets. Of a number that has no heap nothing is
+    /// written.
+    pub fn heap_mut(&mut self, number: u32) -> Option<RecordedHeap<'_, T, W>> {
+        self.heaps.heap(number)?;
+        Some(RecordedHeap::of(self, number))
     }
 
     /// The name of the next request, for who reads the recording. Line ends become spaces.
@@ -313,7 +387,7 @@ impl<T: Tables, W: Write> RecordedHeaps<T, W> {
             return;
         }
         self.tape.mark(format_args!("heap {heap} name {number} {name}"));
-        if let Some((_, names)) = self.grants.get_mut(&heap) {
+        if let Some(Grants { names, .. }) = self.grants.get_mut(&heap) {
             if names.try_reserve(1).is_err() {
                 return self.tape.fail(io::ErrorKind::OutOfMemory.into());
             }
@@ -339,7 +413,7 @@ impl<T: Tables, W: Write> RecordedHeaps<T, W> {
     pub fn name_all<V>(&mut self, heap: u32, beside: &Beside<V>, name: impl Fn(&V) -> &str) {
         let realm = self.heaps.realm();
         for (ticket, value) in beside {
-            let is_named = self.grants.get(&heap).is_some_and(|grants| grants.1.contains_key(&ticket.name()));
+            let is_named = self.grants.get(&heap).is_some_and(|grants| grants.names.contains_key(&ticket.name()));
             if !is_named {
                 self.name_live(Place::from_ticket(heap, realm, ticket), name(value));
             }
@@ -347,28 +421,28 @@ impl<T: Tables, W: Write> RecordedHeaps<T, W> {
     }
 
     // The number of the grant of a place: 0, which no grant has, where it is not live.
-    fn number(&self, place: Place) -> u32 {
+    pub(crate) fn number(&self, place: Place) -> u32 {
         let live = self.heaps.is_live(place).then_some(place.name());
-        self.grants.get(&place.heap).map_or(0, |grants| grants.0.number(live))
+        self.grants.get(&place.heap).map_or(0, |grants| grants.numbers.number(live))
     }
 
     // Writes a granted request, with its name.
-    fn grant(&mut self, place: Place, request: std::fmt::Arguments, name: Option<String>) {
-        if let Some(name) = &name {
-            self.tape.write(format_args!("# {name}"));
-        }
-        let heap = place.heap;
-        self.tape.write(format_args!("heap {heap} {request}"));
-        if let Err(error) = self.keep(place, name) {
+    fn grant(&mut self, place: Place, request: Arguments, name: Option<String>) {
+        self.request(place.heap, request, &name);
+        self.keep(place, name);
+    }
+
+    // The next grant of a heap is that of a place. Where memory is out the recording ends, and not the program.
+    pub(crate) fn keep(&mut self, place: Place, name: Option<String>) {
+        if let Err(error) = self.try_keep(place, name) {
             self.tape.fail(error);
         }
     }
 
-    // The next grant of a heap is that of a place. An error where memory is out: the recording ends, and not the program.
-    fn keep(&mut self, place: Place, name: Option<String>) -> io::Result<()> {
+    fn try_keep(&mut self, place: Place, name: Option<String>) -> io::Result<()> {
         let out = |_| io::Error::from(io::ErrorKind::OutOfMemory);
         self.grants.try_reserve(1).map_err(out)?;
-        let (numbers, names) = self.grants.entry(place.heap).or_default();
+        let Grants { numbers, names, .. } = self.grants.entry(place.heap).or_default();
         numbers.grant(place.name())?;
         names.remove(&place.name());
         // one of blanks alone is none
@@ -377,6 +451,11 @@ impl<T: Tables, W: Write> RecordedHeaps<T, W> {
             names.insert(place.name(), name);
         }
         Ok(())
+    }
+
+    // A name is that of no call.
+    pub(crate) fn unname(&mut self) {
+        self.name = None;
     }
 
     /// `HeapsOf::allocate`.
@@ -428,6 +507,8 @@ impl<T: Tables, W: Write> RecordedHeaps<T, W> {
                         let (size, nodes) = (space.size(), self.nodes(heap, space.max_allocs()));
                         self.tape.write(format_args!("heap {heap} space {size} nodes {nodes} index {bits}"));
                     }
+                } else {
+                    self.raised(heap, |heaps| format!("free {}", heaps.number(granted.place)));
                 }
                 // a fresh heap grants its first range at 0, a multiple of all; a larger one all its units
                 match (granted.is_new, align) {
@@ -477,7 +558,7 @@ impl<T: Tables, W: Write> RecordedHeaps<T, W> {
             (Some(size), None) => self.tape.write(format_args!("none relocate {size} {align}")),
             (Some(size), Some(granted)) => {
                 let second = granted.place;
-                let named = self.grants.get(&place.heap).and_then(|grants| grants.1.get(&place.name()));
+                let named = self.grants.get(&place.heap).and_then(|grants| grants.names.get(&place.name()));
                 let is_named = named.is_some();
                 let of = format!("(of grant {}, heap {})", self.number(place), place.heap);
                 let name = named.map_or_else(|| of.clone(), |name| format!("{name} {of}"));
@@ -486,7 +567,7 @@ impl<T: Tables, W: Write> RecordedHeaps<T, W> {
                     _ => self.grant(second, format_args!("align {size} {align}"), Some(name)),
                 }
                 // where a range comes from is no name of its own
-                if let Some((_, names)) = self.grants.get_mut(&second.heap).filter(|_| !is_named) {
+                if let Some(Grants { names, .. }) = self.grants.get_mut(&second.heap).filter(|_| !is_named) {
                     names.remove(&second.name());
                 }
             }
@@ -525,6 +606,7 @@ impl<T: Tables, W: Write> RecordedHeaps<T, W> {
     pub fn extend_heap(&mut self, number: u32, more: u32) -> Result<bool, AllocError> {
         let done = self.heaps.extend_heap(number, more);
         if done == Ok(true) {
+            self.raised(number, |_| format!("retract {more}"));
             self.tape.write(format_args!("heap {number} extend {more}"));
         }
         done
@@ -557,11 +639,12 @@ impl<T: Tables, W: Write> RecordedHeaps<T, W> {
     }
 
     /// `HeapsOf::make_room_aligned`: `align` has to be at least 1. For 0 it panics, and writes nothing. It is room by the step
-    /// of the heap; where none is made nothing is written. Who plays it has the most nodes that the heap may have: where it
-    /// has too few for the request now, and may have more, that may be other room.
+    /// of the heap; where none is made nothing is written.
     #[track_caller]
     pub fn make_room_aligned<F: FnMut(Move<T::Index>)>(&mut self, number: u32, size: u32, align: u32, moved: F) -> Option<RoomCost> {
         let step = self.step(number);
+        // with other nodes it may be other room
+        self.ready(number);
         let cost = self.heaps.make_room_aligned(number, size, align, moved);
         if let (Some(_), Some(step)) = (cost, step) {
             self.tape.write(format_args!("heap {number} room {size} {align} {step}"));

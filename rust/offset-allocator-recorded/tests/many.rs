@@ -25,6 +25,7 @@ fn ranges_of_heaps_change_in_place() {
     assert_eq!((heaps.grow_in_place(places[4], 21), heaps.grow_in_place(places[4], 41)), (Some(true), Some(false)));
     let mut moves = Vec::new();
     assert!(heaps.make_room(0, 24, |it| moves.push((it.from, it.to, it.size))).is_some());
+    let (moved, units) = (moves.len(), moves.iter().map(|it| it.2).sum::<u32>());
     assert!(heaps.free(places[1]) && heaps.compact_heap(0, |it| moves.push((it.from, it.to, it.size))));
     assert!(!heaps.compact_heap(7, |_| ()) && heaps.make_room(7, 1, |_| ()).is_none());
     assert_eq!(heaps.shrink(places[1], 1), None);
@@ -33,8 +34,11 @@ fn ranges_of_heaps_change_in_place() {
     assert_eq!(
         text,
         "heap 0 space 100 nodes 16 index 16\nheap 0 alloc 20\nheap 0 alloc 20\nheap 0 alloc 10\nheap 0 alloc 10\nheap 0 alloc 20\nheap 0 shrink 1 10\n\
-         heap 0 grow 5 21\nheap 0 room 24 1 1\nheap 0 free 2\nheap 0 compact 1\n"
+         heap 0 grow 5 21\nheap 0 space 100 nodes 8 index 16\nheap 0 at 0 20\nheap 0 at 20 20\nheap 0 at 40 10\nheap 0 at 50 10\nheap 0 at 60 40\n\
+         heap 0 shrink 5 21\nheap 0 shrink 1 10\n#! begun\nheap 0 room 24 1 1\nheap 0 free 2\nheap 0 compact 1\n"
     );
+    // with eight nodes it is the room that it was
+    assert_eq!(answers(&text).iter().filter(|line| line.starts_with("heap 0 ranges ")).collect::<Vec<_>>(), [&format!("heap 0 ranges {} units {}", moved, units)]);
     assert!(!answers(&text).iter().any(|line| line.ends_with("none") && !line.contains("room")), "{text}");
 }
 

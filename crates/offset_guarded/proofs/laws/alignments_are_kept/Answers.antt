@@ -1,4 +1,5 @@
 use Rattle.offset_guarded.proofs.Asked.{asked, inherited, taken, taken_all}
+use Rattle.offset_guarded.proofs.Answered.{takes}
 use Rattle.offset_guarded.proofs.laws.alignments_are_kept.Goals as goal
 
 pub returns-clause-each : goal.returns-clause-each
@@ -12,3 +13,6 @@ returns-clause-second c t u a g h s k = inherited t u a g h s k
 
 pub returns-clause-lists : goal.returns-clause-lists
 returns-clause-lists c n align g h i t cs rs s all r e = ((taken_all h cs rs i all t align (asked n align g h t s)).1 r e).1
+
+pub returns-clause-answers : goal.returns-clause-answers
+returns-clause-answers c = takes

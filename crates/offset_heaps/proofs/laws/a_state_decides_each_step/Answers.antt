@@ -1,4 +1,4 @@
-use Rattle.offset_heaps.proofs.DecidedCalls.{allocates_decided, compacts_all_decided, compacts_one_decided, drops_decided, drops_empty_decided, emptiest_decided, free_decided, gives_up_decided, lengthens_decided, relocates_decided, relocates_own_decided, resets_decided, room_decided, size_decided, totals_decided}
+use Rattle.offset_heaps.proofs.DecidedCalls.{allocates_decided, compacts_all_decided, compacts_one_decided, drops_decided, drops_empty_decided, emptiest_decided, free_decided, gives_up_decided, lengthens_decided, on_heap_decided, relocates_decided, relocates_own_decided, resets_decided, room_decided, size_decided, totals_decided}
 use Rattle.offset_heaps.proofs.{DecidedTight.tights_decided, DecidedWalks.before_decided, DecidedWalks.last_decided, Twins.range_twins}
 use Rattle.offset_heaps.proofs.laws.a_state_decides_each_step.Goals as goal
 
@@ -58,3 +58,6 @@ returns-clause-extend_heap c = lengthens_decided
 
 pub returns-clause-allocate_tight : goal.returns-clause-allocate_tight
 returns-clause-allocate_tight c = tights_decided
+
+pub returns-clause-on_heap : goal.returns-clause-on_heap
+returns-clause-on_heap c = on_heap_decided

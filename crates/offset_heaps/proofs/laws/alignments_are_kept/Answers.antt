@@ -22,3 +22,6 @@ returns-clause-on_heap c = place.on_heap
 
 pub returns-clause-lasts_on_heap : goal.returns-clause-lasts_on_heap
 returns-clause-lasts_on_heap c k n align a t hs ks later formed by d = lasts_in k n align a t (λ g h. TakesAligned n align g h (Some t)) hs ks later formed (λ g h s. (s.0, s.3.second)) by d (dvd_trans a d (dvd_of_mod-eq-zero align by.by.2))
+
+pub returns-clause-answered_on_heap : goal.returns-clause-answered_on_heap
+returns-clause-answered_on_heap c = place.answered

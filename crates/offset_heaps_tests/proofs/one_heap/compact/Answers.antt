@@ -1,7 +1,9 @@
-use Rattle.std.proofs.Common.{None}
-use Rattle.offset_guarded.specs.Calls.Call.{Compact}
-use Rattle.offset_heaps_tests.proofs.Steps.{part_of}
+use Rattle.std.proofs.Common.{refl}
+use Rattle.offset_guarded.proofs.Noted.{compacts_noted}
 use Rattle.offset_heaps_tests.proofs.one_heap.compact.Goals as goal
 
 pub returns : goal.returns
-returns c = c.alignments_are_kept.ensures.on_heap _ (Compact) None _ _ (part_of _ _ _ _ _ (λ g h p. (p.0, p.2, p.1)) c.compact.ensures.change)
+returns c =
+    let a = c.compact.ensures.change in
+    let n = compacts_noted _ _ _ a.before a.after c.compact.result a.by in
+    (n.0, record { before = a.before; after = a.after; heap = a.heap; by = (c.compact.result, refl, n.1); heaps = a.heaps })

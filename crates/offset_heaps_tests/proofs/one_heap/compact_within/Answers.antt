@@ -1,7 +1,9 @@
-use Rattle.std.proofs.Common.{None}
-use Rattle.offset_guarded.specs.Calls.Call.{Compact_within}
-use Rattle.offset_heaps_tests.proofs.Steps.{part_of}
+use Rattle.std.proofs.Common.{refl}
+use Rattle.offset_guarded.proofs.Noted.{compacts_within_noted}
 use Rattle.offset_heaps_tests.proofs.one_heap.compact_within.Goals as goal
 
 pub returns : goal.returns
-returns c = c.alignments_are_kept.ensures.on_heap _ (Compact_within) None _ _ (part_of _ _ _ _ _ (λ g h p. (p.0, p.2, p.1)) c.compact_within.ensures.change)
+returns c =
+    let a = c.compact_within.ensures.change in
+    let n = compacts_within_noted _ _ _ c.args.from c.args.units c.args.ranges a.before a.after c.compact_within.result a.by in
+    (n.0, record { before = a.before; after = a.after; heap = a.heap; by = (c.compact_within.result, refl, n.1); heaps = a.heaps })

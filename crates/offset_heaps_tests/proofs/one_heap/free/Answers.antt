@@ -1,7 +1,6 @@
-use Rattle.std.proofs.Common.{None}
-use Rattle.offset_guarded.specs.Calls.Call.{Free}
+use Rattle.std.proofs.Common.{refl}
 use Rattle.offset_heaps_tests.proofs.Steps.{part_of}
 use Rattle.offset_heaps_tests.proofs.one_heap.free.Goals as goal
 
 pub returns : goal.returns
-returns c = c.alignments_are_kept.ensures.on_heap _ (Free c.args.ticket) None _ _ (part_of _ _ _ _ _ (λ g h p. p.0) c.free.ensures.change)
+returns c = part_of _ _ _ _ _ (λ g h p. (c.free.result, refl, p, refl)) c.free.ensures.change

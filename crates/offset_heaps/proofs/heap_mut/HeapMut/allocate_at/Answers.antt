@@ -18,6 +18,6 @@ returns-clause-change g c =
       before = c.heap_mut.result.now;
       after = c.allocate_at-result.new.self;
       heap = search rules;
-      by = ((e.grants, e.same, e.same_step), e.serials, e.granted, e.step, e.accesses_max);
+      by = (record { grants = e.grants; same = e.same; serials = e.serials }, e.same_step, e.granted, e.begins, e.step, e.accesses_max);
       heaps = search rules;
     }

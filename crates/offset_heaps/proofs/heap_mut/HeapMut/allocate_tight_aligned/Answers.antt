@@ -18,6 +18,6 @@ returns-clause-change g c =
       before = c.heap_mut.result.now;
       after = c.allocate_tight_aligned-result.new.self;
       heap = search rules;
-      by = ((e.grants, e.same, e.aligned, e.joined), e.serials, e.can_hold, e.step, e.accesses_max);
+      by = (record { grants = e.grants; same = e.same; serials = e.serials }, record { aligned = e.aligned; joined = e.joined }, e.can_hold, e.step, e.accesses_max);
       heaps = search rules;
     }

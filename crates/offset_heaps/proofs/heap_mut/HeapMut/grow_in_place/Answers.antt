@@ -18,6 +18,6 @@ returns-clause-change g c =
       before = c.heap_mut.result.now;
       after = c.grow_in_place-result.new.self;
       heap = search rules;
-      by = (e.others, e.kept, e.serials, e.table, e.live, e.done, e.range, e.same, e.not_live, e.step, e.accesses_max);
+      by = record { live = e.live; done = e.done; range = e.range; others = e.others; kept = e.kept; same = e.same; not_live = e.not_live; step = e.step; serials = e.serials; table = e.table; accesses = e.accesses_max };
       heaps = search rules;
     }

@@ -18,6 +18,6 @@ returns-clause-change g c =
       before = c.heap_mut.result.now;
       after = c.relocate-result.new.self;
       heap = search rules;
-      by = ((e.grants, e.same, e.same_step, (λ some. (e.live some).0), e.aligned), e.serials, e.before, (λ some. (e.live some).1), e.none, e.step, e.accesses_max);
+      by = (record { live = e.live; request = record { grants = e.grants; same = e.same; serials = e.serials }; before = e.before; accesses = e.accesses_max }, e.same_step, e.aligned, e.none, e.step);
       heaps = search rules;
     }

@@ -19,6 +19,6 @@ returns-clause-change g c =
       before = c.heap_mut.result.now;
       after = c.relocate_unaligned-result.new.self;
       heap = search rules;
-      by = ((e.grants, e.same, e.same_step), e.serials, e.before, e.live, e.step, e.accesses_max);
+      by = (record { live = e.live; request = record { grants = e.grants; same = e.same; serials = e.serials }; before = e.before; accesses = e.accesses_max }, e.same_step, e.step);
       heaps = search rules;
     }

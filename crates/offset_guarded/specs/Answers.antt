@@ -1,0 +1,275 @@
+-- What each call of a space with tickets returns and leaves: a relation for each, which its call on one heap of many has too.
+use Rattle.std.specs.Prelude.{◌≡◌, ◌↔◌, ℕ, ◌+◌, ◌*◌, ◌%◌, ◌≤◌, ◌⊎◌, Bool, true, false, List, [], ◌∷◌, ◌++◌, Option, Some, None, IfSome, IsSome, IsTrue, option_map, if◌then◌else◌, length, max, min}
+use Rattle.std.specs.Int.{◌∣◌, IsGcd}
+use Rattle.std.specs.List.{FoldsTo}
+use Rattle.offset_allocator.specs.AtOffset as at
+use Rattle.offset_allocator.specs.Classes.{down, up, value}
+use Rattle.offset_allocator.specs.Moving.Budget as frames
+use Rattle.offset_allocator.specs.Moving.BySteps as steps
+use Rattle.offset_allocator.specs.Moving.Compacting as slide
+use Rattle.offset_allocator.specs.Moving.Compacting.{Move}
+use Rattle.offset_allocator.specs.Moving.Relocating as second
+use Rattle.offset_allocator.specs.Moving.Relocating.{offset_of}
+use Rattle.offset_allocator.specs.Moving.Retracting as end
+use Rattle.offset_allocator.specs.Moving.Room as room
+use Rattle.offset_allocator.specs.Moving.Room.{IsLeastCost, ranges_of}
+use Rattle.offset_allocator.specs.Moving.RoomBySteps as room_by
+use Rattle.offset_allocator.specs.Moving.RoomBySteps.{IsLeastCostBy, names_short}
+use Rattle.offset_allocator.specs.Ranges.{size_of}
+use Rattle.offset_allocator.specs.Relations as space
+use Rattle.offset_allocator.specs.Requests.{CanGrant, blocks_needed, units_needed}
+use Rattle.offset_allocator.specs.Resizing as size
+use Rattle.offset_allocator.specs.Tight as tight
+use Rattle.offset_allocator.specs.Tight.{CanHold}
+use Rattle.offset_allocator.specs.View.{View, bin_at, count_used, reported_largest}
+use Rattle.offset_allocator.specs.declared.moves.over_frames.Progress.{Progress}
+use Rattle.offset_allocator.specs.declared.moves.room.RoomCost.{RoomCost}
+use Rattle.offset_guarded.specs.Guard.{CoversNodes, Grants, Guard, HasSerialLeft, HasUnits, IsLive, IsSame, KeepsAlignments, KeepsAll, KeepsDivisors, KeepsLive, KeepsOthers, KeepsSerials, KeepsSizes, Ticket, handle_in, range_of}
+use Rattle.offset_guarded.specs.Step.{IsJoined}
+
+-- ---- requests
+-- a request for n units is granted with the next serial, or leaves all as it was
+pub record Requests (n : ℕ) (g h : Guard) (r : Option Ticket) : Type 0 where
+  pub grants : IfSome r (Grants n g h)
+  pub same : r ≡ None → IsSame g h
+  pub serials : r ≡ None → h ≡ record g { space = h.space }
+
+-- a grant begins at a multiple of an alignment, and takes it into the step
+pub record Aligns (align : ℕ) (g h : Guard) (r : Option Ticket) : Type 0 where
+  pub aligned : IfSome r (λ t. t.offset % align ≡ 0)
+  pub joined : IfSome r (λ _. IsJoined g.step align h.step)
+
+abbrev pub Allocates : ℕ → Guard → Guard → Option Ticket → Type 0
+Allocates n g h r = Requests n g h r × (h.step ≡ g.step)
+    × (1 ≤ n → (IsSome r ↔ (HasSerialLeft g × (n ≤ reported_largest g.space))))
+    × (IsSome r ↔ (HasSerialLeft g × CanGrant 1 n g.space))
+    × (HasSerialLeft g → space.Allocates n g.space h.space (option_map handle_in r))
+    × (h.space.accesses ≤ g.space.accesses + 64)
+
+abbrev pub AllocatesAligned : ℕ → ℕ → Guard → Guard → Option Ticket → Type 0
+AllocatesAligned n align g h r = Requests n g h r × Aligns align g h r
+    × (IsSome r ↔ (HasSerialLeft g × CanGrant (blocks_needed align) (units_needed n align) g.space))
+    × (HasSerialLeft g → space.Aligns n align g.space h.space (option_map handle_in r))
+    × (h.space.accesses ≤ g.space.accesses + 128)
+
+abbrev pub AllocatesTight : ℕ → Guard → Guard → Option Ticket → Type 0
+AllocatesTight n g h r = Requests n g h r × (h.step ≡ g.step)
+    × (IsSome r ↔ (HasSerialLeft g × CanHold n 1 g.space))
+    × (HasSerialLeft g → tight.AlignsTight n 1 g.space h.space (option_map handle_in r))
+    × (h.space.accesses ≤ g.space.accesses + 140 + 6 * length (bin_at g.space.bins (down n)))
+
+abbrev pub AllocatesTightAligned : ℕ → ℕ → Guard → Guard → Option Ticket → Type 0
+AllocatesTightAligned n align g h r = Requests n g h r × Aligns align g h r
+    × (IsSome r ↔ (HasSerialLeft g × CanHold n align g.space))
+    × (HasSerialLeft g → tight.AlignsTight n align g.space h.space (option_map handle_in r))
+    × (h.space.accesses ≤ g.space.accesses + 140 + 6 * length (tight.listed_from (down n) g.space.bins))
+
+-- by an offset, and units
+abbrev pub AllocatesAt : ℕ → ℕ → Guard → Guard → Option Ticket → Type 0
+AllocatesAt offset n g h r = Requests n g h r × (h.step ≡ g.step)
+    × (IsSome r ↔ (HasSerialLeft g × at.CanGrantAt offset n g.space))
+    × IfSome r (λ t. t.offset ≡ offset)
+    × (HasSerialLeft g → at.AllocatesAt offset n g.space h.space (option_map handle_in r))
+    × (h.space.accesses ≤ g.space.accesses + 80 + 3 * length g.space.blocks)
+
+-- a second range of as many units is granted for that of a live ticket, and ends where that begins, or before
+pub record RequestsSecond (t : Ticket) (g h : Guard) (r : Option Ticket) : Type 0 where
+  pub live : IsSome r → IsLive t g × HasSerialLeft g
+  pub request : Requests (size_of t.name g.space) g h r
+  pub before : IfSome r (λ u. u.offset + size_of t.name g.space ≤ offset_of t.name g.space)
+  pub accesses : h.space.accesses ≤ g.space.accesses + 67
+
+-- at each alignment that the step and the offset of the first range have
+abbrev pub Relocates : Ticket → Guard → Guard → Option Ticket → Type 0
+Relocates t g h r = RequestsSecond t g h r × (h.step ≡ g.step)
+    × IfSome r (λ u. (a : ℕ) → a ∣ g.step → a ∣ offset_of t.name g.space → a ∣ u.offset)
+    × (g.step ≡ 0 → (r ≡ None) × (h ≡ g))
+    × (IsLive t g → HasSerialLeft g → 1 ≤ g.step → (align : ℕ) → IsGcd (offset_of t.name g.space) g.step align
+    → second.RelocatesAligned t.name align g.space h.space (option_map handle_in r))
+
+abbrev pub RelocatesAligned : Ticket → ℕ → Guard → Guard → Option Ticket → Type 0
+RelocatesAligned t align g h r = RequestsSecond t g h r × Aligns align g h r
+    × (IsLive t g → HasSerialLeft g → second.RelocatesAligned t.name align g.space h.space (option_map handle_in r))
+
+abbrev pub RelocatesUnaligned : Ticket → Guard → Guard → Option Ticket → Type 0
+RelocatesUnaligned t g h r = RequestsSecond t g h r × (h.step ≡ g.step)
+    × (IsLive t g → HasSerialLeft g → second.Relocates t.name g.space h.space (option_map handle_in r))
+
+-- ---- ranges and the space in place
+abbrev pub Frees : Ticket → Guard → Guard → Bool → Type 0
+Frees t g h r = (IsTrue r ↔ IsLive t g) × (range_of t h ≡ None) × KeepsOthers t g h
+    × (r ≡ false → h ≡ g) × (r ≡ true → space.Frees t.name g.space h.space) × (h ≡ record g { space = h.space })
+    × (h.space.accesses ≤ g.space.accesses + 128)
+
+-- the range of a ticket has n units, from its first one on, where the space can do it
+pub record Resizes (t : Ticket) (n : ℕ) (Can : View → Type 0) (Step : View → View → Bool → Type 0) (g h : Guard) (r : Option Bool) : Type 0 where
+  pub live : IsSome r ↔ IsLive t g
+  pub done : IfSome r (λ d. IsTrue d ↔ Can g.space)
+  pub range : r ≡ Some true → HasUnits t n g h
+  pub others : KeepsOthers t g h
+  pub kept : KeepsLive g h
+  pub same : r ≡ Some false → IsSame g h
+  pub not_live : r ≡ None → h ≡ g
+  pub step : IfSome r (Step g.space h.space)
+  pub serials : KeepsSerials g h
+  pub table : IfSome r (λ _. CoversNodes g h)
+  pub accesses : h.space.accesses ≤ g.space.accesses + 128
+
+abbrev pub Shrinks : Ticket → ℕ → Guard → Guard → Option Bool → Type 0
+Shrinks t n g h r = Resizes t n (size.CanShrink t.name n) (size.Shrinks t.name n) g h r
+
+abbrev pub Grows : Ticket → ℕ → Guard → Guard → Option Bool → Type 0
+Grows t n g h r = Resizes t n (size.CanGrow t.name n) (size.Grows t.name n) g h r
+
+abbrev pub Extends : ℕ → Guard → Guard → Bool → Type 0
+Extends more g h r = KeepsAll g h × KeepsSerials g h × CoversNodes g h
+    × (IsTrue r ↔ (1 ≤ more → space.CanExtend more g.space)) × (r ≡ false → IsSame g h)
+    × (IsTrue r → h.space.size ≡ g.space.size + more) × space.Extends more g.space h.space r
+    × (h.space.accesses ≤ g.space.accesses + 128)
+
+abbrev pub Retracts : ℕ → Guard → Guard → Bool → Type 0
+Retracts less g h r = KeepsAll g h × (h ≡ record g { space = h.space })
+    × (IsTrue r ↔ (1 ≤ less → end.CanRetract less g.space)) × (r ≡ false → IsSame g h)
+    × (IsTrue r → h.space.size + less ≡ g.space.size) × end.Retracts less g.space h.space r
+    × (h.space.accesses ≤ g.space.accesses + 64)
+
+abbrev pub RaisesStep : ℕ → Guard → Guard → Type 0
+RaisesStep align g h = IsJoined g.step align h.step × (h ≡ record g { step = h.step })
+
+abbrev pub Resets : Guard → Guard → Type 0
+Resets g h = ((t : Ticket) → range_of t h ≡ None) × (h ≡ record g { space = h.space; step = 1 })
+    × space.Resets g.space h.space × (h.space.accesses ≤ g.space.accesses + min (130 * count_used g.space.blocks + 2) 270)
+
+-- ---- ranges that move: a closure is called with each move
+module _ {F : Type 0} (R : F → Move → F → Type 0) where
+  abbrev pub Compacts : F → Guard → Guard → F → Bool → Type 0
+  Compacts f g h f' r = KeepsSizes g h × (h ≡ record g { space = h.space }) × KeepsAlignments g h
+      × (g.step ≡ 0 → (r ≡ false) × (h ≡ g)) × (1 ≤ g.step → steps.CompactsBy g.step g.space h.space r)
+      × FoldsTo R f (if r then steps.moves_by g.step 0 0 g.space.blocks else []) f'
+      × (h.space.accesses ≤ g.space.accesses + 21 * length g.space.blocks + 40)
+
+  abbrev pub CompactsBy : ℕ → F → Guard → Guard → F → Bool → Type 0
+  CompactsBy s f g h f' r = KeepsSizes g h × (h ≡ record g { space = h.space }) × KeepsDivisors s g h
+      × steps.CompactsBy s g.space h.space r × FoldsTo R f (if r then steps.moves_by s 0 0 g.space.blocks else []) f'
+      × (h.space.accesses ≤ g.space.accesses + 21 * length g.space.blocks + 40)
+
+  abbrev pub CompactsUnaligned : F → Guard → Guard → F → Type 0
+  CompactsUnaligned f g h f' = KeepsSizes g h × (h ≡ record g { space = h.space })
+      × slide.Compacts g.space h.space × FoldsTo R f (slide.moves 0 0 g.space.blocks) f'
+      × (h.space.accesses ≤ g.space.accesses + 10 * length g.space.blocks + 384)
+
+  -- one range moves, or as many as these units and ranges allow
+  abbrev pub IsWithin : ℕ → ℕ → Option Progress → Type 0
+  IsWithin units ranges r = IfSome r (λ p. (p.ranges ≡ 1) ⊎ ((p.units ≤ units) × (p.ranges ≤ ranges)))
+
+  -- from an offset on, by these units and ranges
+  abbrev pub CompactsWithin : ℕ → ℕ → ℕ → F → Guard → Guard → F → Option Progress → Type 0
+  CompactsWithin from units ranges f g h f' r = KeepsSizes g h × (h ≡ record g { space = h.space }) × KeepsAlignments g h
+      × IsWithin units ranges r × (g.step ≡ 0 → (r ≡ None) × (h ≡ g) × (f' ≡ f))
+      × (1 ≤ g.step → frames.CompactsWithin R g.step from units ranges g.space f r h.space f')
+      × (h.space.accesses ≤ g.space.accesses + 26 * length g.space.blocks + 60)
+      × (h.space.accesses ≤ g.space.accesses + 5 * length g.space.blocks + 42 * max 1 ranges + 60)
+
+  abbrev pub CompactsWithinBy : ℕ → ℕ → ℕ → ℕ → F → Guard → Guard → F → Option Progress → Type 0
+  CompactsWithinBy s from units ranges f g h f' r = KeepsSizes g h × (h ≡ record g { space = h.space }) × KeepsDivisors s g h
+      × IsWithin units ranges r × frames.CompactsWithin R s from units ranges g.space f r h.space f'
+      × (h.space.accesses ≤ g.space.accesses + 26 * length g.space.blocks + 60)
+      × (h.space.accesses ≤ g.space.accesses + 5 * length g.space.blocks + 42 * max 1 ranges + 60)
+
+  -- for a request, by its units and its alignment
+  abbrev pub MakesRoom : ℕ → ℕ → F → Guard → Guard → F → Option RoomCost → Type 0
+  MakesRoom n align f g h f' r = KeepsSizes g h × (h ≡ record g { space = h.space }) × KeepsAlignments g h
+      × (1 ≤ g.step → IsLeastCostBy g.step (value (up (units_needed n align))) (names_short (blocks_needed align) g.space) g.space.blocks r)
+      × IfSome r (λ c. CanGrant (blocks_needed align) (units_needed n align) h.space)
+      × (g.step ≡ 0 → (r ≡ None) × (h ≡ g) × (f' ≡ f))
+      × (1 ≤ g.step → room_by.MakesRoomBy R g.step (value (up (units_needed n align))) (names_short (blocks_needed align) g.space) g.space f r h.space f')
+      × (h.space.accesses ≤ g.space.accesses + 7 * length g.space.blocks + 36 * ranges_of r + 60)
+
+  -- and by a step
+  abbrev pub MakesRoomBy : ℕ → ℕ → ℕ → F → Guard → Guard → F → Option RoomCost → Type 0
+  MakesRoomBy n align s f g h f' r = KeepsSizes g h × (h ≡ record g { space = h.space }) × KeepsDivisors s g h
+      × IsLeastCostBy s (value (up (units_needed n align))) (names_short (blocks_needed align) g.space) g.space.blocks r
+      × IfSome r (λ c. CanGrant (blocks_needed align) (units_needed n align) h.space)
+      × room_by.MakesRoomBy R s (value (up (units_needed n align))) (names_short (blocks_needed align) g.space) g.space f r h.space f'
+      × (h.space.accesses ≤ g.space.accesses + 7 * length g.space.blocks + 36 * ranges_of r + 60)
+
+  abbrev pub MakesRoomUnaligned : ℕ → F → Guard → Guard → F → Option RoomCost → Type 0
+  MakesRoomUnaligned n f g h f' r = KeepsSizes g h × (h ≡ record g { space = h.space })
+      × IsLeastCost (value (up n)) g.space.blocks r
+      × IfSome r (λ c. 1 ≤ c.ranges → CanGrant 1 n h.space)
+      × room.MakesRoom R (value (up n)) g.space f r h.space f'
+      × (h.space.accesses ≤ g.space.accesses + 6 * length g.space.blocks + 40 * ranges_of r + 20)
+
+-- ---- calls as data
+pub data Call : Type 0 where
+  Allocate : ℕ → Call
+  Allocate_aligned : ℕ → ℕ → Call
+  Allocate_tight : ℕ → Call
+  Allocate_tight_aligned : ℕ → ℕ → Call
+  Allocate_at : ℕ → ℕ → Call
+  Relocate : Ticket → Call
+  Relocate_aligned : Ticket → ℕ → Call
+  Relocate_unaligned : Ticket → Call
+  Free : Ticket → Call
+  Shrink : Ticket → ℕ → Call
+  Grow_in_place : Ticket → ℕ → Call
+  Extend : ℕ → Call
+  Retract : ℕ → Call
+  Raise_step : ℕ → Call
+  Reset : Call
+  Compact : Call
+  Compact_by : ℕ → Call
+  Compact_unaligned : Call
+  Compact_within : ℕ → ℕ → ℕ → Call
+  Compact_within_by : ℕ → ℕ → ℕ → ℕ → Call
+  Make_room : ℕ → ℕ → Call
+  Make_room_by : ℕ → ℕ → ℕ → Call
+  Make_room_unaligned : ℕ → Call
+
+-- what one returns
+pub data Answer : Type 0 where
+  Requested : Option Ticket → Answer
+  Was_done : Bool → Answer
+  Resized : Option Bool → Answer
+  Progressed : Option Progress → Answer
+  Room_made : Option RoomCost → Answer
+  Nothing : Answer
+
+-- moves, in their order
+abbrev pub Notes : List Move → Move → List Move → Type 0
+Notes ms m ns = ns ≡ ms ++ m ∷ []
+
+-- a call is answered: what it returns, its moves, and what it leaves
+abbrev pub Answers : Call → Guard → Guard → Answer → List Move → Type 0
+Answers (Allocate n) g h a ms = (r : Option Ticket) × (a ≡ Requested r) × Allocates n g h r × (ms ≡ [])
+Answers (Allocate_aligned n align) g h a ms = (r : Option Ticket) × (a ≡ Requested r) × AllocatesAligned n align g h r × (ms ≡ [])
+Answers (Allocate_tight n) g h a ms = (r : Option Ticket) × (a ≡ Requested r) × AllocatesTight n g h r × (ms ≡ [])
+Answers (Allocate_tight_aligned n align) g h a ms = (r : Option Ticket) × (a ≡ Requested r) × AllocatesTightAligned n align g h r × (ms ≡ [])
+Answers (Allocate_at offset n) g h a ms = (r : Option Ticket) × (a ≡ Requested r) × AllocatesAt offset n g h r × (ms ≡ [])
+Answers (Relocate t) g h a ms = (r : Option Ticket) × (a ≡ Requested r) × Relocates t g h r × (ms ≡ [])
+Answers (Relocate_aligned t align) g h a ms = (r : Option Ticket) × (a ≡ Requested r) × RelocatesAligned t align g h r × (ms ≡ []) × (1 ≤ align)
+Answers (Relocate_unaligned t) g h a ms = (r : Option Ticket) × (a ≡ Requested r) × RelocatesUnaligned t g h r × (ms ≡ [])
+Answers (Free t) g h a ms = (r : Bool) × (a ≡ Was_done r) × Frees t g h r × (ms ≡ [])
+Answers (Shrink t n) g h a ms = (r : Option Bool) × (a ≡ Resized r) × Shrinks t n g h r × (ms ≡ [])
+Answers (Grow_in_place t n) g h a ms = (r : Option Bool) × (a ≡ Resized r) × Grows t n g h r × (ms ≡ [])
+Answers (Extend more) g h a ms = (r : Bool) × (a ≡ Was_done r) × Extends more g h r × (ms ≡ [])
+Answers (Retract less) g h a ms = (r : Bool) × (a ≡ Was_done r) × Retracts less g h r × (ms ≡ [])
+Answers (Raise_step align) g h a ms = (a ≡ Nothing) × RaisesStep align g h × (ms ≡ [])
+Answers Reset g h a ms = (a ≡ Nothing) × Resets g h × (ms ≡ [])
+Answers Compact g h a ms = (r : Bool) × (a ≡ Was_done r) × Compacts Notes [] g h ms r
+Answers (Compact_by s) g h a ms = (r : Bool) × (a ≡ Was_done r) × CompactsBy Notes s [] g h ms r
+Answers Compact_unaligned g h a ms = (a ≡ Nothing) × CompactsUnaligned Notes [] g h ms
+Answers (Compact_within from units ranges) g h a ms = (r : Option Progress) × (a ≡ Progressed r) × CompactsWithin Notes from units ranges [] g h ms r
+Answers (Compact_within_by s from units ranges) g h a ms = (r : Option Progress) × (a ≡ Progressed r) × CompactsWithinBy Notes s from units ranges [] g h ms r
+Answers (Make_room n align) g h a ms = (r : Option RoomCost) × (a ≡ Room_made r) × MakesRoom Notes n align [] g h ms r
+Answers (Make_room_by n align s) g h a ms = (r : Option RoomCost) × (a ≡ Room_made r) × MakesRoomBy Notes n align s [] g h ms r
+Answers (Make_room_unaligned n) g h a ms = (r : Option RoomCost) × (a ≡ Room_made r) × MakesRoomUnaligned Notes n [] g h ms r
+
+-- a call goes by the step of the space, or by a multiple of it: so it keeps every alignment that was asked for
+abbrev pub KeepsStep : Call → Guard → Type 0
+KeepsStep (Compact_by s) g = g.step ∣ s
+KeepsStep (Compact_within_by s from units ranges) g = g.step ∣ s
+KeepsStep (Make_room_by n align s) g = g.step ∣ s
+KeepsStep Compact_unaligned g = ⊥
+KeepsStep (Make_room_unaligned n) g = ⊥
+KeepsStep c g = Unit {0}
