@@ -84,7 +84,7 @@ void oneHeap() {
     CHECK(seen.at(0).sizeOf(first) == 1000 && !seen.at(1));
     const std::vector<uint64_t> one = trace(space, first), other = trace(heap, first);
     CHECK(one == other && one.size() > 45);
-    CHECK(!heaps.isLive(granted.place) && heaps.totals().units == 1124 && heaps.totals().liveUnits == 0);
+    CHECK(!heaps.isLive(granted.place) && heaps.totals().units == 1064 && heaps.totals().liveUnits == 0);
 }
 
 int main() {
