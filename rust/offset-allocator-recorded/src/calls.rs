@@ -71,11 +71,14 @@ macro_rules! calls_with_tickets {
         /// `GuardedOf::relocate`: the line has the alignment that the range keeps by the step of the space. For a ticket that is
         /// not live, `relocate 0` is written; where the space has no step, nothing.
         pub fn relocate(&mut self, ticket: Ticket) -> Option<Ticket> {
-            self.ready();
             match self.offset_of(ticket) {
-                None => self.request(format_args!("relocate 0")),
+                None => {
+                    self.ready();
+                    self.request(format_args!("relocate 0"));
+                }
                 Some(offset) => {
                     let (mut align, mut rest) = (self.step_of_call()?, offset);
+                    self.ready();
                     while rest != 0 {
                         (align, rest) = (rest, align % rest);
                     }

@@ -639,12 +639,15 @@ impl<T: Tables, W: Write> RecordedHeaps<T, W> {
     }
 
     /// `HeapsOf::make_room_aligned`: `align` has to be at least 1. For 0 it panics, and writes nothing. It is room by the step
-    /// of the heap; where none is made nothing is written.
+    /// of the heap. Where none is made no line of it is written, and where the heap has no step, nothing.
     #[track_caller]
     pub fn make_room_aligned<F: FnMut(Move<T::Index>)>(&mut self, number: u32, size: u32, align: u32, moved: F) -> Option<RoomCost> {
+        assert!(align >= 1, "the alignment must be at least 1");
         let step = self.step(number);
-        // with other nodes it may be other room
-        self.ready(number);
+        if step.is_some() {
+            // with other nodes it may be other room
+            self.ready(number);
+        }
         let cost = self.heaps.make_room_aligned(number, size, align, moved);
         if let (Some(_), Some(step)) = (cost, step) {
             self.tape.write(format_args!("heap {number} room {size} {align} {step}"));

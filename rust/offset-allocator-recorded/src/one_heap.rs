@@ -11,7 +11,7 @@ use std::ops::Deref;
 
 /// `HeapMut`, whose calls are written as they happen: `heap_mut` of [`RecordedHeaps`] returns one. The line of a call is that
 /// which [`Recorded`](crate::Recorded) writes for it, with the number of the heap before it, and is written and flushed before the
-/// call is made. It derefs to the `GuardedOf`, for all questions.
+/// call is made; that of `retract` after it. It derefs to the `GuardedOf`, for all questions.
 ///
 /// Whoever plays the recording has the most nodes that a heap may get. Where the heap has fewer, of which a call may need the last,
 /// it first begins anew, with the node limit that it has, and again with the largest once a call of `Heaps` has raised that:
