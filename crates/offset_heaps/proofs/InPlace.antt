@@ -5,7 +5,7 @@ use Rattle.std.proofs.Math.Nat.{dvd_refl, dvd_trans}
 use Rattle.std.specs.Int.{◌∣◌}
 use Rattle.offset_allocator.specs.Ranges.{Range, size_of}
 use Rattle.offset_allocator.specs.Moving.Compacting.{Move}
-use Rattle.offset_guarded.specs.Answers.{Answer, Answers, Call, KeepsStep}
+use Rattle.offset_guarded.specs.Answers.{Answer, Call, KeepsStep}
 use Rattle.offset_guarded.proofs.Answered.{takes}
 use Rattle.offset_guarded.specs.Calls as tickets
 use Rattle.offset_guarded.specs.Calls.{Moves, TakesAligned, TakesPlain, TakesSecond, TakesUnits}
@@ -14,7 +14,8 @@ use Rattle.offset_guarded.specs.Guard.{AreAlike, Grants, Guard, HasUnits, IsSame
 use Rattle.offset_guarded.proofs.Offsets.{kept_alignments}
 use Rattle.offset_guarded.proofs.Twins.{range_twin, same_twin}
 use Rattle.offset_heaps.specs.Changing.{Alters}
-use Rattle.offset_heaps.specs.Heaps.{Heaps}
+use Rattle.offset_heaps.specs.Calls.{TakesOn}
+use Rattle.offset_heaps.specs.Heaps.{Heaps, heap_at}
 use Rattle.offset_heaps.specs.Histories.{IsStep, KeepsIn}
 use Rattle.offset_heaps.proofs.Alignments.{freed_live, sized}
 use Rattle.offset_heaps.proofs.StillRanges.{alike_range, emptied, freed, granted, stayed}
@@ -143,7 +144,7 @@ taken Stored g h r s = hidden g h (ap (λ (z : Guard). z.realm) s) (ap (λ (z : 
 pub on_heap : (k : ℕ) (c : tickets.Call) (r : Option Ticket) (hs ks : Heaps) → Alters k (λ g h. tickets.Takes c g h r) hs ks → IsStep hs ks
 on_heap k c r hs ks a = inr (inr (inr (inr (inr (inl (k, record { before = a.before; after = a.after; heap = a.heap; by = taken c a.before a.after r a.by; heaps = a.heaps }))))))
 
-pub answered : (k : ℕ) (c : Call) (r : Answer) (ms : List Move) (hs ks : Heaps) → Alters k (λ g h. KeepsStep c g × Answers c g h r ms) hs ks → IsStep hs ks
-answered k c r ms hs ks a =
-    let t = takes c a.before a.after r ms a.by.0 a.by.1 in
+pub answered : (k : ℕ) (c : Call) (r : Answer) (ms : List Move) (hs ks : Heaps) → TakesOn k c hs ks r ms → ((g : Guard) → heap_at k hs ≡ Some g → KeepsStep c g) → IsStep hs ks
+answered k c r ms hs ks a keeps =
+    let t = takes c a.before a.after r ms (keeps a.before a.heap) a.by in
     on_heap k t.0 t.1 hs ks (record { before = a.before; after = a.after; heap = a.heap; by = t.2; heaps = a.heaps })

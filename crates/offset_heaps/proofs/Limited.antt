@@ -1,5 +1,5 @@
--- A heap that a call changes in place keeps its realm and its node limit, and has no fewer units: so the index and the heaps
--- stay right.
+-- A heap that a call changes in place keeps its realm, its node limit and the least units of its number: so the index and the
+-- heaps stay right.
 use Rattle.std.proofs.Common.{◌≡◌, ◌↔◌, ℕ, ◌+◌, ◌≤◌, Bool, true, false, IsTrue, if◌then◌else◌, List, Option, Some, None, IfSome, IsSome, option_map, slice_set, is_some, refl, ap, ◌∙◌, inl, inr, arith}
 use Rattle.std.proofs.lemmas.Bool.{cases_eq, cases_lt, le-ltb, lt-ltb}
 use Rattle.std.specs.Int.{IsGcd}

@@ -187,9 +187,11 @@ pub record MakesRoomIn {F : Type 0} (R : F → Move → F → Type 0) (size alig
 abbrev pub MakesRoomAt : {F : Type 0} → (F → Move → F → Type 0) → ℕ → ℕ → ℕ → Heaps → F → Option RoomCost → Heaps → F → Type 0
 MakesRoomAt R k size align hs f c ks f' = Alters k (MakesRoomIn R size align f c f') hs ks
 
--- the space of the heap of a number gives up units at its end, where it can, and where the heap has as many as it has at least
--- after it; else all stays
-pub record GivesUpUnits (limits : Limits) (k less : ℕ) (r : Bool) (g h : Guard) : Type 0 where
+-- units at the end of the heap of a number go, where its space can do it, and where the heap has its least units after it; else all
+-- stays
+pub record RetractsTo (limits : Limits) (k less : ℕ) (r : Bool) (g h : Guard) : Type 0 where
   pub done : IsTrue r ↔ ((least_units limits k + less ≤ g.space.size) × (1 ≤ less → CanRetract less g.space))
   pub step : r ≡ true → tickets.Retracts less g h true
   pub same : r ≡ false → guarded.IsSame g h
+  pub serials : h ≡ record g { space = h.space }
+  pub accesses : h.space.accesses ≤ g.space.accesses + 64

@@ -6,7 +6,7 @@ ghost use Rattle.offset_allocator.specs.Moving.Compacting.{IsCalledWith};
 ghost use Rattle.offset_allocator.specs.Moving.Retracting.{CanRetract};
 ghost use Rattle.offset_guarded.specs.Answers as tickets;
 ghost use Rattle.offset_guarded.specs.Guard.{IsSame};
-ghost use Rattle.offset_heaps.specs.Changing.{Alters, GivesUpUnits};
+ghost use Rattle.offset_heaps.specs.Changing.{Alters, RetractsTo};
 ghost use Rattle.offset_heaps.specs.Heaps.{TakesFewAccesses, heap_at};
 ghost use Rattle.offset_heaps.specs.Places.{place_of};
 
@@ -20,6 +20,7 @@ use std::ops::Deref;
 /// The heap of a number, to be changed by the calls of one space with tickets: each does in this heap what it does in a
 /// `GuardedOf`, under the node limit that the heap has now, and no other heap changes. A refused call leaves all heaps as
 /// they were. `heap_mut` of `Heaps` returns one. It derefs to the `GuardedOf`, for all questions.
+/// `retract` leaves the heap its least units.
 ///
 /// A place of `Heaps` and a ticket here are of one grant: `Place::ticket` makes the ticket, `place` the place. A ticket has
 /// the realm of the heap alone, and not that of the `Heaps`: of two whose realms were chosen by hand tickets may be alike.
@@ -97,6 +98,8 @@ fn retract_to<T: Tables>(heap: &mut GuardedOf<T>, least: u32, less: u32) -> bool
         ↔ ((least + less ≤ heap.old.space.size) × (1 ≤ less → CanRetract less heap.old.space)) }
     ensures step { result ≡ true → tickets.Retracts less heap.old heap.new true }
     ensures same { result ≡ false → IsSame heap.old heap.new }
+    ensures serials { heap.new ≡ record heap.old { space = heap.new.space } }
+    ensures accesses { heap.new.space.accesses ≤ heap.old.space.accesses + 64 }
 {
     let size = heap.allocator().size();
     if (least as u64) + (less as u64) > size as u64 {
@@ -682,10 +685,10 @@ impl<T: Tables> HeapMut<'_, T> {
         result
     }
 
-    /// As `GuardedOf::retract` in this heap, as long as it has the units then that it has at least: those that the limits
-    /// give its number, or one where it is a larger heap. So units that it was extended by can go again.
+    /// As `GuardedOf::retract` in this heap, where it leaves the heap its least units: those that the limits give its number,
+    /// or one where it is a larger heap. So units that it was extended by can go again.
     ///
-    /// `false` is returned where it would have fewer, or where its last block is not free or has fewer than `less`; then all is
+    /// `false` is returned where fewer would be left, or where its last block is not free or has fewer than `less`; then all is
     /// as it was.
     ///
     /// ```
@@ -698,7 +701,7 @@ impl<T: Tables> HeapMut<'_, T> {
         ensures number { self.new.number ≡ self.old.number }
         ensures same_reference { self.new.heaps.ghost_name ≡ self.old.heaps.ghost_name }
         ensures change { Alters self.old.number
-            (GivesUpUnits self.old.heaps.now.limits self.old.number less result)
+            (RetractsTo self.old.heaps.now.limits self.old.number less result)
             self.old.heaps.now self.new.heaps.now }
         ensures accesses { TakesFewAccesses self.old.heaps.now self.new.heaps.now }
     {

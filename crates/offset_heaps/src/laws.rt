@@ -191,9 +191,9 @@ pub fn alignments_are_kept()
     ensures on_heap { (k : ℕ) (c : tickets.Call) (r : Option Ticket) (hs ks : Heaps)
         → Alters k (λ g h. tickets.Takes c g h r) hs ks → IsStep hs ks }
     ensures answered_on_heap { (k : ℕ) (c : answers.Call) (a : answers.Answer) (ms : List Move) (hs ks : Heaps)
-        → Alters k (λ g h. answers.KeepsStep c g × answers.Answers c g h a ms) hs ks → IsStep hs ks }
+        → TakesOn k c hs ks a ms → ((g : Guard) → heap_at k hs ≡ Some g → answers.KeepsStep c g) → IsStep hs ks }
     ensures lasts_on_heap { (k n align a : ℕ) (t : Ticket) (hs ks : Heaps) (later : List Heaps) → IsWellFormed hs
-        → Alters k (λ g h. tickets.TakesAligned n align g h (Some t)) hs ks → a ∣ align
+        → Alters k (λ g h. answers.Requests n g h (Some t) × answers.Aligns align g h (Some t)) hs ks → a ∣ align
         → AreSteps ks later → AllByRecursion (BeginsAt a (place_of k hs.realm t)) (ks ∷ later) }
     ensures relocated { (p : Place) (align a : ℕ) → (hs : Heaps) → IsOwnAlign p hs align → a ∣ step_at p.heap hs
         → a ∣ offset_of p hs → a ∣ align }

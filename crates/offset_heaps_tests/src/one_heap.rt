@@ -1,19 +1,24 @@
-//! Each call on one heap of many is a call of tickets, as the laws speak of it: so in the same state it has the same answer and
-//! the same moves. Nothing calls these functions: they are proved.
+//! Each call on one heap of many but `retract` is a call of tickets, as the laws speak of it: so in the same state it has the
+//! same answer and the same moves. Where it goes by the step of the heap, or moves nothing, it is a step of a history too: so
+//! every alignment is kept, and no place of a heap that is gone is live after it. Nothing calls these functions: they are proved.
 
 ghost use Rattle.std.specs.Prelude.{◌≤◌, [], List};
 ghost use Rattle.offset_allocator.specs.Moving.Compacting.{Move};
 ghost use Rattle.offset_guarded.specs.Answers as tickets;
 ghost use Rattle.offset_heaps.specs.Calls.{TakesOn};
+ghost use Rattle.offset_heaps.specs.Histories.{IsStep};
 
 use offset_allocator::{ByNode, Move as Moved, Progress, RoomCost};
 use offset_guarded::Ticket;
 use offset_heaps::HeapMut;
+use offset_heaps::laws::alignments_are_kept;
 
 /// A request.
 pub fn allocate(heap: &mut HeapMut<'_, ByNode<u32>>, size: u32) -> Option<Ticket>
-    ensures { TakesOn heap.old.number (tickets.Call.Allocate size) heap.old.heaps.now heap.new.heaps.now (tickets.Answer.Requested result) [] }
+    ensures call { TakesOn heap.old.number (tickets.Call.Allocate size) heap.old.heaps.now heap.new.heaps.now (tickets.Answer.Requested result) [] }
+    ensures step { IsStep heap.old.heaps.now heap.new.heaps.now }
 {
+    alignments_are_kept();
     heap.allocate(size)
 }
 
@@ -24,15 +29,19 @@ pub fn allocate_aligned(
     align: u32,
 ) -> Option<Ticket>
     requires alignment { 1 ≤ align }
-    ensures { TakesOn heap.old.number (tickets.Call.Allocate_aligned size align) heap.old.heaps.now heap.new.heaps.now (tickets.Answer.Requested result) [] }
+    ensures call { TakesOn heap.old.number (tickets.Call.Allocate_aligned size align) heap.old.heaps.now heap.new.heaps.now (tickets.Answer.Requested result) [] }
+    ensures step { IsStep heap.old.heaps.now heap.new.heaps.now }
 {
+    alignments_are_kept();
     heap.allocate_aligned(size, align)
 }
 
 /// A tight request.
 pub fn allocate_tight(heap: &mut HeapMut<'_, ByNode<u32>>, size: u32) -> Option<Ticket>
-    ensures { TakesOn heap.old.number (tickets.Call.Allocate_tight size) heap.old.heaps.now heap.new.heaps.now (tickets.Answer.Requested result) [] }
+    ensures call { TakesOn heap.old.number (tickets.Call.Allocate_tight size) heap.old.heaps.now heap.new.heaps.now (tickets.Answer.Requested result) [] }
+    ensures step { IsStep heap.old.heaps.now heap.new.heaps.now }
 {
+    alignments_are_kept();
     heap.allocate_tight(size)
 }
 
@@ -43,22 +52,28 @@ pub fn allocate_tight_aligned(
     align: u32,
 ) -> Option<Ticket>
     requires alignment { 1 ≤ align }
-    ensures { TakesOn heap.old.number (tickets.Call.Allocate_tight_aligned size align) heap.old.heaps.now heap.new.heaps.now (tickets.Answer.Requested result) [] }
+    ensures call { TakesOn heap.old.number (tickets.Call.Allocate_tight_aligned size align) heap.old.heaps.now heap.new.heaps.now (tickets.Answer.Requested result) [] }
+    ensures step { IsStep heap.old.heaps.now heap.new.heaps.now }
 {
+    alignments_are_kept();
     heap.allocate_tight_aligned(size, align)
 }
 
 /// A request at an offset.
 pub fn allocate_at(heap: &mut HeapMut<'_, ByNode<u32>>, offset: u32, size: u32) -> Option<Ticket>
-    ensures { TakesOn heap.old.number (tickets.Call.Allocate_at offset size) heap.old.heaps.now heap.new.heaps.now (tickets.Answer.Requested result) [] }
+    ensures call { TakesOn heap.old.number (tickets.Call.Allocate_at offset size) heap.old.heaps.now heap.new.heaps.now (tickets.Answer.Requested result) [] }
+    ensures step { IsStep heap.old.heaps.now heap.new.heaps.now }
 {
+    alignments_are_kept();
     heap.allocate_at(offset, size)
 }
 
 /// A request for a second range.
 pub fn relocate(heap: &mut HeapMut<'_, ByNode<u32>>, ticket: Ticket) -> Option<Ticket>
-    ensures { TakesOn heap.old.number (tickets.Call.Relocate ticket) heap.old.heaps.now heap.new.heaps.now (tickets.Answer.Requested result) [] }
+    ensures call { TakesOn heap.old.number (tickets.Call.Relocate ticket) heap.old.heaps.now heap.new.heaps.now (tickets.Answer.Requested result) [] }
+    ensures step { IsStep heap.old.heaps.now heap.new.heaps.now }
 {
+    alignments_are_kept();
     heap.relocate(ticket)
 }
 
@@ -69,65 +84,83 @@ pub fn relocate_aligned(
     align: u32,
 ) -> Option<Ticket>
     requires alignment { 1 ≤ align }
-    ensures { TakesOn heap.old.number (tickets.Call.Relocate_aligned ticket align) heap.old.heaps.now heap.new.heaps.now (tickets.Answer.Requested result) [] }
+    ensures call { TakesOn heap.old.number (tickets.Call.Relocate_aligned ticket align) heap.old.heaps.now heap.new.heaps.now (tickets.Answer.Requested result) [] }
+    ensures step { IsStep heap.old.heaps.now heap.new.heaps.now }
 {
+    alignments_are_kept();
     heap.relocate_aligned(ticket, align)
 }
 
 /// The same with none.
 pub fn relocate_unaligned(heap: &mut HeapMut<'_, ByNode<u32>>, ticket: Ticket) -> Option<Ticket>
-    ensures { TakesOn heap.old.number (tickets.Call.Relocate_unaligned ticket) heap.old.heaps.now heap.new.heaps.now (tickets.Answer.Requested result) [] }
+    ensures call { TakesOn heap.old.number (tickets.Call.Relocate_unaligned ticket) heap.old.heaps.now heap.new.heaps.now (tickets.Answer.Requested result) [] }
+    ensures step { IsStep heap.old.heaps.now heap.new.heaps.now }
 {
+    alignments_are_kept();
     heap.relocate_unaligned(ticket)
 }
 
 /// A range freed.
 pub fn free(heap: &mut HeapMut<'_, ByNode<u32>>, ticket: Ticket) -> bool
-    ensures { TakesOn heap.old.number (tickets.Call.Free ticket) heap.old.heaps.now heap.new.heaps.now (tickets.Answer.Was_done result) [] }
+    ensures call { TakesOn heap.old.number (tickets.Call.Free ticket) heap.old.heaps.now heap.new.heaps.now (tickets.Answer.Was_done result) [] }
+    ensures step { IsStep heap.old.heaps.now heap.new.heaps.now }
 {
+    alignments_are_kept();
     heap.free(ticket)
 }
 
 /// A range made smaller.
 pub fn shrink(heap: &mut HeapMut<'_, ByNode<u32>>, ticket: Ticket, size: u32) -> Option<bool>
-    ensures { TakesOn heap.old.number (tickets.Call.Shrink ticket size) heap.old.heaps.now heap.new.heaps.now (tickets.Answer.Resized result) [] }
+    ensures call { TakesOn heap.old.number (tickets.Call.Shrink ticket size) heap.old.heaps.now heap.new.heaps.now (tickets.Answer.Resized result) [] }
+    ensures step { IsStep heap.old.heaps.now heap.new.heaps.now }
 {
+    alignments_are_kept();
     heap.shrink(ticket, size)
 }
 
 /// A range made larger.
 pub fn grow_in_place(heap: &mut HeapMut<'_, ByNode<u32>>, ticket: Ticket, size: u32) -> Option<bool>
-    ensures { TakesOn heap.old.number (tickets.Call.Grow_in_place ticket size) heap.old.heaps.now heap.new.heaps.now (tickets.Answer.Resized result) [] }
+    ensures call { TakesOn heap.old.number (tickets.Call.Grow_in_place ticket size) heap.old.heaps.now heap.new.heaps.now (tickets.Answer.Resized result) [] }
+    ensures step { IsStep heap.old.heaps.now heap.new.heaps.now }
 {
+    alignments_are_kept();
     heap.grow_in_place(ticket, size)
 }
 
 /// More units.
 pub fn extend(heap: &mut HeapMut<'_, ByNode<u32>>, more: u32) -> bool
-    ensures { TakesOn heap.old.number (tickets.Call.Extend more) heap.old.heaps.now heap.new.heaps.now (tickets.Answer.Was_done result) [] }
+    ensures call { TakesOn heap.old.number (tickets.Call.Extend more) heap.old.heaps.now heap.new.heaps.now (tickets.Answer.Was_done result) [] }
+    ensures step { IsStep heap.old.heaps.now heap.new.heaps.now }
 {
+    alignments_are_kept();
     heap.extend(more)
 }
 
 /// A larger step.
 pub fn raise_step(heap: &mut HeapMut<'_, ByNode<u32>>, align: u32)
     requires alignment { 1 ≤ align }
-    ensures { TakesOn heap.old.number (tickets.Call.Raise_step align) heap.old.heaps.now heap.new.heaps.now tickets.Answer.Nothing [] }
+    ensures call { TakesOn heap.old.number (tickets.Call.Raise_step align) heap.old.heaps.now heap.new.heaps.now tickets.Answer.Nothing [] }
+    ensures step { IsStep heap.old.heaps.now heap.new.heaps.now }
 {
+    alignments_are_kept();
     heap.raise_step(align);
 }
 
 /// A reset.
 pub fn reset(heap: &mut HeapMut<'_, ByNode<u32>>)
-    ensures { TakesOn heap.old.number tickets.Call.Reset heap.old.heaps.now heap.new.heaps.now tickets.Answer.Nothing [] }
+    ensures call { TakesOn heap.old.number tickets.Call.Reset heap.old.heaps.now heap.new.heaps.now tickets.Answer.Nothing [] }
+    ensures step { IsStep heap.old.heaps.now heap.new.heaps.now }
 {
+    alignments_are_kept();
     heap.reset();
 }
 
 /// A compaction.
 pub fn compact(heap: &mut HeapMut<'_, ByNode<u32>>) -> bool
-    ensures { (ms : List Move) × TakesOn heap.old.number tickets.Call.Compact heap.old.heaps.now heap.new.heaps.now (tickets.Answer.Was_done result) ms }
+    ensures call { (ms : List Move) × TakesOn heap.old.number tickets.Call.Compact heap.old.heaps.now heap.new.heaps.now (tickets.Answer.Was_done result) ms }
+    ensures step { IsStep heap.old.heaps.now heap.new.heaps.now }
 {
+    alignments_are_kept();
     heap.compact(&mut |_range: Moved<u32>| ())
 }
 
@@ -153,8 +186,10 @@ pub fn compact_within(
     units: u32,
     ranges: u32,
 ) -> Option<Progress>
-    ensures { (ms : List Move) × TakesOn heap.old.number (tickets.Call.Compact_within from units ranges) heap.old.heaps.now heap.new.heaps.now (tickets.Answer.Progressed result) ms }
+    ensures call { (ms : List Move) × TakesOn heap.old.number (tickets.Call.Compact_within from units ranges) heap.old.heaps.now heap.new.heaps.now (tickets.Answer.Progressed result) ms }
+    ensures step { IsStep heap.old.heaps.now heap.new.heaps.now }
 {
+    alignments_are_kept();
     heap.compact_within(from, units, ranges, &mut |_range: Moved<u32>| ())
 }
 
@@ -174,8 +209,10 @@ pub fn compact_within_by(
 
 /// Room for a request.
 pub fn make_room(heap: &mut HeapMut<'_, ByNode<u32>>, size: u32) -> Option<RoomCost>
-    ensures { (ms : List Move) × TakesOn heap.old.number (tickets.Call.Make_room size 1) heap.old.heaps.now heap.new.heaps.now (tickets.Answer.Room_made result) ms }
+    ensures call { (ms : List Move) × TakesOn heap.old.number (tickets.Call.Make_room size 1) heap.old.heaps.now heap.new.heaps.now (tickets.Answer.Room_made result) ms }
+    ensures step { IsStep heap.old.heaps.now heap.new.heaps.now }
 {
+    alignments_are_kept();
     heap.make_room(size, &mut |_range: Moved<u32>| ())
 }
 
@@ -186,8 +223,10 @@ pub fn make_room_aligned(
     align: u32,
 ) -> Option<RoomCost>
     requires alignment { 1 ≤ align }
-    ensures { (ms : List Move) × TakesOn heap.old.number (tickets.Call.Make_room size align) heap.old.heaps.now heap.new.heaps.now (tickets.Answer.Room_made result) ms }
+    ensures call { (ms : List Move) × TakesOn heap.old.number (tickets.Call.Make_room size align) heap.old.heaps.now heap.new.heaps.now (tickets.Answer.Room_made result) ms }
+    ensures step { IsStep heap.old.heaps.now heap.new.heaps.now }
 {
+    alignments_are_kept();
     heap.make_room_aligned(size, align, &mut |_range: Moved<u32>| ())
 }
 

@@ -1,6 +1,6 @@
 use Rattle.std.proofs.Math.Nat.{dvd_of_mod-eq-zero, dvd_trans}
 use Rattle.std.proofs.Common.{Some}
-use Rattle.offset_guarded.specs.Calls.{TakesAligned}
+use Rattle.offset_guarded.specs.Answers.{Aligns, Requests}
 use Rattle.offset_heaps.proofs.Alignments.{lasts, lasts_in, lasts_tight, step_keeps}
 use Rattle.offset_heaps.proofs.InPlace as place
 use Rattle.offset_heaps.proofs.laws.alignments_are_kept.Goals as goal
@@ -21,7 +21,7 @@ pub returns-clause-on_heap : goal.returns-clause-on_heap
 returns-clause-on_heap c = place.on_heap
 
 pub returns-clause-lasts_on_heap : goal.returns-clause-lasts_on_heap
-returns-clause-lasts_on_heap c k n align a t hs ks later formed by d = lasts_in k n align a t (λ g h. TakesAligned n align g h (Some t)) hs ks later formed (λ g h s. (s.0, s.3.second)) by d (dvd_trans a d (dvd_of_mod-eq-zero align by.by.2))
+returns-clause-lasts_on_heap c k n align a t hs ks later formed by d = lasts_in k n align a t (λ g h. Requests n g h (Some t) × Aligns align g h (Some t)) hs ks later formed (λ g h s. (s.0.grants, s.1.joined.second)) by d (dvd_trans a d (dvd_of_mod-eq-zero align by.by.1.aligned))
 
 pub returns-clause-answered_on_heap : goal.returns-clause-answered_on_heap
 returns-clause-answered_on_heap c = place.answered

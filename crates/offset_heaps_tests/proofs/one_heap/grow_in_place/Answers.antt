@@ -1,6 +1,10 @@
-use Rattle.std.proofs.Common.{refl}
+use Rattle.std.proofs.Common.{[], refl}
+use Rattle.offset_guarded.specs.Answers as tickets
 use Rattle.offset_heaps_tests.proofs.Steps.{part_of}
 use Rattle.offset_heaps_tests.proofs.one_heap.grow_in_place.Goals as goal
 
-pub returns : goal.returns
-returns c = part_of _ _ _ _ _ (λ g h p. (c.grow_in_place.result, refl, p, refl)) c.grow_in_place.ensures.change
+pub returns-clause-call : goal.returns-clause-call
+returns-clause-call c = part_of _ _ _ _ _ (λ g h p. (c.grow_in_place.result, refl, p, refl)) c.grow_in_place.ensures.change
+
+pub returns-clause-step : goal.returns-clause-step
+returns-clause-step c = c.alignments_are_kept.ensures.answered_on_heap _ (tickets.Call.Grow_in_place c.args.ticket c.args.size) (tickets.Answer.Resized c.grow_in_place.result) [] _ _ (returns-clause-call c) (λ g e. tt {0})

@@ -28,6 +28,8 @@ returns-clause-change g c =
             (subst (λ (n : ℕ). IsTrue c.retract_to-result.result ↔ ((n + c.args.less ≤ before.space.size) × (1 ≤ c.args.less → CanRetract c.args.less before.space))) c.least_units-least.ensures e.done);
         step = e.step;
         same = e.same;
+        serials = e.serials;
+        accesses = e.accesses;
       };
       heaps = search rules;
     }
