@@ -13,6 +13,7 @@ use core::ops::Deref;
 /// The heap of a number, to be changed by the calls of one space with tickets: each does in this heap what it does in a
 /// [`GuardedOf`](crate::GuardedOf), under the node limit that the heap has now, and no other heap changes. A refused call leaves all heaps as
 /// they were. `heap_mut` of [`Heaps`](crate::Heaps) returns one. It derefs to the `GuardedOf`, for all questions.
+/// `retract` leaves the heap its least units.
 ///
 /// A place of `Heaps` and a ticket here are of one grant: `Place::ticket` makes the ticket, `place` the place. A ticket has
 /// the realm of the heap alone, and not that of the `Heaps`: of two whose realms were chosen by hand tickets may be alike.
@@ -723,10 +724,10 @@ impl<T: Tables> HeapMut<'_, T> {
         result
     }
 
-    /// As `GuardedOf::retract` in this heap, as long as it has the units then that it has at least: those that the limits
-    /// give its number, or one where it is a larger heap. So units that it was extended by can go again.
+    /// As `GuardedOf::retract` in this heap, where it leaves the heap its least units: those that the limits give its number,
+    /// or one where it is a larger heap. So units that it was extended by can go again.
     ///
-    /// `false` is returned where it would have fewer, or where its last block is not free or has fewer than `less`; then all is
+    /// `false` is returned where fewer would be left, or where its last block is not free or has fewer than `less`; then all is
     /// as it was.
     ///
     /// ```
