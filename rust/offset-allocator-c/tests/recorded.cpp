@@ -422,10 +422,12 @@ static void onOneHeap(const std::string &path) {
         RecordedHeaps heaps(file, Heaps::withRealm(limits, 1));
         std::vector<Place> places;
         for (int i = 0; i < 6; i++) places.push_back(heaps.allocate(10).place);
-        check(heaps.free(places[1]) && heaps.free(places[3]) && heaps.allocate(5) && heaps.makeRoom(0, 15, none).possible && !heaps.makeRoomAligned(0, 9, 0, none).possible, "room");
+        check(heaps.free(places[1]) && heaps.free(places[3]) && heaps.allocate(5) && !heaps.makeRoomAligned(0, 9, 0, none).possible, "no alignment");
+        heaps.mark("here");
+        check(heaps.makeRoom(0, 15, none).possible, "room");
     }
     check(of(file, path) == "heap 0 space 60 nodes 16 index 32\nheap 0 alloc 10\nheap 0 alloc 10\nheap 0 alloc 10\nheap 0 alloc 10\nheap 0 alloc 10\nheap 0 alloc 10\nheap 0 free 2\nheap 0 free 4\nheap 0 alloc 5\n"
-          "heap 0 space 60 nodes 8 index 32\nheap 0 at 0 20\nheap 0 at 20 10\nheap 0 at 30 10\nheap 0 at 40 10\nheap 0 at 50 10\nheap 0 shrink 1 10\nheap 0 shrink 3 5\n#! begun\nheap 0 room 15 1 1\n",
+          "#! mark here\nheap 0 space 60 nodes 8 index 32\nheap 0 at 0 20\nheap 0 at 20 10\nheap 0 at 30 10\nheap 0 at 40 10\nheap 0 at 50 10\nheap 0 shrink 1 10\nheap 0 shrink 3 5\n#! begun\nheap 0 room 15 1 1\n",
           "room of a heap with few nodes");
 
     // a name is that of the next request
@@ -438,7 +440,9 @@ static void onOneHeap(const std::string &path) {
         heap.compactUnaligned(none);
         Ticket mesh = heap.allocate(5);
         heap.name("lost");
-        check(!heap.allocateAligned(1, 0) && !heap.compactBy(0, none) && heap.allocate(3), "no alignment");
+        check(!heap.allocateAligned(1, 0) && heap.allocate(3), "no alignment");
+        heap.name("lost");
+        check(!heap.compactBy(0, none) && heap.allocate(3), "no step");
         heap.nameLive(mesh, "mesh\nof level 2");
         Place place = heap.place(mesh);
         check(heap.number() == 0 && heap->size() == 100 && place.heap == 0 && (*heap).isLive(mesh), "questions");
@@ -451,24 +455,46 @@ static void onOneHeap(const std::string &path) {
         heap.reset();
         heap.compactUnaligned(none);
     }
-    check(of(file, path) == "heap 0 space 100 nodes 16 index 32\nheap 0 alloc 10\nheap 0 compact\n# kept\nheap 0 alloc 5\nheap 0 alloc 3\n#! heap 0 name 2 mesh of level 2\n"
+    check(of(file, path) == "heap 0 space 100 nodes 16 index 32\nheap 0 alloc 10\nheap 0 compact\n# kept\nheap 0 alloc 5\nheap 0 alloc 3\nheap 0 alloc 3\n#! heap 0 name 2 mesh of level 2\n"
           "heap 0 free 2\n# of heaps\nheap 0 alloc 1\nheap 0 extend 20\nheap 0 retract 20\nheap 0 compact 4\nheap 0 room 10 1 4\nheap 0 reset\nheap 0 compact\n", "the names");
 
-    // a heap that is dropped, and made again; and a second range of one without a name has none
+    // a heap that is dropped, and made again; and heaps that there are
+    file = std::fopen(path.c_str(), "wb");
+    {
+        Heaps made = Heaps::withRealm({100, 16, 1, 1}, 1);
+        Place level = made.allocate(150).place;
+        RecordedHeaps heaps(file, std::move(made));
+        RecordedHeap larger = heaps.at(1), heap = heaps.at(0);
+        check(larger.free(level.ticket) && larger.allocateAt(50, 20) && !heap && !heap.allocate(1), "a larger heap");
+        Place first = heaps.allocate(90).place;
+        check(heap.free(first.ticket) && heaps.dropHeap(0) && !heap && !heap.allocate(1), "dropped");
+        check(heaps.allocate(60).place.heap == heap.number() && heap && heap.allocateAligned(30, 10), "made again");
+    }
+    check(of(file, path) == "heap 1 space 150 nodes 4 index 32\nheap 1 at 0 150\n#! begun\nheap 1 free 1\nheap 1 at 50 20\nheap 0 space 100 nodes 16 index 32\nheap 0 alloc 90\nheap 0 free 1\nheap 0 drop\n"
+          "heap 0 space 100 nodes 16 index 32\nheap 0 alloc 60\nheap 0 align 30 10\n", "heaps that come and go");
+
+    // a second range in another heap has the name of the first, which is not where that came from, nor blanks
     file = std::fopen(path.c_str(), "wb");
     {
         RecordedHeaps heaps(file, Heaps::withRealm({100, 16, 3, 0}, 1));
-        Place first = heaps.allocate(90).place;
-        RecordedHeap heap = heaps.at(0);
-        check(heap.free(first.ticket) && heaps.dropHeap(0) && !heap && !heap.allocate(1), "dropped");
-        first = heaps.allocate(60).place;
-        check(heap && heap.number() == first.heap, "made again");
-        Ticket held = heap.allocateAligned(30, 10);
-        Place second = heaps.allocate(50).place, third = heaps.allocate(38).place;
-        check(second.heap == 1 && third.heap == 1 && heap.free(held) && heaps.at(1).free(second.ticket) && heaps.relocate(third).heap == 0, "relocated");
+        Place held[5];
+        const uint32 sizes[] = {70, 25, 40, 55, 10};
+        for (int i = 0; i < 5; i++) held[i] = heaps.allocate(sizes[i]).place;
+        RecordedHeap heap = heaps.at(2);
+        heap.name("rock");
+        Place rock = heap.place(heap.allocate(7));
+        heap.name(" ");
+        Place moss = heap.place(heap.allocate(6));
+        heap.nameLive(rock.ticket, "\t ");
+        check(held[1].heap == 0 && held[3].heap == 1 && held[4].heap == 2 && heaps.free(held[3]), "three heaps");
+        Place second = heaps.relocate(held[4]), other = heaps.relocate(rock);
+        check(second.heap == 1 && other.heap == 1 && heaps.relocate(moss).heap == 1 && heaps.free(held[1]), "to the second");
+        check(heaps.relocate(second).heap == 0 && heaps.relocate(other).heap == 0, "to the first");
     }
-    check(of(file, path) == "heap 0 space 100 nodes 16 index 32\nheap 0 alloc 90\nheap 0 free 1\nheap 0 drop\nheap 0 space 100 nodes 16 index 32\nheap 0 alloc 60\nheap 0 align 30 10\n"
-          "heap 1 space 100 nodes 16 index 32\nheap 1 alloc 50\nheap 1 alloc 38\nheap 0 free 2\nheap 1 free 1\n# (of grant 2, heap 1)\nheap 0 alloc 38\n", "heaps that come and go");
+    check(of(file, path) == "heap 0 space 100 nodes 16 index 32\nheap 0 alloc 70\nheap 0 alloc 25\nheap 1 space 100 nodes 16 index 32\nheap 1 alloc 40\nheap 1 alloc 55\n"
+          "heap 2 space 100 nodes 16 index 32\nheap 2 alloc 10\n# rock\nheap 2 alloc 7\n#  \nheap 2 alloc 6\nheap 1 free 2\n# (of grant 1, heap 2)\nheap 1 alloc 10\n"
+          "# rock (of grant 2, heap 2)\nheap 1 alloc 7\n# (of grant 3, heap 2)\nheap 1 alloc 6\nheap 0 free 2\n# (of grant 3, heap 1)\nheap 0 alloc 10\n"
+          "# rock (of grant 2, heap 2) (of grant 4, heap 1)\nheap 0 alloc 7\n", "names of second ranges");
 
     // without a file calls go on, and on a full disk
     RecordedHeaps unwritten(nullptr, {1000, 16, 2, 1});
