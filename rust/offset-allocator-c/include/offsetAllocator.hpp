@@ -606,6 +606,9 @@ public:
     // moves a range.
     uint32 step() const { return oag_step(asked()); }
 
+    // Assigns the bytes of the state to a vector, say, with realm and serials. False where memory for them is out.
+    template <class Bytes> bool save(Bytes &bytes) const { return detail::assign(oag_write_state(asked()), bytes); }
+
 private:
     const oag_allocator *asked() const { return static_cast<const Of *>(this)->asked(); }
 };
@@ -650,11 +653,8 @@ public:
     // Whether it has a space.
     explicit operator bool() const noexcept { return space != nullptr; }
 
-    // Assigns the bytes of the state to a vector, say, with realm and serials. False where memory for them is out.
-    template <class Bytes> bool save(Bytes &bytes) const { return detail::assign(oag_write_state(space), bytes); }
-
-    // The space of bytes that save has assigned, with the same tickets, or an empty one and what is wrong with them, and
-    // where. It is to be used in place of the one that was saved: later grants of both may have the same ticket.
+    // The space of bytes that save has assigned, or that of a heap, with the same tickets, or an empty one and what is wrong with
+    // them, and where. It is to be used in place of the one that was saved: later grants of both may have the same ticket.
     struct Loaded;
     static Loaded load(const void *bytes, size_t size, uint32 mostAllocs = 128 * 1024);
 

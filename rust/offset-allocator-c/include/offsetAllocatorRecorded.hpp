@@ -10,7 +10,7 @@
 // heap->storageReport(), and are not written. A line is flushed before its call is made: so a crash, of the call too, keeps
 // it. Where the file fails or memory is out, the recording ends, and not the program: isFailed says so. No call throws.
 //
-// Several allocators have one file by a Recording, and Heaps by RecordedHeaps. docs/RECORDINGS.md has the form.
+// Several allocators have one file by a Recording, and Heaps by RecordedHeaps, each heap by its `at`. docs/RECORDINGS.md has the form.
 #pragma once
 
 #include "offsetAllocator.hpp"
@@ -33,6 +33,9 @@ inline uint32 nameOf(const Allocation &allocation) { return allocation.metadata;
 inline uint32 nameOf(const Ticket &ticket) { return ticket.name; }
 inline bool isGranted(const Allocation &allocation) { return allocation.metadata != Allocation::NO_SPACE; }
 inline bool isGranted(const Ticket &ticket) { return bool(ticket); }
+
+// Whether a text has blanks alone: it is no name.
+inline bool isBlank(const char *text) { return text[std::strspn(text, " \t\n\f\r")] == 0; }
 
 // The greatest common divisor.
 inline uint32 commonDivisor(uint32 a, uint32 b) {
@@ -72,10 +75,9 @@ private:
     size_t count;
 };
 
-// Where the state of the space begins in that of an Allocator, and in that of a GuardedAllocator from a place on.
+// Where the state of the space begins in that of an Allocator, and in that with tickets.
 inline size_t spaceIn(const Bytes &, const Allocator &) { return 0; }
-inline size_t spaceBehindTickets(const Bytes &bytes, size_t at) { return at + 8 * (7 + size_t(bytes.number(at + 16, 8))); }
-inline size_t spaceIn(const Bytes &bytes, const GuardedAllocator &) { return spaceBehindTickets(bytes, 0); }
+template <class T> size_t spaceIn(const Bytes &bytes, const TicketQuestions<T> &) { return 8 * (7 + size_t(bytes.number(16, 8))); }
 
 // An array that grows, without exceptions; the items are zero at first.
 template <class T> class Items {
@@ -189,10 +191,16 @@ public:
         prefix();
         failed = failed || std::fputs(line, out) == EOF || std::fflush(out) != 0;
     }
+    // A line of one heap, by the tape of all.
+    template <class... Of> void writeOf(uint32 number, const char *format, Of... of) {
+        if (failed) return;
+        failed = std::fprintf(out, "heap %u ", static_cast<unsigned>(number)) < 0;
+        write(format, of...);
+    }
     // A name; that of one heap of many is held until its request comes.
     void comment(const char *text) {
         if (failed || !text) return;
-        named = true;
+        named = !isBlank(text);
         if (heap == NO_HEAP) {
             put("# ", text);
             failed = failed || std::fflush(out) != 0;
@@ -239,7 +247,7 @@ public:
     }
     // The grant of a number has a name: a mark.
     void nameGrant(uint32 number, const char *text) {
-        if (failed || !number || !text || !*text) return;
+        if (failed || !number || !text || isBlank(text)) return;
         putThread();
         if (heap == NO_HEAP) failed = failed || std::fprintf(out, "#! name %u ", static_cast<unsigned>(number)) < 0;
         else failed = failed || std::fprintf(out, "#! heap %u name %u ", static_cast<unsigned>(heap), static_cast<unsigned>(number)) < 0;
@@ -408,7 +416,179 @@ private:
     detail::LastThread last;
 };
 
-template <class A> class Recorded {
+namespace detail {
+
+// The calls of one space, each of which writes its line: of an Allocator, a GuardedAllocator, or the heap of a number, A. The type Of has
+// `calls`, what makes them; `ready`, before a call whose answer the node limit may decide; `line` and `request`, which write, of a request
+// with its name; `take`, which gets what a request is granted; `numberOf`, the number of the grant of a name; and `unname`, where a
+// name is that of no call.
+template <class Of, class A> class RecordedCalls {
+public:
+    typedef decltype(std::declval<A &>().allocate(0)) Handle;
+
+    // The allocator, for its questions.
+    const A *operator->() const { return &self().calls(); }
+    const A &operator*() const { return self().calls(); }
+
+    Handle allocate(uint32 size) {
+        request("alloc %u\n", size);
+        return granted(self().calls().allocate(size));
+    }
+    // An alignment of 0 is refused, as by A, and not written: align is at least 1.
+    Handle allocateAligned(uint32 size, uint32 align) {
+        if (isValid(align != 0)) request("align %u %u\n", size, align);
+        return granted(self().calls().allocateAligned(size, align));
+    }
+    Handle allocateAt(uint32 offset, uint32 size) {
+        request("at %u %u\n", offset, size);
+        return granted(self().calls().allocateAt(offset, size));
+    }
+    Handle allocateTight(uint32 size) {
+        request("tight %u\n", size);
+        return granted(self().calls().allocateTight(size));
+    }
+    Handle allocateTightAligned(uint32 size, uint32 align) {
+        if (isValid(align != 0)) request("tight %u %u\n", size, align);
+        return granted(self().calls().allocateTightAligned(size, align));
+    }
+    // A handle that is not live is written as 0, the number of no grant.
+    bool free(Handle handle) {
+        self().line("free %u\n", grantOf(handle));
+        return self().calls().free(handle);
+    }
+    bool shrink(Handle handle, uint32 size) {
+        self().ready();
+        self().line("shrink %u %u\n", grantOf(handle), size);
+        return self().calls().shrink(handle, size);
+    }
+    bool growInPlace(Handle handle, uint32 size) {
+        self().line("grow %u %u\n", grantOf(handle), size);
+        return self().calls().growInPlace(handle, size);
+    }
+    // Of tickets it goes by the step of the space: its line has the alignment that the range keeps by that.
+    Handle relocate(Handle handle) {
+        self().ready();
+        writeRelocate(self().calls(), handle);
+        return granted(self().calls().relocate(handle));
+    }
+    // Of tickets alone.
+    Handle relocateUnaligned(Handle handle) {
+        self().ready();
+        self().request("relocate %u\n", grantOf(handle));
+        return granted(self().calls().relocateUnaligned(handle));
+    }
+    // As allocateAligned, for an alignment of 0.
+    Handle relocateAligned(Handle handle, uint32 align) {
+        if (isValid(align != 0)) {
+            self().ready();
+            self().request("relocate %u %u\n", grantOf(handle), align);
+        }
+        return granted(self().calls().relocateAligned(handle, align));
+    }
+    bool extend(uint32 more) {
+        decided("extend %u\n", more);
+        return self().calls().extend(more);
+    }
+    // Of tickets compact, compactWithin, makeRoom and makeRoomAligned go by the step of the space, which is in their lines; where
+    // it has none nothing changes, and nothing is written.
+    template <class F> auto compact(F &&moved) -> decltype(std::declval<A &>().compact(std::forward<F>(moved))) {
+        writeCompact(self().calls());
+        return self().calls().compact(std::forward<F>(moved));
+    }
+    template <class F> Progress compactWithin(uint32 from, uint32 mostUnits, uint32 mostRanges, F &&moved) {
+        const uint32 step = self().calls().step();
+        if (isValid(step != 0)) decided("compact %u %u %u %u\n", step, from, mostUnits, mostRanges);
+        return self().calls().compactWithin(from, mostUnits, mostRanges, std::forward<F>(moved));
+    }
+    template <class F> RoomCost makeRoom(uint32 size, F &&moved) {
+        writeRoom(self().calls(), size);
+        return self().calls().makeRoom(size, std::forward<F>(moved));
+    }
+    // An alignment of 0 is refused, as by A, and not written.
+    template <class F> RoomCost makeRoomAligned(uint32 size, uint32 align, F &&moved) {
+        const uint32 step = self().calls().step();
+        if (isValid(align != 0 && step != 0)) decided("room %u %u %u\n", size, align, step);
+        return self().calls().makeRoomAligned(size, align, std::forward<F>(moved));
+    }
+    // A step of 0 is refused, as by A, and not written. Within a budget it is compactWithin of handles, compactWithinBy of tickets.
+    template <class F> bool compactBy(uint32 step, F &&moved) {
+        if (isValid(step != 0)) decided("compact %u\n", step);
+        return self().calls().compactBy(step, std::forward<F>(moved));
+    }
+    template <class F> Progress compactWithin(uint32 step, uint32 from, uint32 mostUnits, uint32 mostRanges, F &&moved) {
+        if (isValid(step != 0)) decided("compact %u %u %u %u\n", step, from, mostUnits, mostRanges);
+        return self().calls().compactWithin(step, from, mostUnits, mostRanges, std::forward<F>(moved));
+    }
+    template <class F> Progress compactWithinBy(uint32 step, uint32 from, uint32 mostUnits, uint32 mostRanges, F &&moved) {
+        if (isValid(step != 0)) decided("compact %u %u %u %u\n", step, from, mostUnits, mostRanges);
+        return self().calls().compactWithinBy(step, from, mostUnits, mostRanges, std::forward<F>(moved));
+    }
+    // Of tickets alone.
+    template <class F> void compactUnaligned(F &&moved) {
+        self().line("compact\n");
+        self().calls().compactUnaligned(std::forward<F>(moved));
+    }
+    template <class F> RoomCost makeRoomUnaligned(uint32 size, F &&moved) {
+        decided("room %u\n", size);
+        return self().calls().makeRoomUnaligned(size, std::forward<F>(moved));
+    }
+    // An alignment or a step of 0 is refused, as by A, and not written.
+    template <class F> RoomCost makeRoomBy(uint32 size, uint32 align, uint32 step, F &&moved) {
+        if (isValid(align != 0 && step != 0)) decided("room %u %u %u\n", size, align, step);
+        return self().calls().makeRoomBy(size, align, step, std::forward<F>(moved));
+    }
+    void reset() {
+        self().line("reset\n");
+        self().calls().reset();
+    }
+    // No line is written, since each move by the step has it in its line.
+    bool raiseStep(uint32 align) { return self().calls().raiseStep(align); }
+
+protected:
+    // The number of the grant of a handle: 0, which no grant has, where it is not live.
+    uint32 grantOf(Handle handle) const { return self().calls().isLive(handle) ? self().numberOf(nameOf(handle)) : 0; }
+
+private:
+    Of &self() { return static_cast<Of &>(*this); }
+    const Of &self() const { return static_cast<const Of &>(*this); }
+
+    // A call that could not be read again is not written, and a name that was given to it is that of no other call.
+    bool isValid(bool valid) {
+        if (!valid) self().unname();
+        return valid;
+    }
+    // The lines of a request and of another call whose answer the node limit may decide.
+    template <class... Parts> void request(const char *format, Parts... parts) {
+        self().ready();
+        self().request(format, parts...);
+    }
+    template <class... Parts> void decided(const char *format, Parts... parts) {
+        self().ready();
+        self().line(format, parts...);
+    }
+    // The lines of what goes by the step of tickets, and by none of handles.
+    void writeCompact(const Allocator &) { decided("compact\n"); }
+    template <class T> void writeCompact(const TicketQuestions<T> &of) {
+        if (isValid(of.step() != 0)) decided("compact %u\n", of.step());
+    }
+    void writeRoom(const Allocator &, uint32 size) { decided("room %u\n", size); }
+    template <class T> void writeRoom(const TicketQuestions<T> &of, uint32 size) {
+        if (isValid(of.step() != 0)) decided("room %u 1 %u\n", size, of.step());
+    }
+    void writeRelocate(const Allocator &, Handle handle) { self().request("relocate %u\n", grantOf(handle)); }
+    template <class T> void writeRelocate(const TicketQuestions<T> &of, Handle handle) {
+        if (!of.isLive(handle)) self().request("relocate 0\n");
+        else if (isValid(of.step() != 0)) self().request("relocate %u %u\n", grantOf(handle), commonDivisor(of.offsetOf(handle), of.step()));
+    }
+    Handle granted(Handle handle) {
+        self().take(handle);
+        return handle;
+    }
+};
+
+} // namespace detail
+
+template <class A> class Recorded : public detail::RecordedCalls<Recorded<A>, A> {
 public:
     typedef decltype(std::declval<A &>().allocate(0)) Handle;
 
@@ -430,7 +610,7 @@ public:
     void name(const char *text) { tape.comment(text); }
     // The name of a live range, given after its grant, in place of one that it had: a mark. So one line, where the program puts a
     // handle into a table of its own, names each range. For a handle that is not live, or without text, nothing is written.
-    void nameLive(Handle handle, const char *text) { tape.nameGrant(number(handle), text); }
+    void nameLive(Handle handle, const char *text) { tape.nameGrant(this->grantOf(handle), text); }
     // Marks, which change no answer, and between which the page shows what lives: a frame's end, a time in nanoseconds from a
     // begin of the program's, the number of the thread of the calls from here on, and a text of the program's. And how many bytes a
     // unit has; of a heap of a Recording it is of that heap alone. frameEnd, time and mark are of the whole file: call them on one
@@ -444,119 +624,11 @@ public:
     }
     // Whether the recording has ended.
     bool isFailed() const { return tape.isFailed(); }
-    // The allocator, for its questions.
-    const A *operator->() const { return &space; }
-    const A &operator*() const { return space; }
 
-    Handle allocate(uint32 size) {
-        tape.write("alloc %u\n", size);
-        return granted(space.allocate(size));
-    }
-    // An alignment of 0 is refused, as by A, and not written: align is at least 1.
-    Handle allocateAligned(uint32 size, uint32 align) {
-        if (isValid(align != 0)) tape.write("align %u %u\n", size, align);
-        return granted(space.allocateAligned(size, align));
-    }
-    Handle allocateAt(uint32 offset, uint32 size) {
-        tape.write("at %u %u\n", offset, size);
-        return granted(space.allocateAt(offset, size));
-    }
-    Handle allocateTight(uint32 size) {
-        tape.write("tight %u\n", size);
-        return granted(space.allocateTight(size));
-    }
-    Handle allocateTightAligned(uint32 size, uint32 align) {
-        if (isValid(align != 0)) tape.write("tight %u %u\n", size, align);
-        return granted(space.allocateTightAligned(size, align));
-    }
-    // A handle that is not live is written as 0, the number of no grant.
-    bool free(Handle handle) {
-        tape.write("free %u\n", number(handle));
-        return space.free(handle);
-    }
-    bool shrink(Handle handle, uint32 size) {
-        tape.write("shrink %u %u\n", number(handle), size);
-        return space.shrink(handle, size);
-    }
-    bool growInPlace(Handle handle, uint32 size) {
-        tape.write("grow %u %u\n", number(handle), size);
-        return space.growInPlace(handle, size);
-    }
-    // Of tickets it goes by the step of the space: its line has the alignment that the range keeps by that.
-    Handle relocate(Handle handle) {
-        writeRelocate(space, handle);
-        return granted(space.relocate(handle));
-    }
-    // Of tickets alone.
-    Handle relocateUnaligned(Handle handle) {
-        tape.write("relocate %u\n", number(handle));
-        return granted(space.relocateUnaligned(handle));
-    }
-    // As allocateAligned, for an alignment of 0.
-    Handle relocateAligned(Handle handle, uint32 align) {
-        if (isValid(align != 0)) tape.write("relocate %u %u\n", number(handle), align);
-        return granted(space.relocateAligned(handle, align));
-    }
-    bool extend(uint32 more) {
-        tape.write("extend %u\n", more);
-        return space.extend(more);
-    }
     bool retract(uint32 less) {
         tape.write("retract %u\n", less);
         return space.retract(less);
     }
-    // Of tickets compact, compactWithin, makeRoom and makeRoomAligned go by the step of the space, which is in their lines; where
-    // it has none nothing changes, and nothing is written.
-    template <class F> auto compact(F &&moved) -> decltype(std::declval<A &>().compact(std::forward<F>(moved))) {
-        writeCompact(space);
-        return space.compact(std::forward<F>(moved));
-    }
-    template <class F> Progress compactWithin(uint32 from, uint32 mostUnits, uint32 mostRanges, F &&moved) {
-        if (isValid(space.step() != 0)) tape.write("compact %u %u %u %u\n", space.step(), from, mostUnits, mostRanges);
-        return space.compactWithin(from, mostUnits, mostRanges, std::forward<F>(moved));
-    }
-    template <class F> RoomCost makeRoom(uint32 size, F &&moved) {
-        writeRoom(space, size);
-        return space.makeRoom(size, std::forward<F>(moved));
-    }
-    // An alignment of 0 is refused, as by A, and not written.
-    template <class F> RoomCost makeRoomAligned(uint32 size, uint32 align, F &&moved) {
-        if (isValid(align != 0 && space.step() != 0)) tape.write("room %u %u %u\n", size, align, space.step());
-        return space.makeRoomAligned(size, align, std::forward<F>(moved));
-    }
-    // A step of 0 is refused, as by A, and not written. Within a budget it is compactWithin of handles, compactWithinBy of tickets.
-    template <class F> bool compactBy(uint32 step, F &&moved) {
-        if (isValid(step != 0)) tape.write("compact %u\n", step);
-        return space.compactBy(step, std::forward<F>(moved));
-    }
-    template <class F> Progress compactWithin(uint32 step, uint32 from, uint32 mostUnits, uint32 mostRanges, F &&moved) {
-        if (isValid(step != 0)) tape.write("compact %u %u %u %u\n", step, from, mostUnits, mostRanges);
-        return space.compactWithin(step, from, mostUnits, mostRanges, std::forward<F>(moved));
-    }
-    template <class F> Progress compactWithinBy(uint32 step, uint32 from, uint32 mostUnits, uint32 mostRanges, F &&moved) {
-        if (isValid(step != 0)) tape.write("compact %u %u %u %u\n", step, from, mostUnits, mostRanges);
-        return space.compactWithinBy(step, from, mostUnits, mostRanges, std::forward<F>(moved));
-    }
-    // Of tickets alone.
-    template <class F> void compactUnaligned(F &&moved) {
-        tape.write("compact\n");
-        space.compactUnaligned(std::forward<F>(moved));
-    }
-    template <class F> RoomCost makeRoomUnaligned(uint32 size, F &&moved) {
-        tape.write("room %u\n", size);
-        return space.makeRoomUnaligned(size, std::forward<F>(moved));
-    }
-    // An alignment or a step of 0 is refused, as by A, and not written.
-    template <class F> RoomCost makeRoomBy(uint32 size, uint32 align, uint32 step, F &&moved) {
-        if (isValid(align != 0 && step != 0)) tape.write("room %u %u %u\n", size, align, step);
-        return space.makeRoomBy(size, align, step, std::forward<F>(moved));
-    }
-    void reset() {
-        tape.write("reset\n");
-        space.reset();
-    }
-    // No line is written, since each move by the step has it in its line.
-    bool raiseStep(uint32 align) { return space.raiseStep(align); }
     // After it a line with the larger limit follows, and those after which its space is as this one, whose grants are numbered
     // from 1 again.
     bool raiseLimit(uint32 maxAllocs) {
@@ -566,63 +638,42 @@ public:
     }
 
 private:
+    friend class detail::RecordedCalls<Recorded<A>, A>;
     A space;
     detail::Tape tape;
 
-    // A call that could not be read again is not written, and a name that was given to it is that of no other call.
-    bool isValid(bool valid) {
-        if (!valid) tape.unname();
-        return valid;
-    }
-    // The lines of what goes by the step of tickets, and by none of handles.
-    void writeCompact(const Allocator &) { tape.write("compact\n"); }
-    void writeCompact(const GuardedAllocator &of) {
-        if (isValid(of.step() != 0)) tape.write("compact %u\n", of.step());
-    }
-    void writeRoom(const Allocator &, uint32 size) { tape.write("room %u\n", size); }
-    void writeRoom(const GuardedAllocator &of, uint32 size) {
-        if (isValid(of.step() != 0)) tape.write("room %u 1 %u\n", size, of.step());
-    }
-    void writeRelocate(const Allocator &, Handle handle) { tape.write("relocate %u\n", number(handle)); }
-    void writeRelocate(const GuardedAllocator &of, Handle handle) {
-        if (!of.isLive(handle)) tape.write("relocate 0\n");
-        else if (isValid(of.step() != 0)) tape.write("relocate %u %u\n", number(handle), detail::commonDivisor(of.offsetOf(handle), of.step()));
-    }
-    uint32 number(Handle handle) const { return space.isLive(handle) ? tape.number(detail::nameOf(handle)) : 0; }
-    Handle granted(Handle handle) {
+    A &calls() { return space; }
+    const A &calls() const { return space; }
+    // who plays it has the limit of the space
+    void ready() {}
+    template <class... Parts> void line(const char *format, Parts... parts) { tape.write(format, parts...); }
+    template <class... Parts> void request(const char *format, Parts... parts) { tape.write(format, parts...); }
+    void take(Handle handle) {
         if (detail::isGranted(handle)) tape.grant(detail::nameOf(handle));
-        return handle;
     }
+    uint32 numberOf(uint32 name) const { return tape.number(name); }
+    void unname() { tape.unname(); }
 };
 
+class RecordedHeap;
+
 // Heaps, whose calls are written to a file as they happen. The line of a call, but of free, is written after it, as its heap is known
-// only then.
+// only then; of calls on one heap, by `at`, before it.
 class RecordedHeaps {
 public:
     explicit RecordedHeaps(std::FILE *file, const HeapLimits &limits) noexcept : RecordedHeaps(file, Heaps(limits)) {}
     // Heaps that there are, from now on: as Recorded with one allocator.
     RecordedHeaps(std::FILE *file, Heaps &&made) noexcept : heaps(std::move(made)), tape(file), next(nullptr), maxAllocs(0), most(0), all(0) {
-        detail::Bytes bytes;
-        if (!heaps || !heaps.save(bytes) || bytes.size() == 0) {
+        if (!heaps) {
             tape.fail();
             return;
         }
-        // docs/STATES.md has the form
-        auto word = [&](size_t i) { return bytes.number(8 * i, 8); };
         const HeapLimits limits = heaps.limits();
         maxAllocs = limits.maxAllocs;
         most = limits.most;
         all = most + limits.mostLarger;
-        bool hasHeaps = false;
-        for (uint32 number = 0; number < all && !tape.isFailed(); number++)
-            if (word(10 + number) != word(11 + number)) {
-                size_t state = 8 * (size_t(all) + 12) + size_t(word(10 + number));
-                // who plays it needs the largest limit that a usual heap may grow to
-                uint32 nodes = number < most ? maxAllocs : 0;
-                if (Grants *of = grants(number)) of->begin(*this, bytes, detail::spaceBehindTickets(bytes, state), nodes);
-                hasHeaps = true;
-            }
-        if (hasHeaps) tape.mark("begun");
+        for (uint32 number = heaps.firstHeap(); number != Allocation::NO_SPACE; number = heaps.heapAfter(number)) begin(number, 0);
+        if (heaps.totals().heaps) tape.mark("begun");
     }
     RecordedHeaps(const RecordedHeaps &) = delete;
     RecordedHeaps &operator=(const RecordedHeaps &) = delete;
@@ -639,8 +690,8 @@ public:
     // As nameLive of Recorded.
     void nameLive(const Place &place, const char *text) {
         uint32 number = numberOf(place);
-        if (!number || !text || !*text) return;
-        Grants *of = held[place.heap];
+        Grants *of = number && text && !detail::isBlank(text) ? grants(place.heap) : nullptr;
+        if (!of) return;
         of->nameGrant(number, text);
         if (of->isFailed() || !of->named(place.ticket.name, copied(text))) tape.fail();
     }
@@ -655,6 +706,9 @@ public:
     // The heaps, for their questions.
     const Heaps *operator->() const { return &heaps; }
     const Heaps &operator*() const { return heaps; }
+
+    // The heap of a number, for the calls of one space.
+    RecordedHeap at(uint32 number);
 
     Granted allocate(uint32 size) { return request(heaps.allocate(size), size, 1); }
     // An alignment of 0 is refused, and not written.
@@ -672,15 +726,10 @@ public:
     // The first is at what the offset of the range and the step of its heap have in common; of a heap without a step none is taken, and
     // nothing is written.
     Place relocate(const Place &place) {
-        uint32 offset = heaps.offsetOf(place), step = heaps.step(place.heap);
+        const uint32 step = heaps.step(place.heap);
         if (!heaps.isLive(place)) return relocated(place, 1);
         if (step == 0) return heaps.relocate(place);
-        while (offset != 0) {
-            const uint32 rest = step % offset;
-            step = offset;
-            offset = rest;
-        }
-        return relocated(place, step);
+        return relocated(place, detail::commonDivisor(heaps.offsetOf(place), step));
     }
     Place relocateAligned(const Place &place, uint32 align) { return relocated(place, align); }
     // Written where it is done: who plays it has the most nodes that the heap may grow to.
@@ -699,6 +748,10 @@ public:
     // Where it is not done nothing is written.
     bool extendHeap(uint32 number, uint32 more) {
         bool isDone = heaps.extendHeap(number, more);
+        if (isDone && raised(number)) {
+            tape.writeOf(number, "retract %u\n", more);
+            tape.mark("begun");
+        }
         if (isDone) tape.write("heap %u extend %u\n", number, more);
         return isDone;
     }
@@ -722,6 +775,8 @@ public:
     // Where none is made nothing is written.
     template <class F> RoomCost makeRoomAligned(uint32 number, uint32 size, uint32 align, F &&moved) {
         const uint32 step = heaps.step(number);
+        // with other nodes it may be other room
+        if (align != 0) ready(number);
         RoomCost cost = heaps.makeRoomAligned(number, size, align, std::forward<F>(moved));
         if (cost.possible) tape.write("heap %u room %u %u %u\n", number, size, align, step);
         return cost;
@@ -750,6 +805,8 @@ public:
     }
 
 private:
+    friend class RecordedHeap;
+
     // Writes a line for each heap that there is.
     void each(const char *call) {
         uint32 left = heaps.totals().heaps;
@@ -762,20 +819,19 @@ private:
             }
     }
 
-    // The numbers of the grants of one heap, and their names.
+    // The numbers of the grants of one heap, and their names; and its node limit where it began anew with that, in place of the
+    // largest, or 0.
     struct Grants : detail::Tape {
         detail::Items<char *> names;
+        uint32 ownLimit;
 
-        explicit Grants(std::FILE *file, uint32 number) : detail::Tape(file, number) {}
+        explicit Grants(std::FILE *file, uint32 number) : detail::Tape(file, number), ownLimit(0) {}
         ~Grants() {
             for (size_t i = 0; i < names.size(); i++) std::free(names[i]);
         }
-        void begin(RecordedHeaps &of, const detail::Bytes &bytes, size_t at, uint32 nodes) {
-            detail::Tape::begin(bytes, at, nodes);
-            if (isFailed()) of.tape.fail();
-        }
         void forget() {
             numbers.clear();
+            ownLimit = 0;
             for (size_t i = 0; i < names.size(); i++) {
                 std::free(names[i]);
                 names[i] = nullptr;
@@ -791,8 +847,10 @@ private:
                 std::free(text);
                 return false;
             }
+            const bool isName = text && !detail::isBlank(text);
             std::free(names[name]);
-            names[name] = text;
+            names[name] = isName ? text : nullptr;
+            if (!isName) std::free(text);
             return true;
         }
     };
@@ -815,7 +873,42 @@ private:
         }
         return found;
     }
+    // With so many unused nodes no call is answered by the node limit: it adds two blocks at most, and a request leaves one node.
+    static constexpr uint32 ENOUGH = 4;
+
+    // Writes the lines with which a heap begins, with a node limit of its own, or, for 0, the largest.
+    void begin(uint32 number, uint32 ownLimit) {
+        Grants *of = grants(number);
+        if (!of) return;
+        detail::Bytes bytes;
+        const Heap heap = heaps.at(number);
+        if (!heap.save(bytes) || bytes.size() == 0) return tape.fail();
+        // who plays it needs the largest limit that a usual heap may grow to
+        of->begin(bytes, detail::spaceIn(bytes, heap), ownLimit == 0 && number < most ? maxAllocs : 0);
+        of->ownLimit = ownLimit;
+        if (of->isFailed()) tape.fail();
+    }
+    // Before a call that the nodes of its heap may decide: where who plays it has more than there are, it begins anew.
+    void ready(uint32 number) {
+        const Heap heap = heaps.at(number);
+        Grants *of = heap ? grants(number) : nullptr;
+        if (!of) return;
+        const uint32 limit = heap.maxAllocs(), played = of->ownLimit ? of->ownLimit : number < most ? maxAllocs : limit;
+        if (played == limit || limit - heap.blockCount() >= ENOUGH) return;
+        begin(number, limit);
+        tape.mark("begun");
+    }
+    // After a call that raised the limit of a heap that had begun anew with that: it begins anew with the largest, and the line that
+    // makes it what it was before the call is written next. Returns whether that is so.
+    bool raised(uint32 number) {
+        const Grants *of = number < held.size() ? held[number] : nullptr;
+        if (!of || of->ownLimit == 0 || of->ownLimit == heaps.at(number).maxAllocs()) return false;
+        begin(number, 0);
+        return true;
+    }
+
     Grants *grants(uint32 number) {
+        if (tape.isFailed()) return nullptr;
         if (!held.reserve(size_t(number) + 1)) tape.fail();
         else if (!held[number]) held[number] = new (std::nothrow) Grants(tape.file(), number);
         Grants *found = number < held.size() ? held[number] : nullptr;
@@ -830,11 +923,14 @@ private:
         if (!of) std::free(text);
         else if (!of->granted(place.ticket.name, text)) tape.fail();
     }
-    // Only a request that is written takes the name.
+    // The next request has no name.
+    void unname() {
+        std::free(next);
+        next = nullptr;
+    }
     Granted request(const Granted &found, uint32 units, uint32 align, bool isTight = false) {
         if (found.refusal == HeapRefusal::badCall) {
-            std::free(next);
-            next = nullptr;
+            unname();
             return found;
         }
         uint32 heap = found.place.heap;
@@ -846,8 +942,7 @@ private:
             if (align == 1) std::snprintf(line, sizeof line, "none %s %u %s\n", word, static_cast<unsigned>(units), words[int(found.refusal)]);
             else std::snprintf(line, sizeof line, "none %s %u %u %s\n", word, static_cast<unsigned>(units), static_cast<unsigned>(align), words[int(found.refusal)]);
             tape.write(static_cast<const char *>(line));
-            std::free(next);
-            next = nullptr;
+            unname();
             return found;
         }
         bool isLarger = found.isNew && heap >= most;
@@ -855,6 +950,9 @@ private:
             if (Grants *of = grants(heap)) of->forget();
             // a larger heap may have three blocks
             tape.write("heap %u space %u nodes %u index 32\n", heap, heaps.unitsOfHeap(heap), isLarger ? 4 : maxAllocs);
+        } else if (raised(heap)) {
+            tape.writeOf(heap, "free %u\n", numberOf(found.place));
+            tape.mark("begun");
         }
         tape.comment(next);
         if (isLarger || (isTight && !found.isNew && align == 1)) tape.write("heap %u tight %u\n", heap, units);
@@ -880,10 +978,70 @@ private:
             tape.comment(named);
             if (align == 1) tape.write("heap %u alloc %u\n", second.heap, units);
             else tape.write("heap %u align %u %u\n", second.heap, units, align);
+            // where a range comes from is no name of its own
+            if (!first) {
+                std::free(named);
+                named = nullptr;
+            }
             grant(second, named);
         }
         return second;
     }
 };
+
+// The heap of a number of RecordedHeaps, for all calls of one space: the line of each is that of Recorded, behind the number of the heap,
+// and is written before the call, but of retract. Where the number has no heap it converts to false, every call is refused, and
+// nothing is written. Its questions are asked by heap->offsetOf(ticket). It must not be used once the RecordedHeaps are gone.
+//
+// Who plays the recording has the most nodes that a heap may get. Where the heap has fewer, of which a call may need the last,
+// it first begins anew, with the node limit that it has, and again with the largest once a call of heaps has raised that.
+class RecordedHeap : public detail::RecordedCalls<RecordedHeap, Heap> {
+public:
+    explicit operator bool() const { return bool(heap); }
+    uint32 number() const { return heap.number(); }
+    Place place(Ticket ticket) const { return heap.place(ticket); }
+
+    // As those of RecordedHeaps: the name of the next request, on this heap or another, and that of a live range.
+    void name(const char *text) { all->name(text); }
+    void nameLive(Ticket ticket, const char *text) { all->nameLive(place(ticket), text); }
+
+    // Where it is not done nothing is written, since a space may give up what a heap keeps.
+    bool retract(uint32 less) {
+        bool isDone = heap.retract(less);
+        if (isDone) line("retract %u\n", less);
+        return isDone;
+    }
+
+private:
+    friend class RecordedHeaps;
+    friend class detail::RecordedCalls<RecordedHeap, Heap>;
+    RecordedHeap(RecordedHeaps &of, const Heap &at) noexcept : all(&of), heap(at) {}
+    RecordedHeaps *all;
+    Heap heap;
+
+    Heap &calls() { return heap; }
+    const Heap &calls() const { return heap; }
+    void ready() { all->ready(number()); }
+    template <class... Parts> void line(const char *format, Parts... parts) {
+        if (heap) all->tape.writeOf(number(), format, parts...);
+    }
+    template <class... Parts> void request(const char *format, Parts... parts) {
+        if (!heap) return;
+        all->tape.comment(all->next);
+        all->tape.writeOf(number(), format, parts...);
+    }
+    // It has the name that was written with the request.
+    void take(Ticket ticket) {
+        if (ticket) all->grant(place(ticket), all->next);
+        else std::free(all->next);
+        all->next = nullptr;
+    }
+    uint32 numberOf(uint32 name) const {
+        return number() < all->held.size() && all->held[number()] ? all->held[number()]->number(name) : 0;
+    }
+    void unname() { all->unname(); }
+};
+
+inline RecordedHeap RecordedHeaps::at(uint32 number) { return RecordedHeap(*this, heaps.at(number)); }
 
 } // namespace OffsetAllocator

@@ -133,6 +133,9 @@ int main() {
     Heaps::Loaded lost = Heaps::load(bytes.data(), bytes.size() - 1, 6, 64);
     CHECK(!lost.heaps && lost.found == OA_BAD_PLACE && lost.at == 80 + 8 * 6);
     CHECK(Heaps::load(bytes.data(), bytes.size(), 5, 64).found == OA_BAD_LIMIT && !Heaps::load(nullptr, 0, 6, 64).heaps);
+    // and one heap as a space of its own, with its tickets
+    CHECK(copy.at(kept.place.heap).save(bytes) && GuardedAllocator::load(bytes.data(), bytes.size()).space.sizeOf(kept.place.ticket) == 7);
+    CHECK(!copy.at(5).save(bytes));
     // heaps that begin with few nodes
     HeapLimits small(1024, 64, 4, 2);
     small.firstAllocs = 8;

@@ -1,11 +1,12 @@
 // What a recording has: recorded FOLDER. It also writes random recordings there, FOLDER/N.script, and what their calls gave,
-// FOLDER/N.answers, for play-recording.
+// FOLDER/N.answers, for play-recording: for a line with which a heap of many begins anew `?`.
 #include "offsetAllocatorRecorded.hpp"
 
 #include <algorithm>
 #include <cstdint>
 #include <cstdio>
 #include <cstdlib>
+#include <map>
 #include <string>
 #include <utility>
 #include <vector>
@@ -351,6 +352,163 @@ static void manyHeaps(const std::string &path) {
     check(none.isFailed() && none.allocate(10), "without a file calls go on");
 }
 
+// The lines of calls on one heap of many. tests/one_heap.rs of offset-allocator-recorded has the same.
+static void onOneHeap(const std::string &path) {
+    auto none = [](Move) {};
+    std::FILE *file = std::fopen(path.c_str(), "wb");
+    {
+        HeapLimits limits(100, 16, 1, 0, 100, 8);
+        RecordedHeaps heaps(file, Heaps::withRealm(limits, 1));
+        std::vector<Place> places;
+        for (int i = 0; i < 6; i++) {
+            if (i < 5) heaps.name("mesh");
+            places.push_back(heaps.allocate(10).place);
+        }
+        std::string after = "heap 0 space 100 nodes 16 index 32\n";
+        for (int i = 0; i < 5; i++) after += "# mesh\nheap 0 alloc 10\n";
+        after += "heap 0 alloc 10\n";
+        check(read(path) == after, "calls of heaps alone");
+        // six ranges and the free block behind them: of eight nodes one is left, and a request needs two
+        RecordedHeap heap = heaps.at(0);
+        heap.name("refused");
+        check(!heap.allocate(10) && !heap.allocateAt(60, 1), "no node");
+        const std::string ranges = "heap 0 at 0 10\nheap 0 at 10 10\nheap 0 at 20 10\nheap 0 at 30 10\nheap 0 at 40 10\n";
+        after += "heap 0 space 100 nodes 8 index 32\n" + ranges + "heap 0 at 50 50\nheap 0 shrink 6 10\n#! begun\n# refused\nheap 0 alloc 10\nheap 0 at 60 1\n";
+        check(read(path) == after, "a heap with few nodes begins anew");
+        // a call of heaps that is granted there raises the limit: what it has from now on, and as it was before
+        heaps.name("granted");
+        Granted granted = heaps.allocate(30);
+        check(granted.place.heap == 0 && heaps->offsetOf(granted.place) == 60 && heap->maxAllocs() == 16, "a larger limit");
+        after += "heap 0 space 100 nodes 16 index 32\n" + ranges + "heap 0 at 50 10\nheap 0 at 60 40\nheap 0 shrink 7 30\nheap 0 free 7\n#! begun\n# granted\nheap 0 alloc 30\n";
+        check(read(path) == after, "and begins with the larger");
+        // with room for more it does not begin anew
+        check(!heap.allocate(11) && heap.allocateTight(9), "requests");
+        after += "heap 0 alloc 11\nheap 0 tight 9\n";
+        // where the number has no heap nothing is written, and a name is that of no other call
+        RecordedHeap gone = heaps.at(1);
+        gone.name("lost");
+        check(heap && !gone && gone.number() == 1 && !gone.allocate(1) && !gone.free(places[0].ticket) && !gone.extend(1), "no heap");
+        check(!gone.retract(0) && !gone.compact(none) && !gone.makeRoomUnaligned(1, none).possible && !gone.relocate(places[0].ticket), "nor moves");
+        gone.reset();
+        heap.nameLive(places[2].ticket, "one\rmore");
+        heap.nameLive(places[2].ticket, " \t");
+        heap.nameLive(Ticket(), "gone");
+        check(heap.free(places[5].ticket) && !heap.free(places[5].ticket) && heap.allocate(10), "freed once");
+        check(!heaps.isFailed() && read(path) == after + "#! heap 0 name 3 one more\nheap 0 free 6\nheap 0 free 0\nheap 0 alloc 10\n", "all lines");
+    }
+    std::fclose(file);
+
+    // an extension that raises the limit is as it was
+    file = std::fopen(path.c_str(), "wb");
+    {
+        HeapLimits limits(60, 16, 1, 0, 60, 8);
+        RecordedHeaps heaps(file, Heaps::withRealm(limits, 1));
+        std::vector<Place> places;
+        for (uint32 size : {10u, 10u, 10u, 10u, 8u, 12u}) places.push_back(heaps.allocateTight(size).place);
+        check(heaps.free(places[0]), "freed");
+        const size_t before = read(path).size();
+        check(heaps.at(0).allocateTight(9) && !heaps.at(0).extend(5) && heaps.extendHeap(0, 5), "extended");
+        check(read(path).substr(before) == "heap 0 space 60 nodes 8 index 32\nheap 0 at 48 12\nheap 0 at 40 8\nheap 0 at 30 10\nheap 0 at 20 10\nheap 0 at 10 10\n#! begun\n"
+              "heap 0 tight 9\nheap 0 extend 5\nheap 0 space 65 nodes 16 index 32\nheap 0 at 0 10\nheap 0 at 10 10\nheap 0 at 20 10\nheap 0 at 30 10\nheap 0 at 40 8\n"
+              "heap 0 at 48 17\nheap 0 shrink 6 12\nheap 0 shrink 1 9\nheap 0 retract 5\n#! begun\nheap 0 extend 5\n",
+              "extended as it was");
+    }
+    std::fclose(file);
+
+    // and room of heaps is made with the nodes that there are: of eight seven are used
+    file = std::fopen(path.c_str(), "wb");
+    {
+        HeapLimits limits(60, 16, 1, 0, 60, 8);
+        RecordedHeaps heaps(file, Heaps::withRealm(limits, 1));
+        std::vector<Place> places;
+        for (int i = 0; i < 6; i++) places.push_back(heaps.allocate(10).place);
+        check(heaps.free(places[1]) && heaps.free(places[3]) && heaps.allocate(5) && !heaps.makeRoomAligned(0, 9, 0, none).possible, "no alignment");
+        heaps.mark("here");
+        check(heaps.makeRoom(0, 15, none).possible, "room");
+    }
+    check(of(file, path) == "heap 0 space 60 nodes 16 index 32\nheap 0 alloc 10\nheap 0 alloc 10\nheap 0 alloc 10\nheap 0 alloc 10\nheap 0 alloc 10\nheap 0 alloc 10\nheap 0 free 2\nheap 0 free 4\nheap 0 alloc 5\n"
+          "#! mark here\nheap 0 space 60 nodes 8 index 32\nheap 0 at 0 20\nheap 0 at 20 10\nheap 0 at 30 10\nheap 0 at 40 10\nheap 0 at 50 10\nheap 0 shrink 1 10\nheap 0 shrink 3 5\n#! begun\nheap 0 room 15 1 1\n",
+          "room of a heap with few nodes");
+
+    // a name is that of the next request
+    file = std::fopen(path.c_str(), "wb");
+    {
+        RecordedHeaps heaps(file, Heaps::withRealm({100, 16, 1, 0}, 1));
+        heaps.allocate(10);
+        RecordedHeap heap = heaps.at(0);
+        heap.name("kept");
+        heap.compactUnaligned(none);
+        Ticket mesh = heap.allocate(5);
+        heap.name("lost");
+        check(!heap.allocateAligned(1, 0) && heap.allocate(3), "no alignment");
+        heap.name("lost");
+        check(!heap.compactBy(0, none) && heap.allocate(3), "no step");
+        heap.nameLive(mesh, "mesh\nof level 2");
+        Place place = heap.place(mesh);
+        check(heap.number() == 0 && heap->size() == 100 && place.heap == 0 && (*heap).isLive(mesh), "questions");
+        // and of the calls of heaps
+        heap.name("of heaps");
+        check(heaps.free(place) && heaps.allocate(1), "a call of heaps");
+        // a retraction that is not done is not written, and one that is, is
+        check(!heap.retract(1) && heap.extend(20) && heap.retract(20) && !heap.retract(1), "the end");
+        check(heap.raiseStep(4) && heap.compact(none) && heap.makeRoom(10, none).possible, "by its step");
+        heap.reset();
+        heap.compactUnaligned(none);
+    }
+    check(of(file, path) == "heap 0 space 100 nodes 16 index 32\nheap 0 alloc 10\nheap 0 compact\n# kept\nheap 0 alloc 5\nheap 0 alloc 3\nheap 0 alloc 3\n#! heap 0 name 2 mesh of level 2\n"
+          "heap 0 free 2\n# of heaps\nheap 0 alloc 1\nheap 0 extend 20\nheap 0 retract 20\nheap 0 compact 4\nheap 0 room 10 1 4\nheap 0 reset\nheap 0 compact\n", "the names");
+
+    // a heap that is dropped, and made again; and heaps that there are
+    file = std::fopen(path.c_str(), "wb");
+    {
+        Heaps made = Heaps::withRealm({100, 16, 1, 1}, 1);
+        Place level = made.allocate(150).place;
+        RecordedHeaps heaps(file, std::move(made));
+        RecordedHeap larger = heaps.at(1), heap = heaps.at(0);
+        check(larger.free(level.ticket) && larger.allocateAt(50, 20) && !heap && !heap.allocate(1), "a larger heap");
+        Place first = heaps.allocate(90).place;
+        check(heap.free(first.ticket) && heaps.dropHeap(0) && !heap && !heap.allocate(1), "dropped");
+        check(heaps.allocate(60).place.heap == heap.number() && heap && heap.allocateAligned(30, 10), "made again");
+    }
+    check(of(file, path) == "heap 1 space 150 nodes 4 index 32\nheap 1 at 0 150\n#! begun\nheap 1 free 1\nheap 1 at 50 20\nheap 0 space 100 nodes 16 index 32\nheap 0 alloc 90\nheap 0 free 1\nheap 0 drop\n"
+          "heap 0 space 100 nodes 16 index 32\nheap 0 alloc 60\nheap 0 align 30 10\n", "heaps that come and go");
+
+    // a second range in another heap has the name of the first, which is not where that came from, nor blanks
+    file = std::fopen(path.c_str(), "wb");
+    {
+        RecordedHeaps heaps(file, Heaps::withRealm({100, 16, 3, 0}, 1));
+        Place held[5];
+        const uint32 sizes[] = {70, 25, 40, 55, 10};
+        for (int i = 0; i < 5; i++) held[i] = heaps.allocate(sizes[i]).place;
+        RecordedHeap heap = heaps.at(2);
+        heap.name("rock");
+        Place rock = heap.place(heap.allocate(7));
+        heap.name(" ");
+        Place moss = heap.place(heap.allocate(6));
+        heap.nameLive(rock.ticket, "\t ");
+        check(held[1].heap == 0 && held[3].heap == 1 && held[4].heap == 2 && heaps.free(held[3]), "three heaps");
+        Place second = heaps.relocate(held[4]), other = heaps.relocate(rock);
+        check(second.heap == 1 && other.heap == 1 && heaps.relocate(moss).heap == 1 && heaps.free(held[1]), "to the second");
+        check(heaps.relocate(second).heap == 0 && heaps.relocate(other).heap == 0, "to the first");
+    }
+    check(of(file, path) == "heap 0 space 100 nodes 16 index 32\nheap 0 alloc 70\nheap 0 alloc 25\nheap 1 space 100 nodes 16 index 32\nheap 1 alloc 40\nheap 1 alloc 55\n"
+          "heap 2 space 100 nodes 16 index 32\nheap 2 alloc 10\n# rock\nheap 2 alloc 7\n#  \nheap 2 alloc 6\nheap 1 free 2\n# (of grant 1, heap 2)\nheap 1 alloc 10\n"
+          "# rock (of grant 2, heap 2)\nheap 1 alloc 7\n# (of grant 3, heap 2)\nheap 1 alloc 6\nheap 0 free 2\n# (of grant 3, heap 1)\nheap 0 alloc 10\n"
+          "# rock (of grant 2, heap 2) (of grant 4, heap 1)\nheap 0 alloc 7\n", "names of second ranges");
+
+    // without a file calls go on, and on a full disk
+    RecordedHeaps unwritten(nullptr, {1000, 16, 2, 1});
+    check(unwritten.allocate(10) && unwritten.at(0).allocate(10) && unwritten.at(0)->liveUnits() == 20, "calls go on");
+    std::FILE *full = std::fopen("/dev/full", "w");
+    if (full) {
+        RecordedHeaps lost(full, {1000, 16, 2, 1});
+        Granted granted = lost.allocate(10);
+        lost.nameLive(granted.place, "lost");
+        check(granted && lost.isFailed() && lost.at(0).free(granted.place.ticket) && lost.at(0).allocate(5), "calls go on");
+        std::fclose(full);
+    }
+}
+
 static uint32_t below(uint64_t &state, uint32_t n) {
     state = state * 6364136223846793005u + 1442695040888963407u;
     return uint32_t((state >> 33) % n);
@@ -553,6 +711,212 @@ static void randomHeaps(uint64_t seed, const std::string &path) {
     std::fclose(answers);
 }
 
+// Random calls on one space with tickets, as tests/random_calls of offset-allocator-recorded draws them.
+enum class Of {
+    allocate, aligned, tight, tightAligned, at, free, shrink, grow, relocate, relocateAligned, relocateUnaligned, compact, compactBy,
+    compactUnaligned, within, withinBy, room, roomAligned, roomBy, roomUnaligned, extend, retract, raiseStep, reset
+};
+struct Call {
+    Of of;
+    uint32_t n, align, step, offset, ranges;
+};
+
+static Call randomCall(uint64_t &state, uint32_t size) {
+    static const struct Kind {
+        uint32_t last;
+        Of of;
+    } kinds[] = {{17, Of::allocate}, {25, Of::aligned}, {29, Of::tight}, {33, Of::tightAligned}, {38, Of::at}, {58, Of::free}, {62, Of::shrink}, {66, Of::grow},
+                 {69, Of::relocate}, {71, Of::relocateAligned}, {72, Of::relocateUnaligned}, {75, Of::compact}, {77, Of::compactBy}, {78, Of::compactUnaligned},
+                 {81, Of::within}, {83, Of::withinBy}, {86, Of::room}, {88, Of::roomAligned}, {90, Of::roomBy}, {92, Of::roomUnaligned}, {95, Of::extend},
+                 {96, Of::retract}, {98, Of::raiseStep}, {99, Of::reset}};
+    static const uint32_t steps[] = {1, 2, 4, 16, 256};
+    const uint32_t n = below(state, size / 3 + 2), align = 1 + below(state, 20), step = steps[below(state, 5)], drawn = below(state, 100);
+    const Kind *kind = kinds;
+    while (kind->last < drawn) kind++;
+    Call call = {kind->of, n, align, step, 0, 0};
+    if (call.of == Of::at || call.of == Of::shrink) call.n = n / 4;
+    if (call.of == Of::at || call.of == Of::within || call.of == Of::withinBy) call.offset = below(state, size);
+    if (call.of == Of::within || call.of == Of::withinBy) call.ranges = below(state, 4);
+    if (call.of == Of::extend || call.of == Of::retract) call.n = below(state, 60);
+    return call;
+}
+
+// Makes a call with a ticket, and returns what it is answered where it writes a line; what it grants goes into a list. The calls of
+// a recorded space, and of one heap of many, have the same names.
+template <class H> static std::string answered(H &heap, const Call &call, Ticket ticket, std::vector<Ticket> &granted) {
+    const auto none = [](Move) {};
+    const bool hasStep = heap->step() != 0, isLive = heap->isLive(ticket);
+    const auto grant = [&](Ticket found) -> std::string {
+        if (!found) return "none";
+        granted.push_back(found);
+        return "at " + std::to_string(heap->offsetOf(found));
+    };
+    const auto second = [&](Ticket found) -> std::string { return isLive ? grant(found) : "gone"; };
+    const auto done = [](const char *word, bool isDone) -> std::string { return isDone ? word : "none"; };
+    const auto resized = [&](const char *word, bool isDone) { return isLive ? done(word, isDone) : "gone"; };
+    const auto room = [](RoomCost cost) -> std::string {
+        return cost.possible ? "ranges " + std::to_string(cost.ranges) + " units " + std::to_string(cost.units) : "none";
+    };
+    const auto passed = [](Progress it) -> std::string {
+        if (!it.done) return "none";
+        return "ranges " + std::to_string(it.ranges) + " units " + std::to_string(it.units) + (it.more ? " next " + std::to_string(it.next) : " end");
+    };
+    const auto byStep = [&](const std::string &answer) { return hasStep ? answer : ""; };
+    switch (call.of) {
+    case Of::allocate: return grant(heap.allocate(call.n));
+    case Of::aligned: return grant(heap.allocateAligned(call.n, call.align));
+    case Of::tight: return grant(heap.allocateTight(call.n));
+    case Of::tightAligned: return grant(heap.allocateTightAligned(call.n, call.align));
+    case Of::at: return grant(heap.allocateAt(call.offset, call.n));
+    case Of::free: return heap.free(ticket) ? "freed" : "gone";
+    case Of::shrink: return resized("shrunk", heap.shrink(ticket, call.n));
+    case Of::grow: return resized("grown", heap.growInPlace(ticket, call.n));
+    case Of::relocate: {
+        const std::string answer = second(heap.relocate(ticket));
+        return isLive ? byStep(answer) : answer;
+    }
+    case Of::relocateAligned: return second(heap.relocateAligned(ticket, call.align));
+    case Of::relocateUnaligned: return second(heap.relocateUnaligned(ticket));
+    case Of::compact: return byStep(done("compacted", heap.compact(none)));
+    case Of::compactBy: return done("compacted", heap.compactBy(call.step, none));
+    case Of::compactUnaligned: heap.compactUnaligned(none); return "compacted";
+    case Of::within: return byStep(passed(heap.compactWithin(call.offset, call.n, call.ranges, none)));
+    case Of::withinBy: return passed(heap.compactWithinBy(call.step, call.offset, call.n, call.ranges, none));
+    case Of::room: return byStep(room(heap.makeRoom(call.n, none)));
+    case Of::roomAligned: return byStep(room(heap.makeRoomAligned(call.n, call.align, none)));
+    case Of::roomBy: return room(heap.makeRoomBy(call.n, call.align, call.step, none));
+    case Of::roomUnaligned: return room(heap.makeRoomUnaligned(call.n, none));
+    case Of::extend: return done("extended", heap.extend(call.n));
+    case Of::retract: return heap.retract(call.n) ? "retracted" : "";
+    case Of::raiseStep: heap.raiseStep(call.step); return "";
+    case Of::reset: heap.reset(); return "reset";
+    }
+    return "";
+}
+
+// A space, and the one heap of many that has its size and nodes, are given the same calls: both write the same lines.
+static void besideASpace(uint64_t seed, const std::string &path) {
+    uint64_t state = seed;
+    const uint32_t size = 50 + below(state, 1000), nodes = 8 + below(state, 30);
+    std::FILE *one = std::fopen(path.c_str(), "wb"), *many = std::fopen((path + "-many").c_str(), "wb");
+    {
+        Recorded<GuardedAllocator> space(one, GuardedAllocator::withRealm(size, nodes, 1));
+        Heaps made = Heaps::withRealm({size, nodes, 1, 0}, 1);
+        check(made.free(made.allocate(1).place), "an empty heap");
+        RecordedHeaps heaps(many, std::move(made));
+        RecordedHeap heap = heaps.at(0);
+        std::vector<Ticket> ofOne, ofMany;
+        for (int i = 0; i < 200; i++) {
+            Call call = randomCall(state, size);
+            // a space may give up what a heap keeps, and has a line also where it is not done: that is another test
+            if (call.of == Of::retract && (call.n > space->size() - size || !space->clone().retract(call.n))) call.of = Of::compact;
+            const size_t which = below(state, uint32_t(ofOne.size()) + 1);
+            if (i % 3 == 0 && (call.of == Of::allocate || call.of == Of::at || call.of == Of::relocateAligned)) {
+                space.name(("call " + std::to_string(i)).c_str());
+                heap.name(("call " + std::to_string(i)).c_str());
+            }
+            const Ticket first = which < ofOne.size() ? ofOne[which] : Ticket(), second = which < ofMany.size() ? ofMany[which] : Ticket();
+            check(answered(space, call, first, ofOne) == answered(heap, call, second, ofMany), "a heap answers as a space");
+            if (i % 20 == 19 && !ofOne.empty()) {
+                space.nameLive(ofOne.back(), "the last");
+                heap.nameLive(ofMany.back(), "the last");
+            }
+        }
+        check(!space.isFailed() && !heaps.isFailed() && space->json() == heap->json(), "the same space");
+    }
+    const std::string lines = of(one, path);
+    std::string behind;
+    for (size_t at = 0, end; at < lines.size(); at = end + 1) {
+        end = lines.find('\n', at);
+        const std::string line = lines.substr(at, end + 1 - at);
+        if (line.compare(0, 8, "#! name ") == 0) behind += "#! heap 0 name " + line.substr(8);
+        else behind += (line[0] == '#' ? "" : "heap 0 ") + line;
+        if (at == 0) behind += "#! begun\n";
+    }
+    check(of(many, path + "-many") == behind, "the lines of a space");
+}
+
+// Random calls of heaps, and on them; a grant is known by its heap and its offset. Rust writes the same by
+// `cargo run --example one_heap` of offset-allocator-recorded.
+static void randomAt(uint64_t seed, const std::string &path) {
+    uint64_t state = seed;
+    std::FILE *file = std::fopen((path + ".script").c_str(), "wb"), *answers = std::fopen((path + ".answers").c_str(), "wb");
+    const uint32_t maxAllocs = 8 + below(state, 40), size = 100 + below(state, 1000), most = 1 + below(state, 4), larger = below(state, 3);
+    HeapLimits limits(size, maxAllocs, most, larger, size, seed % 4 == 0 ? maxAllocs : 8);
+    // what was given, by the end of the line
+    std::map<long, std::string> given;
+    {
+        RecordedHeaps heaps(file, Heaps::withRealm(limits, 3));
+        std::vector<Place> places;
+        for (int i = 0; i < 250; i++) {
+            const bool isNamed = below(state, 9) == 0;
+            size_t which = below(state, uint32_t(places.size()) + 1);
+            if (isNamed && which < places.size()) heaps.nameLive(places[which], ("range " + std::to_string(i)).c_str());
+            const long before = std::ftell(file);
+            which = below(state, uint32_t(places.size()) + 1);
+            const bool isSome = which < places.size();
+            const Place place = isSome ? places[which] : Place();
+            if (below(state, 4) == 0) heaps.name(("call " + std::to_string(i)).c_str());
+            std::string answer;
+            const auto done = [&](const char *word, bool isDone) { answer = isDone ? "heap " + std::to_string(place.heap) + " " + word : ""; };
+            const auto grant = [&](const Place &found) {
+                places.push_back(found);
+                answer = "heap " + std::to_string(found.heap) + " at " + std::to_string(heaps->offsetOf(found));
+            };
+            const uint32_t kind = below(state, 10);
+            if (kind < 2) {
+                const uint32_t n = 1 + below(state, size / 2), align = 1 + below(state, 9);
+                const Granted found = below(state, 3) == 0 ? heaps.allocateTightAligned(n, align) : heaps.allocateAligned(n, align);
+                answer = "none";
+                if (found) grant(found.place);
+            } else if (kind == 2 && isSome) {
+                done("freed", heaps.free(place));
+                if (answer.empty()) answer = "gone";
+            } else if (kind == 3 && isSome) {
+                const uint32_t of = below(state, 6);
+                if (of == 0) done("shrunk", heaps.shrink(place, below(state, 20)));
+                else if (of == 1) done("grown", heaps.growInPlace(place, below(state, 90)));
+                else if (of == 2) done("extended", heaps.extendHeap(place.heap, below(state, 40)));
+                else if (of == 3) done("compacted", heaps.compactHeap(place.heap, [](Move) {}));
+                else if (of == 4) {
+                    const uint32_t n = below(state, size), align = 1 + below(state, 9);
+                    const RoomCost cost = heaps.makeRoomAligned(place.heap, n, align, [](Move) {});
+                    done(("ranges " + std::to_string(cost.ranges) + " units " + std::to_string(cost.units)).c_str(), cost.possible);
+                } else {
+                    answer = heaps->isLive(place) ? "none" : "gone";
+                    const Place second = heaps.relocateAligned(place, 1 + below(state, 9));
+                    if (second.ticket) grant(second);
+                }
+            } else if (kind == 4 && below(state, 20) == 0) {
+                if (heaps.giveUp(0)) answer = "heap 0 given up";
+            } else {
+                const uint32_t number = below(state, most + larger);
+                Call call = randomCall(state, size);
+                // a range of no units with no node left cannot begin anew: that is another test
+                const bool isOfUnits = call.of == Of::allocate || call.of == Of::aligned || call.of == Of::tight || call.of == Of::tightAligned || call.of == Of::at || call.of == Of::shrink;
+                if (isOfUnits && call.n == 0) call.of = Of::compact;
+                RecordedHeap heap = heaps.at(number);
+                std::vector<Ticket> granted;
+                if (heap) answer = answered(heap, call, isSome && place.heap == number ? place.ticket : Ticket(), granted);
+                for (Ticket ticket : granted) places.push_back(heap.place(ticket));
+                if (!answer.empty()) answer = "heap " + std::to_string(number) + " " + answer;
+            }
+            const long now = std::ftell(file);
+            check(answer.empty() || (now > before && given.insert({now, answer}).second), "a line for each answer");
+        }
+        check(!heaps.isFailed(), "a recording to its end");
+    }
+    const std::string lines = of(file, path + ".script");
+    for (size_t at = 0, end; at < lines.size(); at = end + 1) {
+        end = lines.find('\n', at);
+        const std::string line = lines.substr(at, end - at);
+        if (line[0] == '#' || line.find(" space ") != std::string::npos) continue;
+        const auto found = given.find(long(end + 1));
+        std::fprintf(answers, "%s\n", found == given.end() ? "?" : found->second.c_str());
+    }
+    std::fclose(answers);
+}
+
 int main(int, char **arguments) {
     std::string folder = arguments[1];
     byHand(folder + "/hand.script");
@@ -564,6 +928,9 @@ int main(int, char **arguments) {
     several(folder + "/several.script");
     threads(folder + "/threads.script");
     manyHeaps(folder + "/many.script");
+    onOneHeap(folder + "/one-heap.script");
+    for (unsigned i = 0; i < 50; i++) besideASpace(i, folder + "/beside.script");
+    for (unsigned i = 0; i < 40; i++) randomAt(i, folder + "/at-" + std::to_string(i));
     for (unsigned i = 0; i < 20; i++) randomHeaps(i + 1, folder + "/heaps-" + std::to_string(i));
     for (unsigned i = 0; i < 20; i++) {
         if (i % 2) randomCalls<Allocator, Allocation>(i + 1, folder + "/" + std::to_string(i));

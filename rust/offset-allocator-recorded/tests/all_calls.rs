@@ -1,5 +1,4 @@
-//! That the recorders, here and in C++, have each call that changes a space or many heaps; but in C++ for the view of one heap,
-//! whose calls they would not see: they do not return it.
+//! That the recorders, here and in C++, have each call that changes a space, many heaps, or one of these.
 
 use std::collections::BTreeSet;
 use std::path::Path;
@@ -37,7 +36,7 @@ fn mutable(text: &str, of: &str) -> BTreeSet<String> {
 fn changing(text: &str, class: &str) -> BTreeSet<String> {
     let body = blocks(text, class, "\nprivate:").next().unwrap();
     let mut found = BTreeSet::new();
-    for line in body.lines().filter(|line| line.starts_with("    ") && !line.starts_with("     ") && line.ends_with('{') || line.ends_with("; }")) {
+    for line in body.lines().filter(|line| line.starts_with("    ") && !line.starts_with("     ") && ["{", "; }", ");"].iter().any(|end| line.ends_with(end))) {
         let Some(at) = line.find('(') else { continue };
         let name = line[..at].rsplit(' ').next().unwrap();
         let after = &line[line.rfind(") const").unwrap_or(0)..];
@@ -83,17 +82,28 @@ fn in_cpp() {
         return;
     }
     let all = text("offset-allocator-c/include/offsetAllocator.hpp");
-    let heaps = changing(&text("offset-allocator-c/include/offsetAllocatorHeaps.hpp"), "class Heaps {\n");
+    let heaps = text("offset-allocator-c/include/offsetAllocatorHeaps.hpp");
     let recorder = text("offset-allocator-c/include/offsetAllocatorRecorded.hpp");
-    let recorded = changing(&recorder, "template <class A> class Recorded {\n");
+    // the calls of one space are said once, and two classes have them
+    let of_space = changing(&recorder, "template <class Of, class A> class RecordedCalls {\n");
+    let recorded = |class: &str| {
+        let mut all = changing(&recorder, class);
+        if class.contains(" : public detail::RecordedCalls<") {
+            all.extend(of_space.iter().cloned());
+        }
+        all
+    };
+    // a swap of two spaces is none of their calls
+    let lacking = |all: &BTreeSet<String>, class| -> Vec<String> { all.difference(&recorded(class)).filter(|name| *name != "swap").cloned().collect() };
     for class in ["class Allocator {\n", "class GuardedAllocator : public TicketQuestions<GuardedAllocator> {\n"] {
         let calls = changing(&all, class);
         assert!(calls.contains("allocateAt") && calls.contains("raiseLimit") && !calls.contains("save"), "{calls:?}");
-        // a swap of two spaces is none of their calls
-        let lacking: Vec<_> = calls.difference(&recorded).filter(|name| *name != "swap").collect();
-        assert_eq!(lacking, [""; 0], "{class}");
+        assert_eq!(lacking(&calls, "template <class A> class Recorded : public detail::RecordedCalls<Recorded<A>, A> {\n"), [""; 0], "{class}");
     }
+    let heap = changing(&heaps, "class Heap : public TicketQuestions<Heap> {\n");
+    assert!(heap.len() == 24 && heap.contains("retract") && heap.contains("raiseStep"), "{heap:?}");
+    assert_eq!(lacking(&heap, "class RecordedHeap : public detail::RecordedCalls<RecordedHeap, Heap> {\n"), [""; 0]);
+    let heaps = changing(&heaps, "class Heaps {\n");
     assert!(heaps.contains("dropEmpty") && heaps.contains("at"), "{heaps:?}");
-    let lacking: Vec<_> = heaps.difference(&changing(&recorder, "class RecordedHeaps {\n")).filter(|name| *name != "swap").cloned().collect();
-    assert_eq!(lacking, ["at"]);
+    assert_eq!(lacking(&heaps, "class RecordedHeaps {\n"), [""; 0]);
 }
