@@ -3,13 +3,12 @@
 
 ghost use Rattle.std.specs.Prelude.{◌≡◌, ◌≢◌, ◌⊎◌, ℕ, false, IfOk, IfErr, IfSome, List, ◌||◌};
 ghost use Rattle.offset_script.specs.Grammar.{Plan};
-ghost use Rattle.offset_script.specs.Running.{HasText, IsScriptOf, IsTextOfAnswers, Runs, as_plan};
+ghost use Rattle.offset_script.specs.Running.{HasText, IsScriptOf, Runs, as_plan};
 ghost use Rattle.offset_script.specs.Sending.{Sends};
 ghost use Rattle.offset_script.specs.Running.{is_read_fault, is_write_fault};
 ghost use Rattle.offset_script.specs.declared.faults.RunFault.TheVariants as faults;
 ghost use Rattle.offset_script.specs.declared.faults.ScriptFault.TheVariants as script_fault;
 
-use crate::answer_text::AnswerText;
 use crate::devices::{Sink, Source};
 use crate::faults::RunFault;
 use crate::parsing::{MAX_TEXT, parse};
@@ -98,35 +97,4 @@ pub fn run_of<X: Rendering, S: Source, K: Sink>(
     } else {
         Err(RunFault::Write)
     }
-}
-
-/// Reads a script to its end, plays it, writes the text of its answers, and then flushes.
-///
-/// The script and the text of all answers are in memory at once: the text in pieces of 64 KiB, with no copy
-/// of the whole, and the space beside it until the last command is played. Once more than 4,096 rows are
-/// written, beyond the first eight of each report, and a piece is full, the other answers are kept as
-/// values in place of their text: 32 bytes each, and 12 to 24 for each row, which takes 23 to 43 as text.
-/// Their text is made when the space is given back.
-///
-/// Nothing is written unless the whole text is a script; of a text that is too long, 1,048,577 bytes are
-/// read. `Read` is returned exactly where the source failed in this call, and `Write` exactly where the sink
-/// did; then a beginning of the answers is written, and all of them where only the flush failed. No failed
-/// call is tried again. Where an allocation fails, the fault is `Memory`.
-///
-/// ```
-/// let mut input = FromRead::new(&b"space 1000 nodes 16 index 32\nalloc 300\n"[..]);
-/// let mut output = IntoWrite::new(std::vec::Vec::new());
-/// run(alloc, &mut input, &mut output)?;
-/// assert_eq!(output.into_inner(), b"grant 1 at 0\n");
-/// ```
-pub fn run<S: Source, K: Sink>(alloc: Global, input: &mut S, output: &mut K) -> Result<(), RunFault>
-    // Where the text of the source is known: on `Ok` it means a script, and the text of all its answers is
-    // appended; on `Write` a beginning of that text is, and all of it where no push has failed; on `Script`
-    // the fault is that of the text. Nothing of the text is left, except what follows the first 1,048,577
-    // bytes of one that is too long. On `Memory` and `Read` nothing is said of it. Of any
-    // source and sink: where neither had failed before, the fault says which of them failed; the sink is
-    // flushed after `Ok`, and is as it was after a fault other than `Write`.
-    ensures { Runs IsTextOfAnswers S.Source K.Sink input.old input.new output.old output.new result }
-{
-    run_of(alloc, &AnswerText, input, output)
 }

@@ -747,9 +747,7 @@ impl<T: Tables> HeapMut<'_, T> {
         let heaps = &mut *self.heaps;
         let least = least_units(heaps.limits, self.number);
         let result = retract_to(
-            heaps
-                .slots
-                .heap_mut(self.number, &mut heaps.accesses),
+            heaps.slots.heap_mut(self.number, &mut heaps.accesses),
             least,
             less,
         );

@@ -231,6 +231,13 @@ fn beside_a_space<T: Tables>(seed: u64) {
         let call = random_call(&mut random, size);
         let which = random.below(of_one.len() as u32 + 1) as usize;
         let heap = &mut heaps.heap_mut(0).unwrap();
+        if let Call::Retract(n) = call {
+            // a heap keeps the units that the limits give it
+            if heap.retract(n) {
+                assert!(space.size() >= size + n && space.retract(n));
+            }
+            continue;
+        }
         if let (0, Call::Allocate(_) | Call::At(..) | Call::RelocateAligned(_)) = (i % 3, call) {
             space.name(&format!("call {i}"));
             heap.name(&format!("call {i}"));

@@ -1,12 +1,42 @@
 // Printed by rust/erase from crates/offset_script/src/program.rt: change it there.
 
-//! What a program does: a run, its status, and the line of its fault. It touches the three streams alone.
+//! What a program does: a run for the text of the answers, its status, and the line of its fault. It touches the
+//! three streams alone.
 
 use crate::answer_text::AnswerText;
 use crate::devices::{Sink, Source};
+use crate::faults::RunFault;
 use crate::running::{Rendering, run_of};
 use crate::sending::send_fault;
 use crate::memory::Global;
+
+/// Reads a script to its end, plays it, writes the text of its answers, and then flushes.
+///
+/// The script and the text of all answers are in memory at once: the text in pieces of 64 KiB, with no copy
+/// of the whole, and the space beside it until the last command is played. Once more than 4,096 rows are
+/// written, beyond the first eight of each report, and a piece is full, the other answers are kept as
+/// values in place of their text: 32 bytes each, and 12 to 24 for each row, which takes 23 to 43 as text.
+/// Their text is made when the space is given back.
+///
+/// Nothing is written unless the whole text is a script; of a text that is too long, 1,048,577 bytes are
+/// read. `Read` is returned exactly where the source failed in this call, and `Write` exactly where the sink
+/// did; then a beginning of the answers is written, and all of them where only the flush failed. No failed
+/// call is tried again. Where an allocation fails, the fault is `Memory`.
+///
+/// ```
+/// # use offset_allocator::ByNode;
+/// # use offset_script::memory::Vec;
+/// # use offset_script::*;
+/// # let alloc = Global;
+/// let mut input = FromRead::new(&b"space 1000 nodes 16 index 32\nalloc 300\n"[..]);
+/// let mut output = IntoWrite::new(std::vec::Vec::new());
+/// run(alloc, &mut input, &mut output)?;
+/// assert_eq!(output.into_inner(), b"grant 1 at 0\n");
+/// # Ok::<(), RunFault>(())
+/// ```
+pub fn run<S: Source, K: Sink>(alloc: Global, input: &mut S, output: &mut K) -> Result<(), RunFault> {
+    run_of(alloc, &AnswerText, input, output)
+}
 
 /// `run_program`, with another rendering of a script in place of the text of its answers.
 pub fn run_program_of<X: Rendering, S: Source, K: Sink, E: Sink>(
