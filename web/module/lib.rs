@@ -4,7 +4,7 @@
 //! the page asks for. No pointer is followed here: the page reads and writes the module's memory.
 
 use offset_allocator::{AllocatorOf, ByNode, NodeIndex, Refusal};
-use offset_allocator_recorded::{put_reply, Call, CallPlayer, Command, Global, Header, HeapLine, IndexWidth, Line, NoHeap, Reader, Reply, RunFault, Slid};
+use offset_allocator_recorded::{put_reply, Call, CallPlayer, Command, Global, Header, HeapLine, IndexWidth, Line, NoHeap, Reader, Reply, RunFault};
 use std::sync::Mutex;
 
 type Text = offset_script::memory::Vec<u8>;
@@ -311,20 +311,20 @@ impl<NI: NodeIndex> Space<NI> {
                 self.grants[name] = *number as u32;
                 [1, *number as u32, *offset, space.allocation_size(handle)]
             }
-            (Reply::Answer(A::Refused) | Reply::Slid(Slid::RoomMade(None), _) | Reply::RoomCost(None) | Reply::Found(None), _) => {
+            (Reply::Answer(A::Refused) | Reply::RoomMade(None, _) | Reply::RoomCost(None) | Reply::Found(None), _) => {
                 [if asks(call) { 12 } else { 2 }, 0, 0, 0]
             }
             (Reply::Answer(A::Freed), Call::Command(Command::Free(k))) => [3, k, 0, 0],
             (Reply::Resized, Call::Shrink(k, n) | Call::Grow(k, n)) => [4, k, resized(k), n],
-            (Reply::Slid(Slid::Compacted, moves), _) => [5, word(moves.len()), 0, 0],
+            (Reply::Compacted(moves), _) => [5, word(moves.len()), 0, 0],
             (Reply::Answer(A::Gone), _) => [6, 0, 0, 0],
             (Reply::Answer(A::Reset), _) => [7, 0, 0, 0],
             (Reply::Answer(A::Extended), _) => [8, 0, 0, 0],
             (Reply::Answer(A::Full(rows)), _) => [9, 0, 0, word(rows.len())],
             (Reply::Answer(A::Size(n)), _) => [10, 0, 0, *n],
-            (Reply::Slid(Slid::RoomMade(Some(cost)), _), _) => [13, cost.ranges, 0, cost.units],
+            (Reply::RoomMade(Some(cost), _), _) => [13, cost.ranges, 0, cost.units],
             (Reply::RoomCost(Some(cost)), _) => [14, cost.ranges, 0, cost.units],
-            (Reply::Slid(Slid::CompactedWithin(next), moves), _) => {
+            (Reply::CompactedWithin(next, moves), _) => {
                 let units = moves.iter().map(|range| range.size).sum();
                 let kind = if next.is_some() { 15 } else { 16 };
                 [kind, word(moves.len()), next.unwrap_or(0), units]
@@ -337,7 +337,7 @@ impl<NI: NodeIndex> Space<NI> {
             _ => [11, 0, 0, 0],
         };
         self.moved.clear();
-        if let Reply::Slid(_, moves) = &reply {
+        if let Reply::Compacted(moves) | Reply::RoomMade(_, moves) | Reply::CompactedWithin(_, moves) = &reply {
             self.moved.extend(moves.iter().flat_map(|range| [range.number as u32, range.to]));
         }
         if let Some(text) = text {

@@ -1,11 +1,11 @@
 -- The laws over whole histories of calls.
 use Rattle.offset_calls.proofs.Common.{◌≡◌, ℕ, ◌+◌, ◌-◌, ◌≤◌, List, ◌∷◌, ◌++◌, map, refl, ap, ◌∙◌, arith, le-leb, cases_lt, lt-leb, Command, HasNoLive, IsNest, number_without, Free, State, start}
-use Rattle.offset_calls.proofs.Common.{total, Call, Reply, Answer, after, replies, step, IsQuestion, number_with, raise, raise_move, renumber, replies_renumbered}
+use Rattle.offset_calls.proofs.Common.{total, Call, Reply, Answer, Compacted, after, replies, step, IsQuestion, number_with, raise, raise_move, renumber, replies_renumbered}
 use Rattle.offset_calls.proofs.Common.{Option, Some, None, option_map}
 use Rattle.offset_calls.proofs.{Along.replies-append, Alike.same_replies, Alike.number_back_again, Followed.well_call, Followed.well_calls}
 use Rattle.offset_script.proofs.{Fresh.IsOneFree, Fresh.one_free, Fresh.alike_fresh, Fresh.raise_none, Fresh.renumber_same, Members.map_same, Nests.AreTraceless, Nests.traceless, Nests.alike_after}
 use Rattle.offset_script.proofs.{Nests.number_without_none, Similar.similar_refl, Lists.count, Lists.hit_self, Well.IsWell, Well.well_start, Well.well_after}
-use Rattle.offset_calls.specs.{Calls.Move, Calls.Slid, Calls.Found, Histories.raise_range}
+use Rattle.offset_calls.specs.{Calls.CompactedWithin, Calls.Move, Calls.RoomMade, Calls.Found, Histories.raise_range}
 use Rattle.offset_calls.specs.declared.calls.LiveRange.{LiveRange}
 use Rattle.offset_script.specs.declared.scripts.Command.TheVariants as command
 use Rattle.offset_script.specs.Machine as machine
@@ -38,7 +38,9 @@ moves_none g ms = map_same (raise_move g 0) (λ m. ap (λ (k : ℕ). record { nu
 
 raised_none : (g : ℕ) (r : Reply) → raise g 0 r ≡ r
 raised_none g (Answer a) = ap Answer (raise_none a)
-raised_none g (Slid o ms) = ap (Slid o) (moves_none g ms)
+raised_none g (Compacted ms) = ap Compacted (moves_none g ms)
+raised_none g (CompactedWithin p ms) = ap (CompactedWithin p) (moves_none g ms)
+raised_none g (RoomMade c ms) = ap (RoomMade c) (moves_none g ms)
 raised_none g (Found r) = ap Found (same_range r)
   where
     same_range : (r : Option LiveRange) → option_map (raise_range g 0) r ≡ r

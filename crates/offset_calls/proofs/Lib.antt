@@ -19,7 +19,6 @@ pub mod Alike
 pub mod Along
 pub mod AtOffset
 pub mod AtPairs
-pub mod Collected
 pub mod Common
 pub mod Compacted
 pub mod Filled
@@ -30,6 +29,7 @@ pub mod Resized
 pub mod Rooms
 pub mod Rows
 pub mod Runs
+pub mod Slid
 pub mod Splits
 pub mod Stepped
 pub mod SteppedPairs

@@ -3,9 +3,8 @@ use Rattle.offset_calls.proofs.Common.{◌≡◌, ◌≢◌, ℕ, zero, suc, ◌
 use Rattle.offset_calls.proofs.Common.{option_map, if◌then◌else◌, refl, sym, ap, ap₂, subst, ◌∙◌, inl, inr, arith, length-append, false≢true, map-append, length-map, Handle, View, Ticket, Guard}
 use Rattle.offset_calls.proofs.Common.{AreAlike, Grants, IsLive, IsSame, KeepsAll, KeepsLive, KeepsOthers, KeepsSerials, KeepsSizes, handle_in, range_of, serial_of, Extends, Frees, Resets, Command}
 use Rattle.offset_calls.proofs.Common.{kept_name, IsKept, Call, Answer, Reply, Takes, renumber, AreInOrder, IsGrown, AreAllTickets, IsStored, TakesTicket, IsNumberOf}
-use Rattle.offset_calls.proofs.Common.{true, false, IsTrue, handle_of, handles_of, live_name, ticket_of}
+use Rattle.offset_calls.proofs.Common.{true, false, handle_of, handles_of, live_name, ticket_of}
 use Rattle.offset_calls.specs.Calls as plain
-use Rattle.offset_calls.specs.Calling.{slides}
 use Rattle.offset_calls.specs.Tickets.{AreSerials, IsJoinedBy, IsStepAfter, is_gone, serials_kept}
 use Rattle.offset_guarded.specs.Guard.{CoversNodes, covering, nodes}
 use Rattle.offset_guarded.specs.Step.{IsJoined}
@@ -244,19 +243,6 @@ slid_serves c g h ts r quiet still is sizes serials t = record {
   realm = ap (λ (g : Guard). g.realm) serials;
   step = subst (λ (t : ℕ). IsStepAfter c r g.step t) (sym (ap (λ (g : Guard). g.step) serials)) (still g.step);
 }
-
--- so is one that may slide ranges
-quiet_slide : (c : Call) (r : Reply) → IsTrue (slides c) → IsQuiet c r × ((s : ℕ) → IsStepAfter c r s s)
-quiet_slide call.Compact r s = (λ n l. refl, λ t. refl)
-quiet_slide (call.CompactBy n) r s = (λ n l. refl, λ t. refl)
-quiet_slide (call.CompactWithin n from u m) r s = (λ n l. refl, λ t. refl)
-quiet_slide (call.MakeRoom n) r s = (λ n l. refl, λ t. refl)
-quiet_slide (call.MakeRoomBy n align m) r s = (λ n l. refl, λ t. refl)
-quiet_slide other r s = absurd (false≢true s)
-
-pub slide_serves : (c : Call) (g h : Guard) (ts : List Ticket) (r : Reply) → IsTrue (slides c) → AreAllTickets g ts → KeepsSizes g h → h ≡ record g { space = h.space }
-    → Takes c g.space (handles_of g ts) h.space (handles_of g ts) r → TakesTicket c g ts h ts r
-slide_serves c g h ts r s is sizes serials t = let q = quiet_slide c r s in slid_serves c g h ts r q.0 q.1 is sizes serials t
 
 -- after it the number of a name is its serial, and the name is live
 module _ (g h : Guard) (ts : List Ticket) (is : AreAllTickets g ts) (sizes : KeepsSizes g h) (serials : h ≡ record g { space = h.space }) (k x : ℕ) (e : kept_name (handles_of g ts) k ≡ Some x) where

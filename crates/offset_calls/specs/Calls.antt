@@ -24,8 +24,6 @@ use Rattle.offset_calls.specs.Ending.{relocate, relocate_aligned, can_retract, r
 use Rattle.offset_calls.specs.Stepped.{kept, used_up, first_run, slid_run, to_the_end}
 use Rattle.offset_calls.specs.Budget.{is_within, longest_that, next_of}
 use Rattle.offset_calls.specs.declared.calls.LiveRange.{LiveRange}
-use Rattle.offset_calls.specs.declared.calls.Slid as came_to
-use Rattle.offset_calls.specs.declared.calls.Slid.TheVariants as came
 use Rattle.offset_calls.specs.declared.calls.Reply as program
 use Rattle.offset_calls.specs.declared.calls.Reply.TheVariants as program_reply
 
@@ -43,27 +41,13 @@ pub data Reply : Type 0 where
   -- the answer that a command has, or another call too
   Answer : machine.Answer → Reply
   Resized : Reply
-  -- what a call came to that may slide ranges, and its moves
-  Slid : came_to.Slid → List Move → Reply
+  Compacted : List Move → Reply
+  CompactedWithin : Option ℕ → List Move → Reply
   Offset : ℕ → Reply
   Refusal : Option allocator.Refusal → Reply
+  RoomMade : Option room.RoomCost → List Move → Reply
   RoomCost : Option room.RoomCost → Reply
   Found : Option LiveRange → Reply
-
--- the space is compacted, so far within a budget, or room is made, with these moves
-abbrev pub Compacted : List Move → Reply
-Compacted ms = Slid came.Compacted ms
-
-abbrev pub CompactedWithin : Option ℕ → List Move → Reply
-CompactedWithin p ms = Slid (came.CompactedWithin p) ms
-
-abbrev pub RoomMade : Option room.RoomCost → List Move → Reply
-RoomMade c ms = Slid (came.RoomMade c) ms
-
--- the reply to a call that came to this, or was refused, with these moves
-abbrev pub slid_reply : Option came_to.Slid → List Move → Reply
-slid_reply None ms = Answer machine.Refused
-slid_reply (Some o) ms = Slid o ms
 
 -- the state that a call leaves, and the reply
 pub record Outcome : Type 0 where
@@ -302,8 +286,10 @@ move_view m = record { number = m.number; from = m.from; to = m.to; size = m.siz
 abbrev pub reply_view : program.Reply → Reply
 reply_view (program_reply.Answer a) = Answer (answer_view a)
 reply_view program_reply.Resized = Resized
-reply_view (program_reply.Slid o ms) = Slid o (map move_view ms.items)
+reply_view (program_reply.Compacted ms) = Compacted (map move_view ms.items)
+reply_view (program_reply.CompactedWithin p ms) = CompactedWithin p (map move_view ms.items)
 reply_view (program_reply.Offset n) = Offset n
 reply_view (program_reply.Refusal r) = Refusal r
+reply_view (program_reply.RoomMade c ms) = RoomMade c (map move_view ms.items)
 reply_view (program_reply.RoomCost c) = RoomCost c
 reply_view (program_reply.Found r) = Found r

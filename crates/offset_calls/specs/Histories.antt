@@ -8,7 +8,7 @@ use Rattle.offset_script.specs.Machine.{State}
 use Rattle.offset_calls.specs.declared.calls.Call.{Call}
 use Rattle.offset_calls.specs.declared.calls.Call.TheVariants as call
 use Rattle.offset_calls.specs.declared.calls.LiveRange.{LiveRange}
-use Rattle.offset_calls.specs.Calls.{Move, Reply, Answer, Slid, Found, Outcome, replies, step}
+use Rattle.offset_calls.specs.Calls.{Move, Reply, Answer, Compacted, CompactedWithin, RoomMade, Found, Outcome, replies, step}
 use Rattle.offset_calls.specs.Steps.{Takes}
 use Rattle.offset_script.specs.declared.scripts.Command.TheVariants as command
 
@@ -39,7 +39,9 @@ raise_range g j r = record { number = number_with g j r.number; offset = r.offse
 -- a reply to a call after j further grants after the first g: a new grant has a number larger by j
 abbrev pub raise : ℕ → ℕ → Reply → Reply
 raise g j (Answer a) = Answer (raise_number j a)
-raise g j (Slid o ms) = Slid o (map (raise_move g j) ms)
+raise g j (Compacted ms) = Compacted (map (raise_move g j) ms)
+raise g j (CompactedWithin p ms) = CompactedWithin p (map (raise_move g j) ms)
+raise g j (RoomMade c ms) = RoomMade c (map (raise_move g j) ms)
 raise g j (Found r) = Found (option_map (raise_range g j) r)
 raise g j other = other
 

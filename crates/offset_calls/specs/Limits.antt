@@ -9,8 +9,7 @@ use Rattle.offset_script.specs.Machine as machine
 use Rattle.offset_script.specs.Steps.{Stays}
 use Rattle.offset_script.specs.declared.scripts.Command.{Command}
 use Rattle.offset_script.specs.declared.scripts.Command.TheVariants as command
-use Rattle.offset_calls.specs.Calls.{Reply, Answer, Slid, Refusal, RoomCost}
-use Rattle.offset_calls.specs.declared.calls.Slid.TheVariants as came
+use Rattle.offset_calls.specs.Calls.{Reply, Answer, Refusal, RoomMade, RoomCost}
 use Rattle.offset_calls.specs.Steps.{Takes}
 use Rattle.offset_calls.specs.Tickets.{TakesTicket, meant}
 use Rattle.offset_calls.specs.declared.calls.Call.{Call}
@@ -62,7 +61,7 @@ is_for_nodes other = false
 abbrev pub may_want_nodes : Reply → Bool
 may_want_nodes (Answer a) = answers_nothing a
 may_want_nodes (Refusal why) = is_for_nodes why
-may_want_nodes (Slid (came.RoomMade c) ms) = true
+may_want_nodes (RoomMade c ms) = true
 may_want_nodes (RoomCost c) = true
 may_want_nodes other = false
 

@@ -1,49 +1,30 @@
--- What calls come to that may slide ranges, and their moves: as the allocator reports them, and with the numbers of their grants.
-use Rattle.std.specs.Prelude.{◌≡◌, ℕ, Bool, List, [], ◌∷◌, ◌++◌, Option, Some, None, option_map, if◌then◌else◌}
+-- The ranges that slide where room is made, or a budget is used: as the allocator reports them, and with the numbers of their grants.
+use Rattle.std.specs.Prelude.{◌≡◌, ℕ, List, [], ◌∷◌, ◌++◌, Option}
 use Rattle.offset_allocator.specs.declared.moves.room.RoomCost.{RoomCost}
 use Rattle.offset_allocator.specs.declared.moves.over_frames.Progress.{Progress}
-use Rattle.offset_allocator.specs.Classes.{value, up}
 use Rattle.offset_allocator.specs.Moving.Budget.{CompactsWithin}
-use Rattle.offset_allocator.specs.Moving.BySteps.{CompactsBy, moves_by}
-use Rattle.offset_allocator.specs.Moving.Compacting.{Compacts}
-use Rattle.offset_allocator.specs.Moving.Compacting as named
-use Rattle.offset_allocator.specs.Moving.Room.{IsLeastCost, MakesRoom}
-use Rattle.offset_allocator.specs.Moving.RoomBySteps.{IsLeastCostBy, MakesRoomBy, names_short}
-use Rattle.offset_allocator.specs.Requests.{blocks_needed, units_needed}
+use Rattle.offset_allocator.specs.Moving.Room.{MakesRoom}
+use Rattle.offset_allocator.specs.Moving.RoomBySteps.{MakesRoomBy}
 use Rattle.offset_allocator.specs.View.{Handle, View}
-use Rattle.offset_calls.specs.declared.calls.Call.{Call}
-use Rattle.offset_calls.specs.declared.calls.Call.TheVariants as call
+use Rattle.offset_allocator.specs.Moving.Compacting as named
 use Rattle.offset_calls.specs.declared.calls.Moved.{Moved}
-use Rattle.offset_calls.specs.declared.calls.Slid.{Slid}
-use Rattle.offset_calls.specs.declared.calls.Slid.TheVariants as came
 use Rattle.offset_calls.specs.Calls.{Move}
 
 -- moves are noted in their order
 abbrev pub Notes : List named.Move → named.Move → List named.Move → Type 0
 Notes xs x ys = ys ≡ xs ++ x ∷ []
 
--- what a compaction comes to, which is done or refused
-abbrev pub done : Bool → Option Slid
-done d = if d then Some came.Compacted else None
+-- room is made at a cost, with these moves in their order
+pub record IsMade (want : ℕ) (v : View) (c : Option RoomCost) (w : View) (xs : List named.Move) : Type 0 where
+  pub made : MakesRoom Notes want v [] c w xs
 
--- what one within a budget comes to, or that it is refused
-abbrev pub so_far : Option Progress → Option Slid
-so_far p = option_map (λ (p : Progress). came.CompactedWithin p.next) p
+-- room is made by steps of n units: a run serves where it gives up at least `want` units and `short` names
+pub record IsMadeBy (n want short : ℕ) (v : View) (c : Option RoomCost) (w : View) (xs : List named.Move) : Type 0 where
+  pub made : MakesRoomBy Notes n want short v [] c w xs
 
--- the call comes to this, or is refused, with these moves in their order
-abbrev pub IsSlid : Call → View → Option Slid → View → List named.Move → Type 0
-IsSlid call.Compact v o w xs = Compacts v w × (o ≡ Some came.Compacted) × (xs ≡ named.moves 0 0 v.blocks)
-IsSlid (call.CompactBy n) v o w xs = (d : Bool) × CompactsBy n v w d × (o ≡ done d)
-    × (xs ≡ (if d then moves_by n 0 0 v.blocks else []))
-IsSlid (call.CompactWithin n from u k) v o w xs = (p : Option Progress)
-    × CompactsWithin Notes n from u k v [] p w xs × (o ≡ so_far p)
-IsSlid (call.MakeRoom n) v o w xs = (c : Option RoomCost) × IsLeastCost (value (up n)) v.blocks c
-    × MakesRoom Notes (value (up n)) v [] c w xs × (o ≡ Some (came.RoomMade c))
-IsSlid (call.MakeRoomBy n align m) v o w xs = (c : Option RoomCost)
-    × IsLeastCostBy m (value (up (units_needed n align))) (names_short (blocks_needed align) v) v.blocks c
-    × MakesRoomBy Notes m (value (up (units_needed n align))) (names_short (blocks_needed align) v) v [] c w xs
-    × (o ≡ Some (came.RoomMade c))
-IsSlid other v o w xs = ⊥
+-- a compaction within a budget comes so far, with these moves in their order
+pub record IsMovedWithin (n from u r : ℕ) (v : View) (p : Option Progress) (w : View) (xs : List named.Move) : Type 0 where
+  pub moved : CompactsWithin Notes n from u r v [] p w xs
 
 -- a move of the range that has this handle after it
 abbrev pub named_move : Handle × Moved → named.Move

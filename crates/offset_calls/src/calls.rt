@@ -1,9 +1,7 @@
 //! Calls, and the replies to them. It touches no space.
 
-ghost use Rattle.std.specs.Prelude.{◌≡◌, ◌↔◌, All, IsTrue, if◌then◌else◌, map};
-ghost use Rattle.offset_script.specs.Machine as machine;
-ghost use Rattle.offset_calls.specs.Calls.{is_valid, move_view, reply_view, slid_reply};
-ghost use Rattle.offset_calls.specs.Calls as plain;
+ghost use Rattle.std.specs.Prelude.{◌≡◌, ◌↔◌, All, IsTrue};
+ghost use Rattle.offset_calls.specs.Calls.{is_valid, reply_view};
 ghost use Rattle.offset_calls.specs.Steps.{begins_at};
 
 use offset_allocator::{Refusal, RoomCost};
@@ -130,19 +128,6 @@ pub struct Moved {
     pub size: u32,
 }
 
-/// What a call came to that may slide ranges.
-#[derive(Clone, Copy, PartialEq, Debug)]
-pub enum Slid {
-    /// `Compact` or `CompactBy`: the space is compacted.
-    Compacted,
-    /// `CompactWithin`: where the next compaction within a budget goes on, or `None` where this one came to the
-    /// end of the space.
-    CompactedWithin(Option<u32>),
-    /// `MakeRoom` or `MakeRoomBy`: what was moved to make room, or `None` where nothing would do, as `RoomCost`
-    /// says it.
-    RoomMade(Option<RoomCost>),
-}
-
 /// A live range: the number of its grant, and where it begins.
 #[derive(Clone, Copy, PartialEq, Debug)]
 pub struct LiveRange {
@@ -162,38 +147,23 @@ pub enum Reply {
     Answer(Answer),
     /// The range, or the space, has the new size.
     Resized,
-    /// What the call came to, and the ranges that it moved, in space order.
-    Slid(Slid, Vec<Moved>),
+    /// The ranges that the compaction moved, in space order.
+    Compacted(Vec<Moved>),
+    /// Where the next compaction within a budget goes on, or `None` where this one came to the end of the space;
+    /// and the ranges that it moved, in space order.
+    CompactedWithin(Option<u32>, Vec<Moved>),
     /// Where the range begins, or would begin.
     Offset(u32),
     /// Why the request would be refused, or `None` where it would be granted.
     Refusal(Option<Refusal>),
+    /// What was moved to make room, or `None` where nothing would do, as `RoomCost` says it; and the ranges that
+    /// were moved, in space order.
+    RoomMade(Option<RoomCost>, Vec<Moved>),
     /// What would have to be moved, or `None` where all free units together are not enough, or by steps where no
     /// run of blocks gives up enough units and nodes.
     RoomCost(Option<RoomCost>),
     /// The live range that was asked for, or `None` where there is none.
     Found(Option<LiveRange>),
-}
-
-// The reply to a call that was to resize a range, or the space.
-pub(crate) fn resized(done: bool) -> Reply
-    ensures { reply_view result ≡ (if done then plain.Resized else plain.Answer machine.Refused) }
-{
-    if done {
-        Reply::Resized
-    } else {
-        Reply::Answer(Answer::Refused)
-    }
-}
-
-// The reply to a call that may slide ranges, and came to this, or was refused, with these moves.
-pub(crate) fn slid_reply(came_to: Option<Slid>, moves: Vec<Moved>) -> Reply
-    ensures { reply_view result ≡ slid_reply came_to (map move_view moves.items) }
-{
-    let Some(came_to) = came_to else {
-        return Reply::Answer(Answer::Refused);
-    };
-    Reply::Slid(came_to, moves)
 }
 
 // The reply to `WouldBegin`.

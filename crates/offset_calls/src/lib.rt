@@ -8,8 +8,6 @@
 //! first, the last, or beside one. The replies are proved to be those of the plain stamped list of blocks, which
 //! `specs/Calls.antt` extends by these calls, for every lawful layout and index type.
 #![tactic(auto)]
-// Each module uses those before it alone: calls, numbers, ticket_player, sliding, ending, playing, player, guarded_ending,
-// guarded_playing, guarded.
 
 mod calls;
 mod ending;
@@ -21,9 +19,8 @@ mod numbers;
 mod player;
 mod playing;
 mod sliding;
-mod ticket_player;
 
-pub use calls::{Call, LiveRange, Moved, Reply, Slid, are_valid};
+pub use calls::{Call, LiveRange, Moved, Reply, are_valid};
 pub use guarded::{Played, TicketCall, play_guarded};
 pub use player::{CallPlayer, CallPlayerOf};
 pub use playing::{play_calls, play_calls_of};

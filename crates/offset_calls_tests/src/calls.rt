@@ -38,7 +38,7 @@ const RESIZES: List = List {
         // 10 and 5 live, 15 free, 30 live, 40 free
         (
             Call::Compact,
-            "Slid(Compacted, [Moved { number: 3, from: 30, to: 15, size: 30 }])",
+            "Compacted([Moved { number: 3, from: 30, to: 15, size: 30 }])",
         ),
         (Call::Offset(3), "Offset(15)"),
         (Call::Grow(3, 50), "Resized"),
@@ -62,9 +62,9 @@ const RESIZES: List = List {
         (Call::Refusal(10), "Refusal(None)"),
         (
             Call::Compact,
-            "Slid(Compacted, [Moved { number: 2, from: 10, to: 0, size: 5 }, Moved { number: 3, from: 15, to: 5, size: 50 }])",
+            "Compacted([Moved { number: 2, from: 10, to: 0, size: 5 }, Moved { number: 3, from: 15, to: 5, size: 50 }])",
         ),
-        (Call::Compact, "Slid(Compacted, [])"),
+        (Call::Compact, "Compacted([])"),
         (Call::Command(Command::Size(3)), "Answer(Size(50))"),
         // the class of a block of 45 units has the value 44
         (
@@ -113,7 +113,7 @@ const AT_THE_LIMIT: List = List {
         (Call::Shrink(2, 9), "Answer(Refused)"),
         (
             Call::Compact,
-            "Slid(Compacted, [Moved { number: 2, from: 5, to: 4, size: 10 }])",
+            "Compacted([Moved { number: 2, from: 5, to: 4, size: 10 }])",
         ),
     ],
 };
@@ -138,13 +138,13 @@ const OF_NO_UNITS: List = List {
         (Call::Command(Command::Free(1)), "Answer(Freed)"),
         (
             Call::Compact,
-            "Slid(Compacted, [Moved { number: 2, from: 4, to: 0, size: 0 }, Moved { number: 3, from: 4, to: 0, size: 3 }])",
+            "Compacted([Moved { number: 2, from: 4, to: 0, size: 0 }, Moved { number: 3, from: 4, to: 0, size: 3 }])",
         ),
         (Call::Grow(2, 1), "Answer(Refused)"),
         (Call::Shrink(3, 0), "Resized"),
         (Call::Grow(2, 0), "Resized"),
         (Call::Grow(3, 10), "Resized"),
-        (Call::Compact, "Slid(Compacted, [])"),
+        (Call::Compact, "Compacted([])"),
     ],
 };
 
@@ -223,7 +223,7 @@ const TIGHT: List = List {
             Call::AllocateTight(1),
             "Answer(Grant { number: 11, offset: 84 })",
         ),
-        (Call::Compact, "Slid(Compacted, [])"),
+        (Call::Compact, "Compacted([])"),
     ],
 };
 
@@ -456,7 +456,7 @@ const NEWEST_AT_THE_END: List = List {
         ),
         (Call::Relocate(3), "Answer(Grant { number: 4, offset: 0 })"),
         (Call::Retract(1), "Answer(Refused)"),
-        (Call::Compact, "Slid(Compacted, [])"),
+        (Call::Compact, "Compacted([])"),
     ],
 };
 
@@ -531,14 +531,14 @@ const STEPS: List = List {
             Call::RoomCostBy(33, 1, 1),
             "RoomCost(Some(RoomCost { units: 12, ranges: 2 }))",
         ),
-        (Call::CompactBy(16), "Slid(Compacted, [])"),
+        (Call::CompactBy(16), "Compacted([])"),
         (
             Call::CompactBy(5),
-            "Slid(Compacted, [Moved { number: 2, from: 8, to: 3, size: 8 }, Moved { number: 3, from: 16, to: 11, size: 4 }])",
+            "Compacted([Moved { number: 2, from: 8, to: 3, size: 8 }, Moved { number: 3, from: 16, to: 11, size: 4 }])",
         ),
         (
             Call::CompactBy(1),
-            "Slid(Compacted, [Moved { number: 2, from: 3, to: 0, size: 8 }, Moved { number: 3, from: 11, to: 8, size: 4 }])",
+            "Compacted([Moved { number: 2, from: 3, to: 0, size: 8 }, Moved { number: 3, from: 11, to: 8, size: 4 }])",
         ),
         (
             Call::Command(Command::Alloc(20)),
@@ -562,7 +562,7 @@ const STEPS: List = List {
         (Call::Shrink(6, 10), "Resized"),
         (
             Call::CompactBy(3),
-            "Slid(Compacted, [Moved { number: 3, from: 8, to: 5, size: 2 }, Moved { number: 4, from: 12, to: 9, size: 20 }, Moved { number: 6, from: 32, to: 29, size: 10 }])",
+            "Compacted([Moved { number: 3, from: 8, to: 5, size: 2 }, Moved { number: 4, from: 12, to: 9, size: 20 }, Moved { number: 6, from: 32, to: 29, size: 10 }])",
         ),
         // 4 live, 1 free, 2 live, 2 free, 20 and 10 live, 11 free
         (
@@ -606,7 +606,7 @@ const STEPS_IN_ONE_BIN: List = List {
         // 5 free, 1 live, 8 free, 1 and 24 live
         (
             Call::CompactBy(3),
-            "Slid(Compacted, [Moved { number: 2, from: 5, to: 2, size: 1 }, Moved { number: 4, from: 14, to: 5, size: 1 }, Moved { number: 5, from: 15, to: 6, size: 24 }])",
+            "Compacted([Moved { number: 2, from: 5, to: 2, size: 1 }, Moved { number: 4, from: 14, to: 5, size: 1 }, Moved { number: 5, from: 15, to: 6, size: 24 }])",
         ),
         // 2 free, 1 live, 2 free, 1 and 24 live, 9 free
         (
@@ -646,21 +646,21 @@ const STEPS_IN_PARTS: List = List {
         // 10 free, 20 live, 6 free, 30 live, 34 free; by fives the last three give up 5 and 34 units
         (
             Call::MakeRoomBy(36, 1, 5),
-            "Slid(RoomMade(Some(RoomCost { units: 30, ranges: 1 })), [Moved { number: 4, from: 36, to: 31, size: 30 }])",
+            "RoomMade(Some(RoomCost { units: 30, ranges: 1 }), [Moved { number: 4, from: 36, to: 31, size: 30 }])",
         ),
         (
             Call::Command(Command::Alloc(36)),
             "Answer(Grant { number: 5, offset: 61 })",
         ),
         // 10 free, 20 live, 1 free, 30 and 36 live, 3 free; 12 units from a multiple of 4 on need 15
-        (Call::MakeRoomBy(12, 4, 5), "Slid(RoomMade(None), [])"),
+        (Call::MakeRoomBy(12, 4, 5), "RoomMade(None, [])"),
         (
             Call::MakeRoomBy(10, 1, 5),
-            "Slid(RoomMade(Some(RoomCost { units: 0, ranges: 0 })), [])",
+            "RoomMade(Some(RoomCost { units: 0, ranges: 0 }), [])",
         ),
         (
             Call::MakeRoomBy(13, 1, 10),
-            "Slid(RoomMade(Some(RoomCost { units: 86, ranges: 3 })), [Moved { number: 2, from: 10, to: 0, size: 20 }, Moved { number: 4, from: 31, to: 21, size: 30 }, Moved { number: 5, from: 61, to: 51, size: 36 }])",
+            "RoomMade(Some(RoomCost { units: 86, ranges: 3 }), [Moved { number: 2, from: 10, to: 0, size: 20 }, Moved { number: 4, from: 31, to: 21, size: 30 }, Moved { number: 5, from: 61, to: 51, size: 36 }])",
         ),
         (
             Call::Command(Command::Alloc(13)),
@@ -670,29 +670,29 @@ const STEPS_IN_PARTS: List = List {
         // 21 free, 30, 36 and 13 live
         (
             Call::CompactWithin(22, 0, 100, 9),
-            "Slid(CompactedWithin(None), [])",
+            "CompactedWithin(None, [])",
         ),
         (
             Call::CompactWithin(10, 0, 65, 9),
-            "Slid(CompactedWithin(Some(51)), [Moved { number: 4, from: 21, to: 1, size: 30 }])",
+            "CompactedWithin(Some(51), [Moved { number: 4, from: 21, to: 1, size: 30 }])",
         ),
         // 1 free, 30 live, 20 free, 36 and 13 live; one range moves in any case
         (
             Call::CompactWithin(10, 51, 0, 0),
-            "Slid(CompactedWithin(Some(87)), [Moved { number: 5, from: 51, to: 31, size: 36 }])",
+            "CompactedWithin(Some(87), [Moved { number: 5, from: 51, to: 31, size: 36 }])",
         ),
         (
             Call::CompactWithin(3, 88, 100, 9),
-            "Slid(CompactedWithin(None), [])",
+            "CompactedWithin(None, [])",
         ),
         (
             Call::CompactWithin(3, 87, 100, 9),
-            "Slid(CompactedWithin(None), [Moved { number: 6, from: 87, to: 69, size: 13 }])",
+            "CompactedWithin(None, [Moved { number: 6, from: 87, to: 69, size: 13 }])",
         ),
         // 1 free, 30 and 36 live, 2 free, 13 live, 18 free
         (
             Call::CompactWithin(3, 0, 100, 9),
-            "Slid(CompactedWithin(None), [])",
+            "CompactedWithin(None, [])",
         ),
         (
             Call::Command(Command::Alloc(18)),
@@ -738,7 +738,7 @@ const STEPS_AT_THE_LIMIT: List = List {
         (Call::RoomCostBy(5, 1, 11), "RoomCost(None)"),
         // with an alignment it needs two more
         (Call::RoomCostBy(5, 2, 10), "RoomCost(None)"),
-        (Call::CompactBy(11), "Slid(Compacted, [])"),
+        (Call::CompactBy(11), "Compacted([])"),
         // of 10 units 1 stays, and of 5 all
         (Call::CompactBy(9), "Answer(Refused)"),
         (Call::CompactWithin(9, 0, 15, 2), "Answer(Refused)"),
@@ -746,23 +746,23 @@ const STEPS_AT_THE_LIMIT: List = List {
         // the last block of the run is free
         (
             Call::CompactWithin(9, 0, 5, 2),
-            "Slid(CompactedWithin(Some(20)), [Moved { number: 2, from: 10, to: 1, size: 5 }])",
+            "CompactedWithin(Some(20), [Moved { number: 2, from: 10, to: 1, size: 5 }])",
         ),
         // 1 free, 5 live, 14 free, 10 live
         (Call::CompactBy(9), "Answer(Refused)"),
         // the block of two steps is used up
         (
             Call::CompactBy(7),
-            "Slid(Compacted, [Moved { number: 3, from: 20, to: 6, size: 10 }])",
+            "Compacted([Moved { number: 3, from: 20, to: 6, size: 10 }])",
         ),
         // 1 free, 5 and 10 live, 14 free
         (
             Call::CompactWithin(1, 0, 5, 1),
-            "Slid(CompactedWithin(Some(6)), [Moved { number: 2, from: 1, to: 0, size: 5 }])",
+            "CompactedWithin(Some(6), [Moved { number: 2, from: 1, to: 0, size: 5 }])",
         ),
         (
             Call::CompactBy(1),
-            "Slid(Compacted, [Moved { number: 3, from: 6, to: 5, size: 10 }])",
+            "Compacted([Moved { number: 3, from: 6, to: 5, size: 10 }])",
         ),
     ],
 };
@@ -778,7 +778,7 @@ const ROOM: List = List {
             "RoomCost(Some(RoomCost { units: 0, ranges: 0 }))",
         ),
         (Call::RoomCost(97), "RoomCost(None)"),
-        (Call::MakeRoom(97), "Slid(RoomMade(None), [])"),
+        (Call::MakeRoom(97), "RoomMade(None, [])"),
         (
             Call::Command(Command::Alloc(10)),
             "Answer(Grant { number: 1, offset: 0 })",
@@ -809,14 +809,14 @@ const ROOM: List = List {
         ),
         // nothing is free
         (Call::RoomCost(0), "RoomCost(None)"),
-        (Call::MakeRoom(0), "Slid(RoomMade(None), [])"),
+        (Call::MakeRoom(0), "RoomMade(None, [])"),
         (Call::Command(Command::Free(1)), "Answer(Freed)"),
         (Call::Command(Command::Free(3)), "Answer(Freed)"),
         (Call::Command(Command::Free(5)), "Answer(Freed)"),
         // free: 10 units at 0, at 20 and at 40
         (
             Call::MakeRoom(10),
-            "Slid(RoomMade(Some(RoomCost { units: 0, ranges: 0 })), [])",
+            "RoomMade(Some(RoomCost { units: 0, ranges: 0 }), [])",
         ),
         (
             Call::RoomCost(20),
@@ -824,7 +824,7 @@ const ROOM: List = List {
         ),
         (
             Call::MakeRoom(20),
-            "Slid(RoomMade(Some(RoomCost { units: 10, ranges: 1 })), [Moved { number: 4, from: 30, to: 20, size: 10 }])",
+            "RoomMade(Some(RoomCost { units: 10, ranges: 1 }), [Moved { number: 4, from: 30, to: 20, size: 10 }])",
         ),
         (Call::Offset(4), "Offset(20)"),
         (Call::Offset(2), "Offset(10)"),
@@ -832,7 +832,7 @@ const ROOM: List = List {
             Call::Command(Command::Alloc(20)),
             "Answer(Grant { number: 8, offset: 30 })",
         ),
-        (Call::MakeRoom(11), "Slid(RoomMade(None), [])"),
+        (Call::MakeRoom(11), "RoomMade(None, [])"),
         (Call::Command(Command::Free(7)), "Answer(Freed)"),
         // 10 free, 10, 10, 20 and 10 live, 40 free; the class of 41 units has the value 44
         (
@@ -841,9 +841,9 @@ const ROOM: List = List {
         ),
         (
             Call::MakeRoom(41),
-            "Slid(RoomMade(Some(RoomCost { units: 50, ranges: 4 })), [Moved { number: 2, from: 10, to: 0, size: 10 }, Moved { number: 4, from: 20, to: 10, size: 10 }, Moved { number: 8, from: 30, to: 20, size: 20 }, Moved { number: 6, from: 50, to: 40, size: 10 }])",
+            "RoomMade(Some(RoomCost { units: 50, ranges: 4 }), [Moved { number: 2, from: 10, to: 0, size: 10 }, Moved { number: 4, from: 20, to: 10, size: 10 }, Moved { number: 8, from: 30, to: 20, size: 20 }, Moved { number: 6, from: 50, to: 40, size: 10 }])",
         ),
-        (Call::Compact, "Slid(Compacted, [])"),
+        (Call::Compact, "Compacted([])"),
         (
             Call::Command(Command::Alloc(48)),
             "Answer(Grant { number: 9, offset: 50 })",
@@ -903,7 +903,7 @@ const COSTS: List = List {
         // the same blocks
         (
             Call::MakeRoom(13),
-            "Slid(RoomMade(Some(RoomCost { units: 5, ranges: 2 })), [Moved { number: 6, from: 26, to: 22, size: 5 }, Moved { number: 7, from: 31, to: 27, size: 0 }])",
+            "RoomMade(Some(RoomCost { units: 5, ranges: 2 }), [Moved { number: 6, from: 26, to: 22, size: 5 }, Moved { number: 7, from: 31, to: 27, size: 0 }])",
         ),
         (
             Call::Command(Command::Alloc(9)),
@@ -920,11 +920,11 @@ const COSTS: List = List {
         ),
         (
             Call::MakeRoom(8),
-            "Slid(RoomMade(Some(RoomCost { units: 5, ranges: 1 })), [Moved { number: 2, from: 4, to: 0, size: 5 }])",
+            "RoomMade(Some(RoomCost { units: 5, ranges: 1 }), [Moved { number: 2, from: 4, to: 0, size: 5 }])",
         ),
         (
             Call::MakeRoom(9),
-            "Slid(RoomMade(Some(RoomCost { units: 23, ranges: 4 })), [Moved { number: 4, from: 13, to: 5, size: 9 }, Moved { number: 6, from: 22, to: 14, size: 5 }, Moved { number: 7, from: 27, to: 19, size: 0 }, Moved { number: 8, from: 27, to: 19, size: 9 }])",
+            "RoomMade(Some(RoomCost { units: 23, ranges: 4 }), [Moved { number: 4, from: 13, to: 5, size: 9 }, Moved { number: 6, from: 22, to: 14, size: 5 }, Moved { number: 7, from: 27, to: 19, size: 0 }, Moved { number: 8, from: 27, to: 19, size: 9 }])",
         ),
         (Call::Offset(7), "Offset(19)"),
         (
@@ -964,11 +964,11 @@ const RANGES: List = List {
         // 2 free, 3 live, 2 free, 3 and 0 live, 3 free
         (
             Call::MakeRoom(4),
-            "Slid(RoomMade(Some(RoomCost { units: 3, ranges: 1 })), [Moved { number: 2, from: 2, to: 0, size: 3 }])",
+            "RoomMade(Some(RoomCost { units: 3, ranges: 1 }), [Moved { number: 2, from: 2, to: 0, size: 3 }])",
         ),
         (
             Call::MakeRoom(5),
-            "Slid(RoomMade(Some(RoomCost { units: 3, ranges: 2 })), [Moved { number: 4, from: 7, to: 3, size: 3 }, Moved { number: 5, from: 10, to: 6, size: 0 }])",
+            "RoomMade(Some(RoomCost { units: 3, ranges: 2 }), [Moved { number: 4, from: 7, to: 3, size: 3 }, Moved { number: 5, from: 10, to: 6, size: 0 }])",
         ),
         (
             Call::Command(Command::Alloc(7)),

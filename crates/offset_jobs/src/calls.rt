@@ -2,7 +2,7 @@
 
 use crate::random::{Digest, Random};
 use offset_allocator::{ByNode, RoomCost};
-use offset_calls::{Call, Moved, Reply, Slid, TicketCall, are_valid, play_calls, play_guarded};
+use offset_calls::{Call, Moved, Reply, TicketCall, are_valid, play_calls, play_guarded};
 use offset_script::{Answer, Command};
 use std::alloc::{AllocError, Global};
 
@@ -55,17 +55,18 @@ pub fn add_replies(replies: &[Reply], digest: &mut Digest) {
         match reply {
             Reply::Answer(answer) => add_answer(answer, digest),
             Reply::Resized => digest.add(6),
-            Reply::Slid(slid, moves) => {
-                match slid {
-                    Slid::Compacted => {}
-                    Slid::CompactedWithin(next) => digest.add(u64::from(next.unwrap_or(0))),
-                    Slid::RoomMade(cost) => add_cost(cost, digest),
-                }
-                add_moves(moves, digest);
-            }
+            Reply::Compacted(moves) => add_moves(moves, digest),
             Reply::Offset(offset) => digest.add(u64::from(*offset)),
             Reply::Refusal(None) => digest.add(7),
             Reply::Refusal(Some(why)) => digest.add(8 + *why as u64),
+            Reply::RoomMade(cost, moves) => {
+                add_cost(cost, digest);
+                add_moves(moves, digest);
+            }
+            Reply::CompactedWithin(next, moves) => {
+                digest.add(u64::from(next.unwrap_or(0)));
+                add_moves(moves, digest);
+            }
             Reply::RoomCost(cost) => add_cost(cost, digest),
             Reply::Found(None) => digest.add(13),
             Reply::Found(Some(range)) => {

@@ -1,7 +1,7 @@
 //! Results as numbers. A variant of an enum is its place in the declaration, from 0.
 
 use offset_allocator::{RoomCost, StorageReport};
-use offset_calls::{Moved, Reply, Slid};
+use offset_calls::{Moved, Reply};
 use offset_refusal_base::cells::{Cells, put};
 use offset_script::{Answer, Command, FullRow, IndexWidth, Script, ScriptFault};
 
@@ -120,15 +120,8 @@ fn put_reply(cells: &mut Cells<'_>, reply: &Reply) {
             put_answer(cells, answer);
         }
         Reply::Resized => put(cells, 1),
-        Reply::Slid(slid, moves) => {
-            match slid {
-                Slid::Compacted => put(cells, 2),
-                Slid::RoomMade(cost) => {
-                    put(cells, 6);
-                    put_cost(cells, cost);
-                }
-                Slid::CompactedWithin(next) => put_all(cells, &[10, next.unwrap_or(u32::MAX)]),
-            }
+        Reply::Compacted(moves) => {
+            put(cells, 2);
             put_moves(cells, moves);
         }
         Reply::Offset(offset) => put_all(cells, &[3, *offset]),
@@ -137,9 +130,18 @@ fn put_reply(cells: &mut Cells<'_>, reply: &Reply) {
             put(cells, 5);
             put(cells, u64::from(*why as u8));
         }
+        Reply::RoomMade(cost, moves) => {
+            put(cells, 6);
+            put_cost(cells, cost);
+            put_moves(cells, moves);
+        }
         Reply::RoomCost(cost) => {
             put(cells, 7);
             put_cost(cells, cost);
+        }
+        Reply::CompactedWithin(next, moves) => {
+            put_all(cells, &[10, next.unwrap_or(u32::MAX)]);
+            put_moves(cells, moves);
         }
         Reply::Found(None) => put(cells, 8),
         Reply::Found(Some(range)) => {

@@ -152,7 +152,7 @@ impl<NI: NodeIndex> Following<NI> {
                 self.ended = self.grants.len();
             }
             (Reply::Resized, Call::Shrink(k, _) | Call::Grow(k, _)) => self.change(i, k as usize - 1)?,
-            (Reply::Slid(_, moves), _) => {
+            (Reply::Compacted(moves) | Reply::CompactedWithin(_, moves) | Reply::RoomMade(_, moves), _) => {
                 // the number of a grant is one more than its place
                 moves.iter().try_for_each(|it| self.change(i, it.number as usize - 1))?;
             }

@@ -24,7 +24,7 @@ pub use offset_allocator_guarded::{Beside, Guarded, GuardedOf, Ticket};
 pub use offset_allocator_heaps::{Granted, Heaps, HeapsOf, Limits, Place, Refusal as HeapRefusal};
 pub use offset_allocator_proved::{AllocError, Allocation, Allocator, AllocatorOf, ByField, ByNode, Global};
 pub use offset_allocator_proved::{Move, Progress, Refusal, RoomCost, Tables};
-pub use offset_calls::{Call, CallPlayer, LiveRange, Moved, Reply, Slid};
+pub use offset_calls::{Call, CallPlayer, LiveRange, Moved, Reply};
 pub use offset_pictures::Course;
 pub use offset_script::{Answer, Command, IndexWidth, RunFault, ScriptFault};
 pub use playing::{play, put_reply};

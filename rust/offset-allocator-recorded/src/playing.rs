@@ -2,7 +2,7 @@
 
 use crate::reading::{Header, HeapLine, Line, Lines, NoHeap};
 use offset_allocator_memory::{AllocError, Global, String, Vec};
-use offset_calls::{Call, CallPlayer, Reply, Slid};
+use offset_calls::{Call, CallPlayer, Reply};
 use offset_script::{IndexWidth, RunFault, ScriptFault};
 use std::collections::BTreeMap;
 use std::io::{BufRead, Write};
@@ -17,9 +17,9 @@ pub fn put_reply(out: &mut Vec<u8>, call: Call, reply: &Reply) -> Result<(), All
             Call::Grow(..) => "grown",
             _ => "retracted",
         },
-        Reply::Slid(Slid::Compacted, _) => "compacted",
+        Reply::Compacted(_) => "compacted",
         Reply::Refusal(None) => "granted",
-        Reply::Slid(Slid::RoomMade(None), _) | Reply::RoomCost(None) | Reply::Found(None) => "none",
+        Reply::RoomMade(None, _) | Reply::RoomCost(None) | Reply::Found(None) => "none",
         Reply::Refusal(Some(why)) => {
             write!(line, "{why}")?;
             &line
@@ -28,11 +28,11 @@ pub fn put_reply(out: &mut Vec<u8>, call: Call, reply: &Reply) -> Result<(), All
             write!(line, "offset {offset}")?;
             &line
         }
-        Reply::Slid(Slid::RoomMade(Some(cost)), _) | Reply::RoomCost(Some(cost)) => {
+        Reply::RoomMade(Some(cost), _) | Reply::RoomCost(Some(cost)) => {
             write!(line, "ranges {} units {}", cost.ranges, cost.units)?;
             &line
         }
-        Reply::Slid(Slid::CompactedWithin(next), moves) => {
+        Reply::CompactedWithin(next, moves) => {
             let units: u32 = moves.iter().map(|range| range.size).sum();
             write!(line, "ranges {} units {units} ", moves.len())?;
             match next {

@@ -286,8 +286,7 @@ fn refusals_of_many_heaps_are_read() {
 fn a_pass_ends_or_goes_on() {
     let call = offset_allocator_recorded::Call::CompactWithin(1, 0, 1, 1);
     for (next, end) in [(None, "end"), (Some(0), "next 0"), (Some(u32::MAX), "next 4294967295")] {
-        let slid = offset_allocator_recorded::Slid::CompactedWithin(next);
-        let reply = offset_allocator_recorded::Reply::Slid(slid, offset_calls::memory::Vec::new(Global));
+        let reply = offset_allocator_recorded::Reply::CompactedWithin(next, offset_calls::memory::Vec::new(Global));
         let mut out = offset_calls::memory::Vec::new(Global);
         offset_allocator_recorded::put_reply(&mut out, call, &reply).unwrap();
         assert_eq!(out.as_slice(), format!("ranges 0 units 0 {end}\n").as_bytes());

@@ -14,8 +14,6 @@ pub use offset_allocator::{Allocation, Allocator, AllocatorOf, ByField, ByNode, 
 pub use offset_allocator::{Refusal, RoomCost, StorageReport, Tables};
 pub use offset_guarded::{Guarded, GuardedOf, Ticket};
 pub use offset_script::{Answer, Command, FullRow, PlayerOf};
-// Each module uses those before it alone: calls, numbers, ticket_player, sliding, ending, playing, player, guarded_ending,
-// guarded_playing, guarded.
 
 mod calls;
 mod ending;
@@ -26,9 +24,8 @@ mod numbers;
 mod player;
 mod playing;
 mod sliding;
-mod ticket_player;
 
-pub use calls::{Call, LiveRange, Moved, Reply, Slid, are_valid};
+pub use calls::{Call, LiveRange, Moved, Reply, are_valid};
 pub use guarded::{Played, TicketCall, play_guarded};
 pub use player::{CallPlayer, CallPlayerOf};
 pub use playing::{play_calls, play_calls_of};

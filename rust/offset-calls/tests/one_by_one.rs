@@ -64,7 +64,7 @@ fn alike<T: Tables>(seed: u64) -> usize {
     assert_eq!(said(&one_by_one), whole, "seed {seed}");
     let with_tickets: Vec<TicketCall> = calls.iter().map(|call| TicketCall { call: *call, ticket: None }).collect();
     assert_eq!(said(&play_guarded::<T>(Global, size, nodes, 7, &with_tickets).unwrap().replies), whole, "seed {seed}");
-    whole.iter().filter(|it| it.starts_with("Slid(RoomMade(Some") || it.starts_with("Found(Some")).count()
+    whole.iter().filter(|it| it.starts_with("RoomMade(Some") || it.starts_with("Found(Some")).count()
 }
 
 #[test]

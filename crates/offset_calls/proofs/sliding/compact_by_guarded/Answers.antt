@@ -1,0 +1,31 @@
+use Rattle.offset_calls.proofs.Common.{◌≡◌, ◌∙◌, None, All, map, sym, ap, refl, subst, serial_of, handles_of, Takes}
+use Rattle.offset_allocator.specs.Ranges.{range_of}
+use Rattle.offset_calls.specs.Slides.{numbered_move}
+use Rattle.offset_calls.specs.declared.calls.Call.TheVariants as call
+use Rattle.offset_calls.proofs.{Slid.steps_take, Slid.steps_numbers, Slid.slides_live, Tickets.slid_live, Tickets.slid_serial, Tickets.slid_serves}
+use Rattle.offset_calls.proofs.sliding.compact_by_guarded.Goals as goal
+
+pub with_serials-requires : goal.with_serials-requires
+with_serials-requires g c =
+    let old = c.args.player.now.space in
+    let now = c.compacted_by_guarded-done.new.space in
+    let hs = handles_of old c.args.player.now.tickets.items in
+    let ss = c.compacted_by_guarded-done.new.seen.found.items in
+    record {
+      live = subst (All (λ s. range_of s.0.name now.space ≡ None → ⊥)) (sym c.deref.ensures.value)
+          (slides_live hs (λ x. range_of x now.space ≡ None → ⊥)
+          (slid_live old now c.args.player.now.tickets.items c.requires.all_tickets c.compacted_by_guarded-done.ensures.sizes c.compacted_by_guarded-done.ensures.serials)
+          ss (steps_numbers old.space now.space hs ss c.requires.kept c.args.step c.compacted_by_guarded-done.result (c.compacted_by_guarded-done.ensures.moves c.if-seen.false)));
+    }
+
+pub returns : goal.returns
+returns g c =
+    let old = c.args.player.now.space in
+    let now = c.compacted_by_guarded-done.new.space in
+    let ts = c.args.player.now.tickets.items in
+    slid_serves (call.CompactBy c.args.step) old now ts _ (λ _ cells. refl) (λ s. refl) c.requires.all_tickets c.compacted_by_guarded-done.ensures.sizes c.compacted_by_guarded-done.ensures.serials
+    (subst (Takes (call.CompactBy c.args.step) old.space (handles_of old ts) now.space (handles_of old ts)) (sym c.by_steps.ensures)
+    (steps_take old.space now.space (handles_of old ts) c.compacted_by_guarded-done.new.seen.found.items c.requires.kept (λ x. serial_of x now) _
+    (slid_serial old now ts c.requires.all_tickets c.compacted_by_guarded-done.ensures.sizes c.compacted_by_guarded-done.ensures.serials)
+    (c.in_ok-with_serials.ensures ∙ ap (map (numbered_move (λ x. serial_of x now))) c.deref.ensures.value)
+    c.args.step c.compacted_by_guarded-done.result c.compacted_by_guarded-done.ensures.step (c.compacted_by_guarded-done.ensures.moves c.if-seen.false)))
