@@ -35,10 +35,12 @@ use Rattle.offset_script.specs.Machine as machine
 use Rattle.offset_script.specs.declared.scripts.Command.TheVariants as command
 use Rattle.offset_calls.specs.declared.calls.Call.TheVariants as call
 use Rattle.offset_calls.specs.declared.calls.LiveRange.{LiveRange}
-use Rattle.offset_calls.specs.Steps.{begins_at, comes_so_far}
+use Rattle.offset_calls.specs.Steps.{begins_at, TakesSlide}
+use Rattle.offset_calls.specs.declared.sliding.Slid.{Slid}
+use Rattle.offset_calls.specs.declared.sliding.Slid.TheVariants as came
 use Rattle.offset_calls.proofs.Begun.{begin_counted, same_begin}
 use Rattle.offset_calls.specs.Calls as plain
-use Rattle.offset_calls.specs.{Histories.Runs, Slides.Notes, Steps.Finds, Steps.IsNumbered, Steps.IsReasonTight, Steps.TakesRoom, Steps.TakesRoomBy, Steps.TakesTight, Steps.TakesWithin}
+use Rattle.offset_calls.specs.{Histories.Runs, Slides.IsSlid, Slides.Notes, Slides.done, Slides.slid_reply, Slides.so_far, Steps.Finds, Steps.IsNumbered, Steps.IsReasonTight, Steps.TakesTight}
 
 -- ---- parts of steps
 -- where a name is kept, and where none is
@@ -150,35 +152,29 @@ module _ (v : View) (known : IsWellFormed v) (accesses : ℕ) (w w' : View) (hs 
   at_taken : (offset n : ℕ) (r r' : Reply) → TakesAt offset n v hs w left r → TakesAt offset n z hs w' left' r' → AreSame r r' w w' left left'
   at_taken offset n r r' t k = answered t.1 k.1 r r' t.4 k.4 (granted t.0 k.0 (at_decided offset n v z w w' known refl t.0 k.0 t.2 k.2) t.1 k.1 t.3 k.3)
 
-  room_taken : (want : ℕ) (r r' : Reply) → left ≡ hs → left' ≡ hs → TakesRoom want v hs w r → TakesRoom want z hs w' r' → AreSame r r' w w' left left'
-  room_taken want r r' e f t k =
-      let s = noted_decided want v z w w' known refl t.0 k.0 t.2 k.2 t.1 k.1 t.3.made k.3.made in
-      let same = same_moves hs apart k.2 t.4 k.4 (subst (λ xs. AreNumbered hs xs t.4) s.1 t.5) k.5 in
-      (t.6 ∙ ap₂ plain.RoomMade s.0 same ∙ sym k.6, s.2, e ∙ sym f)
+  slid_same : (c : Call) (o o' : Slid) (xs ys : List named.Move) → IsSlid c v o w xs → IsSlid c z o' w' ys → (o ≡ o') × (xs ≡ ys) × SameState w w'
+  slid_same call.Compact o o' xs ys t k = (t.1 ∙ sym k.1, t.2 ∙ sym k.2, compacts_decided v z w w' refl t.0 k.0)
+  slid_same (call.CompactBy n) o o' xs ys t k =
+      let s = compacts_by_decided n v z w w' refl t.0 k.0 t.1 k.1 in
+      (t.2 ∙ ap done s.0 ∙ sym k.2, t.3 ∙ ap (λ (d : Bool). if d then moves_by n 0 0 v.blocks else []) s.0 ∙ sym k.3, s.1)
+  slid_same (call.CompactWithin n from u m) o o' xs ys t k =
+      let s = within_decided n from u m v z w w' known refl t.0 k.0 xs ys t.1 k.1 in (t.2 ∙ ap so_far s.0 ∙ sym k.2, s.1, s.2)
+  slid_same (call.MakeRoom n) o o' xs ys t k =
+      let s = noted_decided (value (up n)) v z w w' known refl t.0 k.0 xs ys t.1 k.1 t.2 k.2 in (t.3 ∙ ap came.RoomMade s.0 ∙ sym k.3, s.1, s.2)
+  slid_same (call.MakeRoomBy n align m) o o' xs ys t k =
+      let s = noted_by_decided m (value (up (units_needed n align))) (blocks_needed align) v z w w' known refl t.0 k.0 xs ys t.1 k.1 t.2 k.2 in
+      (t.3 ∙ ap came.RoomMade s.0 ∙ sym k.3, s.1, s.2)
+  slid_same other o o' xs ys t k = absurd t
 
-  room_by_taken : (m want k : ℕ) (r r' : Reply) → left ≡ hs → left' ≡ hs → TakesRoomBy m want (names_short k v) v hs w r → TakesRoomBy m want (names_short k z) z hs w' r' → AreSame r r' w w' left left'
-  room_by_taken m want k r r' e f t q =
-      let s = noted_by_decided m want k v z w w' known refl t.0 q.0 t.2 q.2 t.1 q.1 t.3.made q.3.made in
-      let same = same_moves hs apart q.2 t.4 q.4 (subst (λ xs. AreNumbered hs xs t.4) s.1 t.5) q.5 in
-      (t.6 ∙ ap₂ plain.RoomMade s.0 same ∙ sym q.6, s.2, e ∙ sym f)
-
-  within_taken : (n from u k : ℕ) (r r' : Reply) → left ≡ hs → left' ≡ hs → TakesWithin n from u k v hs w r → TakesWithin n from u k z hs w' r' → AreSame r r' w w' left left'
-  within_taken n from u k r r' e f t q =
-      let s = within_decided n from u k v z w w' known refl t.0 q.0 t.1 q.1 t.2.moved q.2.moved in
-      let same = same_moves hs apart q.1 t.3 q.3 (subst (λ xs. AreNumbered hs xs t.3) s.1 t.4) q.4 in
-      (t.5 ∙ ap₂ comes_so_far s.0 same ∙ sym q.5, s.2, e ∙ sym f)
+  slide_taken : (c : Call) (r r' : Reply) → TakesSlide c v hs w r → TakesSlide c z hs w' r' → left ≡ hs → left' ≡ hs → AreSame r r' w w' left left'
+  slide_taken c r r' t k e f =
+      let s = slid_same c t.0 k.0 t.1 k.1 t.2 k.2 in
+      let same = same_moves hs apart k.1 t.3 k.3 (subst (λ xs. AreNumbered hs xs t.3) s.1 t.4) k.4 in
+      (t.5 ∙ ap₂ slid_reply s.0 same ∙ sym k.5, s.2, e ∙ sym f)
 
   resized_taken : (d d' : Bool) (r r' : Reply) → (d ≡ d') × SameState w w' → left ≡ hs → left' ≡ hs → r ≡ (if d then plain.Resized else Answer machine.Refused) → r' ≡ (if d' then plain.Resized else Answer machine.Refused)
       → AreSame r r' w w' left left'
   resized_taken d d' r r' e l l' s t = (s ∙ ap (λ (b : Bool). if b then plain.Resized else Answer machine.Refused) e.0 ∙ sym t, e.1, l ∙ sym l')
-
-  stepped_taken : (n : ℕ) (d d' : Bool) (r r' : Reply) → (d ≡ d') × SameState w w' → left ≡ hs → left' ≡ hs
-      → (ms : List Move) × AreNumbered hs (if d then moves_by n 0 0 v.blocks else []) ms × (r ≡ (if d then plain.Compacted ms else Answer machine.Refused))
-      → (ms : List Move) × AreNumbered hs (if d' then moves_by n 0 0 v.blocks else []) ms × (r' ≡ (if d' then plain.Compacted ms else Answer machine.Refused))
-      → AreSame r r' w w' left left'
-  stepped_taken n d d' r r' e l l' t k =
-      let same = same_moves hs apart (if d' then moves_by n 0 0 v.blocks else []) t.0 k.0 (subst (λ b. AreNumbered hs (if b then moves_by n 0 0 v.blocks else []) t.0) e.0 t.1) k.1 in
-      (t.2 ∙ ap₂ (λ (b : Bool) ms. if b then plain.Compacted ms else Answer machine.Refused) e.0 same ∙ sym k.2, e.1, l ∙ sym l')
 
   takes_same : (c : Call) (r r' : Reply) → Takes c v hs w left r → Takes c z hs w' left' r' → AreSame r r' w w' left left'
   takes_same (call.Command c) r r' t k = answered t.0 k.0 r r' t.2 k.2 (command_decided c t.0 k.0 t.1 k.1)
@@ -186,13 +182,9 @@ module _ (v : View) (known : IsWellFormed v) (accesses : ℕ) (w w' : View) (hs 
       (λ x f g. resized_taken f.0 g.0 r r' (shrinks_decided x n v z w w' known refl f.0 g.0 f.1 g.1) f.2 g.2 f.3 g.3) (λ f g. stay r r' (f.1 ∙ sym g.1) f.0 g.0) t k
   takes_same (call.Grow i n) r r' t k = both_named (kept_name hs i) _ _ _ _ _
       (λ x f g. resized_taken f.0 g.0 r r' (grows_decided x n v z w w' known refl f.0 g.0 f.1 g.1) f.2 g.2 f.3 g.3) (λ f g. stay r r' (f.1 ∙ sym g.1) f.0 g.0) t k
-  takes_same call.Compact r r' t k = (
-    t.2.2 ∙ ap plain.Compacted (same_moves hs apart (named.moves 0 0 v.blocks) t.2.0 k.2.0 t.2.1 k.2.1) ∙ sym k.2.2,
-    compacts_decided v z w w' refl t.0 k.0,
-    t.1 ∙ sym k.1,
-  )
-  takes_same (call.CompactBy n) r r' t k = stepped_taken n t.0 k.0 r r' (compacts_by_decided n v z w w' refl t.0 k.0 t.1 k.1) t.2 k.2 t.3 k.3
-  takes_same (call.CompactWithin n from u m) r r' t k = within_taken n from u m r r' t.1 k.1 t.0 k.0
+  takes_same call.Compact r r' t k = slide_taken call.Compact r r' t.0 k.0 t.1 k.1
+  takes_same (call.CompactBy n) r r' t k = slide_taken (call.CompactBy n) r r' t.0 k.0 t.1 k.1
+  takes_same (call.CompactWithin n from u m) r r' t k = slide_taken (call.CompactWithin n from u m) r r' t.0 k.0 t.1 k.1
   takes_same (call.Offset i) r r' t k = stay r r'
       (both_named (kept_name hs i) _ _ _ _ _ (λ x f g. let same : f.0 ≡ g.0 = let q = sym f.1 ∙ g.1 in cc in f.2 ∙ ap plain.Offset same ∙ sym g.2) (λ f g. f ∙ sym g) t.1 k.1) t.0 k.0
   takes_same (call.Refusal n) r r' t k = stay r r' (t.1.2 ∙ ap plain.Refusal (same_reason v known 1 n t.1.0 k.1.0 t.1.1 k.1.1) ∙ sym k.1.2) t.0 k.0
@@ -204,8 +196,8 @@ module _ (v : View) (known : IsWellFormed v) (accesses : ℕ) (w w' : View) (hs 
   takes_same (call.RefusalTight n) r r' t k = stay r r' (t.1.2 ∙ ap plain.Refusal (same_reason_tight v known n 1 t.1.0 k.1.0 t.1.1 k.1.1) ∙ sym k.1.2) t.0 k.0
   takes_same (call.RefusalTightAligned n align) r r' t k = stay r r' (t.1.2 ∙ ap plain.Refusal (same_reason_tight v known n align t.1.0 k.1.0 t.1.1 k.1.1) ∙ sym k.1.2) t.0 k.0
   takes_same (call.WouldBegin n align) r r' t k = stay r r' (t.2.2 ∙ ap begins_at (same_begin v known n align t.1 t.2.0 k.2.0 t.2.1 (begin_counted n align v accesses k.2.0 k.2.1)) ∙ sym k.2.2) t.0 k.0
-  takes_same (call.MakeRoom n) r r' t k = room_taken (value (up n)) r r' t.1 k.1 t.0 k.0
-  takes_same (call.MakeRoomBy n align m) r r' t k = room_by_taken m (value (up (units_needed n align))) (blocks_needed align) r r' t.1 k.1 t.0 k.0
+  takes_same (call.MakeRoom n) r r' t k = slide_taken (call.MakeRoom n) r r' t.0 k.0 t.1 k.1
+  takes_same (call.MakeRoomBy n align m) r r' t k = slide_taken (call.MakeRoomBy n align m) r r' t.0 k.0 t.1 k.1
   takes_same (call.RoomCost n) r r' t k = stay r r' (t.1.2 ∙ ap plain.RoomCost (least_decided (value (up n)) v.blocks t.1.0 k.1.0 t.1.1 k.1.1) ∙ sym k.1.2) t.0 k.0
   takes_same (call.RoomCostBy n align m) r r' t k = stay r r' (t.1.2
       ∙ ap plain.RoomCost (least_by_decided m (value (up (units_needed n align))) (names_short (blocks_needed align) v) v.blocks t.1.0 k.1.0 t.1.1 k.1.1) ∙ sym k.1.2) t.0 k.0
@@ -363,9 +355,9 @@ module _ (v w : View) (known : IsWellFormed v) (after : IsWellFormed w) (hs left
   takes_held (call.Command c) r t = command_held c t.0 t.1
   takes_held (call.Shrink i n) r t = either (kept_name hs i) _ _ _ (λ x e u. same_held u.2 (shrunk_held x n u.0 u.1)) (λ u. stays_held u.0) t
   takes_held (call.Grow i n) r t = either (kept_name hs i) _ _ _ (λ x e u. same_held u.2 (grown_held x n u.0 u.1)) (λ u. stays_held u.0) t
-  takes_held call.Compact r t = same_held t.1 (held_sized v w hs (compacts_sizes v w known t.0) h)
-  takes_held (call.CompactBy n) r t = same_held t.2 (stepped_held n t.0 t.1)
-  takes_held (call.CompactWithin n from u k) r t = same_held t.1 (within_held Notes n from u k [] t.0.1 t.0.0 t.0.2.moved)
+  takes_held call.Compact r t = same_held t.1 (held_sized v w hs (compacts_sizes v w known t.0.2.0) h)
+  takes_held (call.CompactBy n) r t = same_held t.1 (stepped_held n t.0.2.0 t.0.2.1)
+  takes_held (call.CompactWithin n from u k) r t = same_held t.1 (within_held Notes n from u k [] t.0.1 t.0.2.0 t.0.2.1)
   takes_held (call.Offset i) r t = stays_held t.0
   takes_held (call.Refusal n) r t = stays_held t.0
   takes_held (call.RefusalAligned n align) r t = stays_held t.0
@@ -374,9 +366,9 @@ module _ (v w : View) (known : IsWellFormed v) (after : IsWellFormed w) (hs left
   takes_held (call.AllocateAt offset n) r t = at_held offset n t.0 t.1 t.2 t.3
   takes_held (call.RefusalTight n) r t = stays_held t.0
   takes_held (call.RefusalTightAligned n align) r t = stays_held t.0
-  takes_held (call.MakeRoom n) r t = same_held t.1 (room_held Notes (value (up n)) [] t.0.2 t.0.0 t.0.3.made)
+  takes_held (call.MakeRoom n) r t = same_held t.1 (room_held Notes (value (up n)) [] t.0.1 t.0.2.0 t.0.2.2)
   takes_held (call.MakeRoomBy n align m) r t =
-      same_held t.1 (room_by_held Notes m (value (up (units_needed n align))) (names_short (blocks_needed align) v) [] t.0.2 t.0.0 t.0.3.made)
+      same_held t.1 (room_by_held Notes m (value (up (units_needed n align))) (names_short (blocks_needed align) v) [] t.0.1 t.0.2.0 t.0.2.2)
   takes_held (call.WouldBegin n align) r t = stays_held t.0
   takes_held (call.RoomCost n) r t = stays_held t.0
   takes_held (call.RoomCostBy n align m) r t = stays_held t.0

@@ -46,7 +46,7 @@ module _ (v w : View) (hs left : List (Option Handle)) where
   more_call (call.Shrink i n) r t = either (kept_name hs i) _ _ _ (λ x u. same u.2) (λ u. same u.0.1) t
   more_call (call.Grow i n) r t = either (kept_name hs i) _ _ _ (λ x u. same u.2) (λ u. same u.0.1) t
   more_call call.Compact r t = same t.1
-  more_call (call.CompactBy n) r t = same t.2
+  more_call (call.CompactBy n) r t = same t.1
   more_call (call.CompactWithin n from u k) r t = same t.1
   more_call (call.Offset i) r t = same t.0.1
   more_call (call.Refusal n) r t = same t.0.1

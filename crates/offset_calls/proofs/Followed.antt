@@ -6,7 +6,7 @@ use Rattle.offset_calls.proofs.Common.{◌≡◌, ◌≢◌, ◌⊎◌, ℕ, zer
 use Rattle.offset_calls.proofs.Common.{IsTrue, option_map, option_and_then, nat_eq, nat_lt, nat_le, if◌then◌else◌, refl, sym, ap, ap₂, subst, ◌∙◌, inl, inr, arith, eq-eqb, ne_eqb, le-leb, leb-true}
 use Rattle.offset_calls.proofs.Common.{lt-ltb, le-ltb, cases_eq, cases_lt, true≢false, false≢true, and_parts, lt-leb, Nodes, TooLarge, Space, Fragmented, View, Handle, times, count_in_bin, bin_at}
 use Rattle.offset_calls.proofs.Common.{units, IsWellFormed, AdmitsBlocks, IsWhy, size_needed, blocks_needed, units_needed, Range, size_of, kept_name, IfNamed, Stays, State, is_free, free_sizes, total}
-use Rattle.offset_calls.proofs.Common.{chosen_place, is_short_of, fits, Call, Reply, Answer, Resized, Compacted, Offset, Outcome, can_shrink, can_grow, resize, resized, replies_only}
+use Rattle.offset_calls.proofs.Common.{chosen_place, is_short_of, fits, Call, Reply, Answer, AreNumbered, Resized, Offset, Outcome, can_shrink, can_grow, resize, resized, replies_only}
 use Rattle.offset_calls.proofs.Common.{shortage, reason, offset_at, step, after, is_valid, compact, starts_free, Takes, IsReason}
 use Rattle.offset_allocator.proofs.{Advice.free_within, Tallies.hit_cases}
 use Rattle.offset_script.proofs.Agreed.{agrees_but, agrees_quiet, has_room, labelled, none_there, same_length, same_units}
@@ -19,7 +19,7 @@ use Rattle.offset_calls.specs.{Steps.IsReasonTight, Steps.TakesTight, Calls.answ
 use Rattle.offset_calls.specs.Calls as reply
 use Rattle.offset_calls.specs.{Ending.relocate, Ending.can_retract, Ending.retracted, Steps.Finds}
 use Rattle.offset_calls.specs.Tight.{holding_place, request_tight, allocate_tight, lack, reason_held, reason_tight}
-use Rattle.offset_calls.specs.{AtOffset.allocate_at, Steps.TakesAt}
+use Rattle.offset_calls.specs.{AtOffset.allocate_at, Slides.slid_reply, Steps.TakesAt}
 use Rattle.offset_calls.proofs.AtOffset.{at_agrees, well_at}
 use Rattle.offset_calls.proofs.{Held.held_at, Filled.held_spot, Filled.held_there, Filled.there, Filled.tight_agrees, Rooms.well_room, Rooms.room_cost_is, Rooms.room_taken, Common.IsKept}
 use Rattle.offset_calls.proofs.{Common.stamp_of_call, Beside.first_same, Beside.last_same, Beside.before_same, Beside.after_same, Relocated.relocated, Retracted.well_retract, Retracted.can_too}
@@ -432,10 +432,10 @@ module _ (v w : View) (hs left : List (Option Handle)) (r : Reply) (s : State) (
   follows (call.Shrink k n) valid t = shrink_step k n (kept_name hs k) refl t
   follows (call.Grow k n) valid t = grow_step k n (kept_name hs k) refl t
   follows call.Compact valid t =
-      let agrees = compact_agrees v (kept_name hs) s p.agrees w t.0 in
-      let moved = moves_are v hs s p.formed ws p.agrees t.2.0 t.2.1 in
-      (t.2.2 ∙ ap Compacted moved, subst (λ l. IsAtState w l (compact s).state) (sym t.1) (record { formed = formed; agrees = agrees; grants = p.grants }))
-  follows (call.CompactBy n) valid t = steps_taken v w hs left r s formed ws p n t.2 t.0 t.1 t.3.0 t.3.1 t.3.2
+      let agrees = compact_agrees v (kept_name hs) s p.agrees w t.0.2.0 in
+      let moved = moves_are v hs s p.formed ws p.agrees t.0.3 (subst (λ xs. AreNumbered hs xs t.0.3) t.0.2.2 t.0.4) in
+      (t.0.5 ∙ ap₂ slid_reply t.0.2.1 moved, subst (λ l. IsAtState w l (compact s).state) (sym t.1) (record { formed = formed; agrees = agrees; grants = p.grants }))
+  follows (call.CompactBy n) valid t = steps_taken v w hs left r s formed ws p n t.1 t.0
   follows (call.CompactWithin n from u m) valid t = within_taken v w hs left r s formed ws p t.1 n from u m t.0
   follows (call.Offset k) valid t = quiet _ _ refl t.0 (offset_step k (kept_name hs k) refl t.1)
   follows (call.Refusal n) valid t = quiet _ _ refl t.0 (t.1.2 ∙ ap reply.Refusal (reason_is 1 n t.1.0 t.1.1))
@@ -447,7 +447,7 @@ module _ (v w : View) (hs left : List (Option Handle)) (r : Reply) (s : State) (
   follows (call.RefusalTight n) valid t = quiet _ _ refl t.0 (tight_reason_step n 1 (omega arith) t.1.0 t.1.1 t.1.2)
   follows (call.RefusalTightAligned n align) valid t = quiet _ _ refl t.0 (tight_reason_step n align (leb-true 1 align valid) t.1.0 t.1.1 t.1.2)
   follows (call.WouldBegin n align) valid t = quiet _ _ refl t.0 (t.2.2 ∙ aligned_begins v (kept_name hs) s p.formed ws p.agrees n align t.1 t.2.0 t.2.1)
-  follows (call.MakeRoom n) valid t = room_taken v w hs left r s formed ws p t.1 (value (up n)) t.0
+  follows (call.MakeRoom n) valid t = room_taken v w hs left r s formed ws p t.1 n t.0
   follows (call.MakeRoomBy n align m) valid t = room_by_taken v w hs left r s formed ws p t.1 n align m t.0
   follows (call.RoomCostBy n align m) valid t = quiet _ _ refl t.0
       (t.1.2 ∙ ap reply.RoomCost (room_cost_by_is v (kept_name hs) s p.formed ws p.agrees m (value (up (units_needed n align))) (blocks_needed align) t.1.0 t.1.1))

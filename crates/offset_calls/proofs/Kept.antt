@@ -145,7 +145,7 @@ module _ (v w : View) (hs left : List (Option Handle)) (before : IsWellFormed v)
   next_call (call.Shrink k n) r valid t = either (kept_name hs k) _ _ _ (λ x u. next_same hs left u.2) (λ u. next_same hs left u.0.1) t
   next_call (call.Grow k n) r valid t = either (kept_name hs k) _ _ _ (λ x u. next_same hs left u.2) (λ u. next_same hs left u.0.1) t
   next_call call.Compact r valid t = next_same hs left t.1
-  next_call (call.CompactBy n) r valid t = next_same hs left t.2
+  next_call (call.CompactBy n) r valid t = next_same hs left t.1
   next_call (call.CompactWithin n from u m) r valid t = next_same hs left t.1
   next_call (call.Offset k) r valid t = next_same hs left t.0.1
   next_call (call.Refusal n) r valid t = next_same hs left t.0.1

@@ -19,6 +19,7 @@ pub mod Alike
 pub mod Along
 pub mod AtOffset
 pub mod AtPairs
+pub mod Collected
 pub mod Common
 pub mod Compacted
 pub mod Filled
@@ -29,7 +30,6 @@ pub mod Resized
 pub mod Rooms
 pub mod Rows
 pub mod Runs
-pub mod Slid
 pub mod Splits
 pub mod Stepped
 pub mod SteppedPairs

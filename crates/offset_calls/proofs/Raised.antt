@@ -5,7 +5,7 @@ use Rattle.offset_calls.proofs.Common.{AdmitsBlocks, blocks_needed, units_needed
 use Rattle.offset_calls.proofs.Common.{Nodes, TooLarge, Space, Fragmented}
 use Rattle.offset_allocator.specs.{View.IsNew, View.free_sizes, View.is_full, View.reported_free, View.reported_largest, View.units}
 use Rattle.offset_allocator.specs.Reporting.FreeSizes.{largest}
-use Rattle.offset_allocator.specs.Relations.{Adds, Aligns, Allocates, FreesLast, SameState, SameUnder, Splits}
+use Rattle.offset_allocator.specs.Relations.{Adds, Aligns, Allocates, FreesLast, SameUnder, Splits}
 use Rattle.offset_allocator.specs.{Resizing.Grows, Resizing.Resizes, Resizing.Shrinks, Tight.AlignsTight, AtOffset.AllocatesAt}
 use Rattle.offset_allocator.specs.{Moving.Budget.CompactsWithin, Moving.Budget.SlidesWithin, Moving.Room.MakesRoom, Moving.Room.SlidesRun}
 use Rattle.offset_allocator.specs.Moving.BySteps.{CanFollow, CompactsBy, SlidesBy, run_by}
@@ -25,7 +25,10 @@ use Rattle.offset_script.specs.declared.scripts.Command.TheVariants as command
 use Rattle.offset_calls.specs.Calls as plain
 use Rattle.offset_calls.specs.{Histories.Runs, Slides.Notes}
 use Rattle.offset_calls.specs.Limits.{HasNodes, RunsWithNodes, answers_nothing, blocks_for_command, blocks_wanted, is_for_nodes, may_want_nodes}
-use Rattle.offset_calls.specs.Steps.{IsBegin, IsReasonTight, TakesTight, begins_at, comes_so_far}
+use Rattle.offset_calls.specs.Steps.{IsBegin, IsReasonTight, TakesSlide, TakesTight, begins_at}
+use Rattle.offset_calls.specs.Slides.{IsSlid, done, slid_reply, so_far}
+use Rattle.offset_calls.specs.declared.sliding.Slid.{Slid}
+use Rattle.offset_calls.specs.declared.sliding.Slid.TheVariants as came
 use Rattle.offset_calls.specs.declared.calls.Call.TheVariants as call
 use Rattle.offset_calls.proofs.Decided.{takes_decided, takes_held}
 
@@ -394,9 +397,12 @@ module _ (limit : ℕ) (v w : View) (l : v.max_allocs ≤ limit) (hs left : List
   begin_nothing None e = refl
   begin_nothing (Some o) e = absurd (cc)
 
-  no_further : (p : Option Progress) (ms : List plain.Move) → p ≡ None → may_want_nodes (comes_so_far p ms) ≡ true
-  no_further None ms e = refl
-  no_further (Some p) ms e = absurd (cc)
+  -- of ranges that did not slide
+  unslid_room : (c : Call) (r : Reply) (o : Slid) (ms : List plain.Move) → HasNodes c v r → r ≡ slid_reply o ms → o ≡ came.Refused → AdmitsBlocks (blocks_wanted c) v
+  unslid_room c r o ms room e n = room (ap may_want_nodes (e ∙ ap (λ o. slid_reply o ms) n))
+
+  slide_under : (c : Call) (r : Reply) (t : TakesSlide c v hs w r) → IsSlid c z t.0 u t.1 → TakesSlide c z hs u r
+  slide_under c r t is = (t.0, t.1, is, t.3, t.4, t.5)
 
   held_under : (n align : ℕ) (c : Call) (r : Reply) → HasNodes c v r → blocks_wanted c ≡ blocks_needed align → TakesTight n align v hs w left r → TakesTight n align z hs u left r
   held_under n align c r room same t = (
@@ -412,19 +418,15 @@ module _ (limit : ℕ) (v w : View) (l : v.max_allocs ≤ limit) (hs left : List
   takes_under (call.Shrink i n) r room t = lift_named (kept_name hs i) _ _ _ _
       (λ x f. (f.0, shrinks_under limit v w l x n f.0 (undone_room (call.Shrink i n) r plain.Resized f.0 room f.3) f.1, f.2, f.3)) (λ s. (stay s.0, s.1)) t
   takes_under (call.Grow i n) r room t = lift_named (kept_name hs i) _ _ _ _ (λ x f. (f.0, grows_under limit v w l x n f.0 f.1, f.2, f.3)) (λ s. (stay s.0, s.1)) t
-  takes_under call.Compact r room t = (compacts_under limit v w l t.0, t.1, t.2)
-  takes_under (call.CompactBy n) r room t = (t.0, stepped_under limit v w l n t.0 (undone_room (call.CompactBy n) r (plain.Compacted t.3.0) t.0 room t.3.2) t.1, t.2, t.3)
-  takes_under (call.CompactWithin n from k m) r room t = (
-    (
-      t.0.0,
-      t.0.1,
-      record { moved = budget_under limit v w l n from k m [] t.0.1 t.0.0 (λ e. room (ap may_want_nodes t.0.5 ∙ no_further t.0.0 t.0.3 e)) t.0.2.moved },
-      t.0.3,
-      t.0.4,
-      t.0.5,
-    ),
-    t.1,
-  )
+  takes_under call.Compact r room t = (slide_under call.Compact r t.0 (compacts_under limit v w l t.0.2.0, t.0.2.1, t.0.2.2), t.1)
+  takes_under (call.CompactBy n) r room t =
+      let s = t.0.2 in
+      let enough = λ (e : s.0 ≡ false). unslid_room (call.CompactBy n) r t.0.0 t.0.3 room t.0.5 (s.2 ∙ ap done e) in
+      (slide_under (call.CompactBy n) r t.0 (s.0, stepped_under limit v w l n s.0 enough s.1, s.2, s.3), t.1)
+  takes_under (call.CompactWithin n from k m) r room t =
+      let s = t.0.2 in
+      let enough = λ (e : s.0 ≡ None). unslid_room (call.CompactWithin n from k m) r t.0.0 t.0.3 room t.0.5 (s.2 ∙ ap so_far e) in
+      (slide_under (call.CompactWithin n from k m) r t.0 (s.0, budget_under limit v w l n from k m [] t.0.1 s.0 enough s.1, s.2), t.1)
   takes_under (call.Offset i) r room t = (stay t.0, t.1)
   takes_under (call.Refusal n) r room t = (stay t.0, (t.1.0, reason_under limit v w l 1 n t.1.0 (reason_room (call.Refusal n) r t.1.0 room t.1.2) t.1.1, t.1.2))
   takes_under (call.RefusalAligned n align) r room t = (
@@ -450,21 +452,14 @@ module _ (limit : ℕ) (v w : View) (l : v.max_allocs ≤ limit) (hs left : List
       let enough = begin_room limit v w l n align b (λ e. room (ap may_want_nodes t.2.2 ∙ begin_nothing b e)) t.2.1 in
       (stay t.0, t.1, (b, begin_under limit v w l n align b t.1 enough t.2.1, t.2.2))
   takes_under (call.MakeRoom n) r room t =
-      ((t.0.0, t.0.1, t.0.2, record { made = room_under limit v w l (value (up n)) [] t.0.2 t.0.0 t.0.3.made }, t.0.4, t.0.5, t.0.6), t.1)
+      let s = t.0.2 in (slide_under (call.MakeRoom n) r t.0 (s.0, s.1, room_under limit v w l (value (up n)) [] t.0.1 s.0 s.2, s.3), t.1)
   takes_under (call.MakeRoomBy n align m) r room t =
-      let same = short_under limit v w l (blocks_needed align) (room (ap may_want_nodes t.0.6)) in
-      let want = value (up (units_needed n align)) in (
-        (
-          t.0.0,
-          subst (λ k. IsLeastCostBy m want k v.blocks t.0.0) same t.0.1,
-          t.0.2,
-          record {
-            made = subst (λ k. MakesRoomBy Notes m want k z [] t.0.0 u t.0.2) same (room_by_under limit v w l m want (names_short (blocks_needed align) v) [] t.0.2 t.0.0 t.0.3.made);
-          },
-          t.0.4,
-          t.0.5,
-          t.0.6,
-        ),
+      let s = t.0.2 in
+      let want = value (up (units_needed n align)) in
+      let same = short_under limit v w l (blocks_needed align) (room (ap may_want_nodes (t.0.5 ∙ ap (λ o. slid_reply o t.0.3) s.3))) in
+      let made = room_by_under limit v w l m want (names_short (blocks_needed align) v) [] t.0.1 s.0 s.2 in (
+        slide_under (call.MakeRoomBy n align m) r t.0
+            (s.0, subst (λ k. IsLeastCostBy m want k v.blocks s.0) same s.1, subst (λ k. MakesRoomBy Notes m want k z [] s.0 u t.0.1) same made, s.3),
         t.1,
       )
   takes_under (call.RoomCost n) r room t = (stay t.0, t.1)
@@ -491,9 +486,6 @@ abbrev limit_of : View → ℕ
 limit_of v = v.max_allocs
 
 module _ (v w : View) where
-  state_limit : SameState v w → limit_of w ≡ limit_of v
-  state_limit e = ap limit_of e
-
   allocates_limit : (n : ℕ) (r : Option Handle) → Allocates n v w r → limit_of w ≡ limit_of v
   allocates_limit n None a = ap limit_of a.1
   allocates_limit n (Some g) a = ap limit_of a.1.view
@@ -585,9 +577,9 @@ module _ (v w : View) where
     takes_limit (call.Command c) r t = command_limit c t.0 t.1
     takes_limit (call.Shrink i n) r t = from_named (kept_name hs i) _ _ _ (λ x f. shrinks_limit x n f.0 f.1) (λ s. stays_limit s.0) t
     takes_limit (call.Grow i n) r t = from_named (kept_name hs i) _ _ _ (λ x f. grows_limit x n f.0 f.1) (λ s. stays_limit s.0) t
-    takes_limit call.Compact r t = ap limit_of t.0.view
-    takes_limit (call.CompactBy n) r t = stepped_limit n t.0 t.1
-    takes_limit (call.CompactWithin n from k m) r t = budget_limit n from k m [] t.0.1 t.0.0 t.0.2.moved
+    takes_limit call.Compact r t = ap limit_of t.0.2.0.view
+    takes_limit (call.CompactBy n) r t = stepped_limit n t.0.2.0 t.0.2.1
+    takes_limit (call.CompactWithin n from k m) r t = budget_limit n from k m [] t.0.1 t.0.2.0 t.0.2.1
     takes_limit (call.Offset i) r t = stays_limit t.0
     takes_limit (call.Refusal n) r t = stays_limit t.0
     takes_limit (call.RefusalAligned n align) r t = stays_limit t.0
@@ -597,8 +589,8 @@ module _ (v w : View) where
     takes_limit (call.RefusalTight n) r t = stays_limit t.0
     takes_limit (call.RefusalTightAligned n align) r t = stays_limit t.0
     takes_limit (call.WouldBegin n align) r t = stays_limit t.0
-    takes_limit (call.MakeRoom n) r t = room_limit (value (up n)) [] t.0.2 t.0.0 t.0.3.made
-    takes_limit (call.MakeRoomBy n align m) r t = room_by_limit m (value (up (units_needed n align))) (names_short (blocks_needed align) v) [] t.0.2 t.0.0 t.0.3.made
+    takes_limit (call.MakeRoom n) r t = room_limit (value (up n)) [] t.0.1 t.0.2.0 t.0.2.2
+    takes_limit (call.MakeRoomBy n align m) r t = room_by_limit m (value (up (units_needed n align))) (names_short (blocks_needed align) v) [] t.0.1 t.0.2.0 t.0.2.2
     takes_limit (call.RoomCost n) r t = stays_limit t.0
     takes_limit (call.RoomCostBy n align m) r t = stays_limit t.0
     takes_limit (call.Relocate i) r t = from_named (kept_name hs i) _ _ _ (λ x f. relocates_limit x f.0 f.2) (λ s. stays_limit s.0) t

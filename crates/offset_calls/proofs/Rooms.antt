@@ -13,7 +13,9 @@ use Rattle.offset_script.proofs.{Labels.names, Labels.tags, Labels.map_three, La
 use Rattle.offset_script.proofs.Agreement.{Label, by_name, by_tag, name_of, HasBlocksOf, IsAtState}
 use Rattle.offset_script.proofs.Lists.{AreApart, apart_append, apart_parts, count, count-append, ends_free, starts_free}
 use Rattle.offset_script.specs.Totals.{live}
-use Rattle.offset_calls.specs.{Calls.make_room, Calls.remakes, Calls.RoomMade, Room.Split, Room.cheapest, Room.room_cost, Room.slid, Slides.Notes, Steps.TakesRoom}
+use Rattle.offset_calls.specs.{Calls.make_room, Calls.remakes, Calls.RoomMade, Room.Split, Room.cheapest, Room.room_cost, Room.slid, Slides.Notes, Slides.slid_reply, Steps.TakesSlide}
+use Rattle.offset_allocator.specs.Classes.{value, up}
+use Rattle.offset_calls.specs.declared.calls.Call.TheVariants as call
 use Rattle.offset_calls.specs.Room as plain
 use Rattle.offset_calls.proofs.Compacted.{count_live, length_live, apart_live, ends_of_live, live_labels, live_names, live_tags, live_name_of, moves_agree, one_number}
 use Rattle.offset_calls.proofs.Runs.{IsChosen, IsChosenOf, IsBest, IsLabelledRun, best, chosen_is, cost_is, cost_same, ends_free_is}
@@ -277,5 +279,7 @@ module _ (v w : View) (hs left : List (Option Handle)) (r : Reply) (s : State) (
               subst (λ k. IsAtState w k (machine.leaves s (slid (stamp_of_call s) at) machine.Freed).state) (sym e) (record { formed = formed; agrees = agrees; grants = p.grants }),
             ))
 
-  pub room_taken : (want : ℕ) → TakesRoom want v hs w r → Agrees (make_room s (cheapest want s.blocks))
-  room_taken want t = made want t.2 t.4 t.5 t.0 t.1 t.3.made t.6 (cheapest want s.blocks) refl (room_cost_is want t.0 t.1)
+  pub room_taken : (n : ℕ) → TakesSlide (call.MakeRoom n) v hs w r → Agrees (make_room s (cheapest (value (up n)) s.blocks))
+  room_taken n t =
+      let want = value (up n) in
+      made want t.1 t.3 t.4 t.2.0 t.2.1 t.2.2 (t.5 ∙ ap (λ o. slid_reply o t.3) t.2.3) (cheapest want s.blocks) refl (room_cost_is want t.2.0 t.2.1)

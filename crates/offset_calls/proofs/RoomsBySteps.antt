@@ -11,7 +11,8 @@ use Rattle.offset_script.proofs.{Agreement.HasBlocksOf, Agreement.IsAtState, Lab
 use Rattle.offset_script.specs.Totals.{live}
 use Rattle.offset_script.specs.Machine as machine
 use Rattle.offset_calls.specs.{Calls.make_room_by, Calls.moves_of_run, Calls.RoomMade, Room.Split, RoomBySteps.blocks_short, RoomBySteps.cheapest_by, RoomBySteps.cheapest_that}
-use Rattle.offset_calls.specs.{RoomBySteps.serves, Slides.Notes, Stepped.slid_run, Steps.TakesRoomBy}
+use Rattle.offset_calls.specs.{RoomBySteps.serves, Slides.Notes, Slides.slid_reply, Stepped.slid_run, Steps.TakesSlide}
+use Rattle.offset_calls.specs.declared.calls.Call.TheVariants as call
 use Rattle.offset_calls.specs.Room as plain
 use Rattle.offset_calls.proofs.Rooms.{IsFound, back_live, found_there, none_numbered, noted, stays, tags_with_names, with_name}
 use Rattle.offset_calls.proofs.Runs.{IsChosenOf, IsLabelledRun}
@@ -101,9 +102,9 @@ module _ (v w : View) (hs left : List (Option Handle)) (r : Reply) (s : State) (
               subst (λ l. IsAtState w l (slid_run m s q)) (sym e) (subst (λ q. IsAtState w hs (slid_run m s q)) there (record { formed = formed; agrees = agrees; grants = p.grants })),
             )
 
-  pub room_by_taken : (n align m : ℕ) → TakesRoomBy m (value (up (units_needed n align))) (names_short (blocks_needed align) v) v hs w r
+  pub room_by_taken : (n align m : ℕ) → TakesSlide (call.MakeRoomBy n align m) v hs w r
       → Agrees (make_room_by m s (cheapest_by m (value (up (n + align - 1))) (min align 2) s))
   room_by_taken n align m t =
       let want = value (up (units_needed n align)) in
-      made m want (blocks_needed align) t.2 t.4 t.5 t.0 t.1 t.3.made t.6 (cheapest_by m want (blocks_needed align) s) refl
-      (room_cost_by_is v (kept_name hs) s p.formed ws p.agrees m want (blocks_needed align) t.0 t.1)
+      made m want (blocks_needed align) t.1 t.3 t.4 t.2.0 t.2.1 t.2.2 (t.5 ∙ ap (λ o. slid_reply o t.3) t.2.3) (cheapest_by m want (blocks_needed align) s) refl
+      (room_cost_by_is v (kept_name hs) s p.formed ws p.agrees m want (blocks_needed align) t.2.0 t.2.1)

@@ -25,6 +25,8 @@ use Rattle.offset_script.proofs.{Members.IsIn, Members.in_left, Members.in_right
 use Rattle.offset_calls.specs.Room.{Split, from_first, after_first}
 use Rattle.offset_calls.specs.Stepped.{kept, stepped, given_up, used_up, slid_by, slid_run, first_run, to_the_end}
 use Rattle.offset_calls.specs.Calls.{moves_by, moves_of_run, slides_run, compact_by}
+use Rattle.offset_calls.specs.{Slides.done, Slides.slid_reply, Steps.TakesSlide}
+use Rattle.offset_calls.specs.declared.calls.Call.TheVariants as call
 use Rattle.offset_calls.proofs.Compacted.{one_number, same_move}
 use Rattle.offset_script.specs.Machine as machine
 
@@ -229,20 +231,6 @@ pub spent_end : (n : ℕ) (bs : List machine.Block) → ends_free bs ≡ true �
 spent_end n [] e = absurd (false≢true e)
 spent_end n (b ∷ []) e = subst (λ (t : Bool). 1 ≤ (if t && true then 1 else 0) + 0) (sym e) (omega arith)
 spent_end n (b ∷ c ∷ bs) e = let ih = spent_end n (c ∷ bs) e in omega (arith, ih)
-
--- the last block of a list that starts free
-pub ends_free_too : (bs : List machine.Block) → starts_free bs ≡ true → machine.ends_live bs ≡ false → ends_free bs ≡ true
-ends_free_too [] begins e = absurd (false≢true begins)
-ends_free_too (b ∷ []) begins e = begins
-ends_free_too (b ∷ c ∷ bs) begins e = ends c bs e
-  where
-    free : (t : Bool) → not t ≡ false → t ≡ true
-    free true e = refl
-    free false e = absurd (true≢false e)
-
-    ends : (b : machine.Block) (bs : List machine.Block) → machine.ends_live (b ∷ bs) ≡ false → ends_free (b ∷ bs) ≡ true
-    ends b [] e = free (is_free b.tag) e
-    ends b (c ∷ bs) e = ends c bs e
 
 -- neighbours
 not_not : (t : Bool) → t ≡ not (not t)
@@ -598,11 +586,11 @@ module _ (v w : View) (hs left : List (Option Handle)) (r : Reply) (s : State) (
   none_found : run_by n v.blocks ≡ [] → first_run to_the_end n 0 0 s.blocks ≡ None
   none_found e = ap (first_run to_the_end n 0 0) p.agrees.state ∙ none_there n 0 p.agrees.labels (ap (run_by n) (sym p.agrees.view) ∙ e)
 
-  pub steps_taken : (d : Bool) → CompactsBy n v w d → (ms : List Move) → AreNumbered hs (if d then by.moves_by n 0 0 v.blocks else []) ms → r ≡ (if d then Compacted ms else Answer machine.Refused)
+  taken : (d : Bool) → CompactsBy n v w d → (ms : List Move) → AreNumbered hs (if d then by.moves_by n 0 0 v.blocks else []) ms → r ≡ slid_reply (done d) ms
       → Agrees (compact_by n s (first_run to_the_end n 0 0 s.blocks))
-  steps_taken true (inl t) ms a is = subst (λ o. Agrees (compact_by n s o)) (sym (none_found t.0))
+  taken true (inl t) ms a is = subst (λ o. Agrees (compact_by n s o)) (sym (none_found t.0))
       (stays (Compacted []) t.1 (is ∙ ap Compacted (none_numbered hs _ ms (none_whole n v.blocks t.0 0) a)))
-  steps_taken true (inr t) ms a is =
+  taken true (inr t) ms a is =
       let o = slid_split v hs s p.formed ws p.agrees n w formed t.1 in
       let q = end_split v hs s p.agrees n o in
       let ls = (parts v hs s p.agrees n o).1 in
@@ -615,7 +603,7 @@ module _ (v w : View) (hs left : List (Option Handle)) (r : Reply) (s : State) (
         subst (λ l. IsAtState w l now) (sym e)
             (record { formed = formed; agrees = steps_agree v hs s p.formed ws p.agrees n w formed t.1; grants = p.grants }),
       ))
-  steps_taken false t ms a is = go (run_by n v.blocks) refl
+  taken false t ms a is = go (run_by n v.blocks) refl
     where
       go : (bs : List Block) → run_by n v.blocks ≡ bs → Agrees (compact_by n s (first_run to_the_end n 0 0 s.blocks))
       go [] f = absurd (t.0 f)
@@ -628,3 +616,6 @@ module _ (v w : View) (hs left : List (Option Handle)) (r : Reply) (s : State) (
           subst (λ o. Agrees (compact_by n s o)) (sym (found_there v hs s p.agrees n o))
           (subst (λ b. Agrees (if b then replies_only s (Answer machine.Refused) else record { state = slid_run n s q; reply = Compacted (moves_by n 0 0 s.blocks) }))
           (sym (cannot_follow v hs s p.formed ws p.agrees n ls (λ c. t.1 (subst (CanFollow n v) run c)))) (stays (Answer machine.Refused) t.2 is))
+
+  pub steps_taken : TakesSlide (call.CompactBy n) v hs w r → Agrees (compact_by n s (first_run to_the_end n 0 0 s.blocks))
+  steps_taken t = taken t.2.0 t.2.1 t.3 (subst (λ xs. AreNumbered hs xs t.3) t.2.3 t.4) (t.5 ∙ ap (λ o. slid_reply o t.3) t.2.2)

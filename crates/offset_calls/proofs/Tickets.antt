@@ -3,12 +3,11 @@ use Rattle.offset_calls.proofs.Common.{◌≡◌, ◌≢◌, ℕ, zero, suc, ◌
 use Rattle.offset_calls.proofs.Common.{option_map, if◌then◌else◌, refl, sym, ap, ap₂, subst, ◌∙◌, inl, inr, arith, length-append, false≢true, map-append, length-map, Handle, View, Ticket, Guard}
 use Rattle.offset_calls.proofs.Common.{AreAlike, Grants, IsLive, IsSame, KeepsAll, KeepsLive, KeepsOthers, KeepsSerials, KeepsSizes, handle_in, range_of, serial_of, Extends, Frees, Resets, Command}
 use Rattle.offset_calls.proofs.Common.{kept_name, IsKept, Call, Answer, Reply, Takes, renumber, AreInOrder, IsGrown, AreAllTickets, IsStored, TakesTicket, IsNumberOf}
-use Rattle.offset_calls.proofs.Common.{true, false, handle_of, handles_of, live_name, ticket_of}
-use Rattle.offset_calls.specs.Calls as plain
-use Rattle.offset_calls.specs.Tickets.{AreSerials, IsJoinedBy, IsStepAfter, is_gone, serials_kept}
+use Rattle.offset_calls.proofs.Common.{IsTrue, handle_of, handles_of, live_name, ticket_of}
+use Rattle.offset_calls.specs.Calling.{slides}
+use Rattle.offset_calls.specs.Tickets.{AreSerials, IsJoinedBy, IsStepAfter, serials_kept}
 use Rattle.offset_guarded.specs.Guard.{CoversNodes, covering, nodes}
 use Rattle.offset_guarded.specs.Step.{IsJoined}
-use Rattle.offset_allocator.specs.Resizing.{Grows, Shrinks}
 use Rattle.offset_allocator.specs.{View.free_sizes, Reporting.FreeSizes.rows_below}
 use Rattle.offset_guarded.proofs.Guards.{live_fits}
 use Rattle.offset_script.proofs.Simulation.{if_some}
@@ -201,33 +200,6 @@ extended more g h ts done a is extends keeps same covers e = record {
   step = same.step;
 }
 
--- a range that may have another size
-not_gone : (done : Bool) (r : Reply) → r ≡ (if done then plain.Resized else Answer machine.Refused) → is_gone r ≡ false
-not_gone true r e = ap is_gone e
-not_gone false r e = ap is_gone e
-
-module _ (n : ℕ) (g h : Guard) (ts : List Ticket) (t : Ticket) (k : ℕ) (done : Bool) (r : Reply) (is : AreAllTickets g ts) (number : IsNumberOf k (Some t) g ts) (live : IsLive t g) (keeps : KeepsLive g h)
-    (same : KeepsSerials g h) (cells : CoversNodes g h) (e : r ≡ (if done then plain.Resized else Answer machine.Refused)) where
-  pub shrink_serves : Shrinks t.name n g.space h.space done → TakesTicket (call.Shrink k n) g ts h ts r
-  shrink_serves step = record {
-    takes = if_some (kept_name (handles_of g ts) k) t.name _ _ (number ∙ live_named_by t g live) (done, step, same_handles g h ts keeps, e);
-    all_tickets = same_ledger g h ts is same.realm same.given;
-    grown = inl refl;
-    serials = covered_serials (call.Shrink k n) g h ts r (λ m l. ap (λ (b : Bool). if b then l else covering m l) (not_gone done r e)) cells;
-    realm = same.realm;
-    step = same.step;
-  }
-
-  pub grow_serves : Grows t.name n g.space h.space done → TakesTicket (call.Grow k n) g ts h ts r
-  grow_serves step = record {
-    takes = if_some (kept_name (handles_of g ts) k) t.name _ _ (number ∙ live_named_by t g live) (done, step, same_handles g h ts keeps, e);
-    all_tickets = same_ledger g h ts is same.realm same.given;
-    grown = inl refl;
-    serials = covered_serials (call.Grow k n) g h ts r (λ m l. ap (λ (b : Bool). if b then l else covering m l) (not_gone done r e)) cells;
-    realm = same.realm;
-    step = same.step;
-  }
-
 -- where sizes stay, tickets do
 pub sizes_live : (g h : Guard) → KeepsSizes g h → KeepsLive g h
 sizes_live g h same t = search (arith, is_some, option_map)
@@ -243,6 +215,19 @@ slid_serves c g h ts r quiet still is sizes serials t = record {
   realm = ap (λ (g : Guard). g.realm) serials;
   step = subst (λ (t : ℕ). IsStepAfter c r g.step t) (sym (ap (λ (g : Guard). g.step) serials)) (still g.step);
 }
+
+-- so is one that may slide ranges
+quiet_slide : (c : Call) (r : Reply) → IsTrue (slides c) → IsQuiet c r × ((s : ℕ) → IsStepAfter c r s s)
+quiet_slide call.Compact r s = (λ n l. refl, λ t. refl)
+quiet_slide (call.CompactBy n) r s = (λ n l. refl, λ t. refl)
+quiet_slide (call.CompactWithin n from u m) r s = (λ n l. refl, λ t. refl)
+quiet_slide (call.MakeRoom n) r s = (λ n l. refl, λ t. refl)
+quiet_slide (call.MakeRoomBy n align m) r s = (λ n l. refl, λ t. refl)
+quiet_slide other r s = absurd (false≢true s)
+
+pub slide_serves : (c : Call) (g h : Guard) (ts : List Ticket) (r : Reply) → IsTrue (slides c) → AreAllTickets g ts → KeepsSizes g h → h ≡ record g { space = h.space }
+    → Takes c g.space (handles_of g ts) h.space (handles_of g ts) r → TakesTicket c g ts h ts r
+slide_serves c g h ts r s is sizes serials t = let q = quiet_slide c r s in slid_serves c g h ts r q.0 q.1 is sizes serials t
 
 -- after it the number of a name is its serial, and the name is live
 module _ (g h : Guard) (ts : List Ticket) (is : AreAllTickets g ts) (sizes : KeepsSizes g h) (serials : h ≡ record g { space = h.space }) (k x : ℕ) (e : kept_name (handles_of g ts) k ≡ Some x) where

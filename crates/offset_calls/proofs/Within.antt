@@ -21,7 +21,8 @@ use Rattle.offset_script.specs.Machine as machine
 use Rattle.offset_calls.specs.Budget.{is_within, longest_that, next_of, start_of}
 use Rattle.offset_calls.specs.Calls.{CompactedWithin, compact_within, moves_of_run}
 use Rattle.offset_calls.specs.Room.{Split, from_first, after_first}
-use Rattle.offset_calls.specs.{Slides.Notes, Steps.TakesWithin, Steps.comes_so_far, Stepped.first_run, Stepped.slid_run}
+use Rattle.offset_calls.specs.{Slides.Notes, Slides.slid_reply, Slides.so_far, Steps.TakesSlide, Stepped.first_run, Stepped.slid_run}
+use Rattle.offset_calls.specs.declared.calls.Call.TheVariants as call
 use Rattle.offset_calls.proofs.Rooms.{Agrees, none_numbered, noted, stays}
 use Rattle.offset_calls.proofs.{Runs.cost_same, Stepped.IsReach, Stepped.IsSlidRun, Stepped.first_run_in, Stepped.run_agrees, Stepped.run_here, Stepped.run_moves, Stepped.can_follow, Stepped.cannot_follow, Stepped.well_slides}
 
@@ -319,7 +320,7 @@ module _ (v w : View) (hs left : List (Option Handle)) (r : Reply) (s : State) (
           }),
         ))
 
-    taken : (xs : List named_moves.Move) (ms : List Move) → AreNumbered hs xs ms → (c : Option Progress) → CompactsWithin Notes n from u k v [] c w xs → r ≡ comes_so_far c ms → IsSame (compact_within n s found)
+    taken : (xs : List named_moves.Move) (ms : List Move) → AreNumbered hs xs ms → (c : Option Progress) → CompactsWithin Notes n from u k v [] c w xs → r ≡ slid_reply (so_far c) ms → IsSame (compact_within n s found)
     taken xs ms a None m is =
         let l = labelled m.2.0 m.2.1 m.2.2 m.2.3 m.2.4 in
         let at = run_of l.f l.r l.b in
@@ -331,5 +332,5 @@ module _ (v w : View) (hs left : List (Option Handle)) (r : Reply) (s : State) (
         (stays v w hs left r s formed ws p e (CompactedWithin None []) m.2 (is ∙ ap₂ CompactedWithin (ap (λ (p : Progress). p.next) m.1) (none_numbered hs xs ms m.3 a)))
     taken xs ms a (Some q) (inr m) is = slid xs ms a q m.0 m.1 m.2 is
 
-    pub within_taken : TakesWithin n from u k v hs w r → IsSame (compact_within n s found)
-    within_taken t = taken t.1 t.3 t.4 t.0 t.2.moved t.5
+    pub within_taken : TakesSlide (call.CompactWithin n from u k) v hs w r → IsSame (compact_within n s found)
+    within_taken t = taken t.1 t.3 t.4 t.2.0 t.2.1 (t.5 ∙ ap (λ o. slid_reply o t.3) t.2.2)

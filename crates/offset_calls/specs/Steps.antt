@@ -6,14 +6,11 @@ use Rattle.offset_allocator.specs.View.{View, Block, Handle, padding_to}
 use Rattle.offset_allocator.specs.Ranges.{Range, range_of}
 use Rattle.offset_allocator.specs.Requests.{CanGrant, IsWhy, blocks_needed, units_needed}
 use Rattle.offset_allocator.specs.Resizing.{Shrinks, Grows}
-use Rattle.offset_allocator.specs.Moving.BySteps.{CompactsBy, moves_by}
-use Rattle.offset_allocator.specs.Moving.Compacting.{Compacts, moves}
 use Rattle.offset_allocator.specs.Moving.Compacting as named
 use Rattle.offset_allocator.specs.declared.moves.room.RoomCost.{RoomCost}
 use Rattle.offset_allocator.specs.Classes.{value, up}
 use Rattle.offset_allocator.specs.Moving.Room.{IsLeastCost}
 use Rattle.offset_allocator.specs.Moving.RoomBySteps.{IsLeastCostBy, names_short}
-use Rattle.offset_allocator.specs.declared.moves.over_frames.Progress.{Progress}
 use Rattle.offset_allocator.specs.Reporting.Walking as named_beside
 use Rattle.offset_allocator.specs.Moving.Relocating.{Relocates, RelocatesAligned, WouldBegin}
 use Rattle.offset_allocator.specs.Moving.Retracting.{Retracts}
@@ -24,9 +21,10 @@ use Rattle.offset_script.specs.Machine as machine
 use Rattle.offset_script.specs.Steps as script
 use Rattle.offset_calls.specs.declared.calls.Call.{Call}
 use Rattle.offset_calls.specs.declared.calls.Call.TheVariants as call
-use Rattle.offset_calls.specs.Calls.{Move, Reply, Answer, Resized, Compacted, CompactedWithin, Offset, RoomMade, Found}
+use Rattle.offset_calls.specs.Calls.{Move, Reply, Answer, Resized, Offset, Found}
 use Rattle.offset_calls.specs.Calls as reply
-use Rattle.offset_calls.specs.Slides.{IsMade, IsMadeBy, IsMovedWithin}
+use Rattle.offset_calls.specs.Slides.{IsSlid, slid_reply}
+use Rattle.offset_calls.specs.declared.sliding.Slid.{Slid}
 use Rattle.offset_calls.specs.declared.calls.LiveRange.{LiveRange}
 
 -- the moves of a compaction, each with the number of the grant whose handle has its name
@@ -64,26 +62,10 @@ abbrev pub TakesAt : ℕ → ℕ → View → List (Option Handle) → View → 
 TakesAt offset n v handles w later r = (g : Option Handle) × (a : machine.Answer) × AllocatesAt offset n v w g
     × IsKept g handles later a × (r ≡ Answer a)
 
--- room is made for a request, and the moves are replied with the numbers of their grants
-abbrev pub TakesRoom : ℕ → View → List (Option Handle) → View → Reply → Type 0
-TakesRoom want v handles w r = (c : Option RoomCost) × IsLeastCost want v.blocks c × (xs : List named.Move)
-    × IsMade want v c w xs × (ms : List Move) × AreNumbered handles xs ms × (r ≡ RoomMade c ms)
-
--- the same by steps of m
-abbrev pub TakesRoomBy : ℕ → ℕ → ℕ → View → List (Option Handle) → View → Reply → Type 0
-TakesRoomBy m want short v handles w r = (c : Option RoomCost) × IsLeastCostBy m want short v.blocks c
-    × (xs : List named.Move) × IsMadeBy m want short v c w xs × (ms : List Move) × AreNumbered handles xs ms
-    × (r ≡ RoomMade c ms)
-
--- the reply that says how far a compaction within a budget came
-abbrev pub comes_so_far : Option Progress → List Move → Reply
-comes_so_far None ms = Answer machine.Refused
-comes_so_far (Some p) ms = CompactedWithin p.next ms
-
--- such a compaction, whose moves are replied with the numbers of their grants
-abbrev pub TakesWithin : ℕ → ℕ → ℕ → ℕ → View → List (Option Handle) → View → Reply → Type 0
-TakesWithin m from u k v handles w r = (p : Option Progress) × (xs : List named.Move) × IsMovedWithin m from u k v p w xs
-    × (ms : List Move) × AreNumbered handles xs ms × (r ≡ comes_so_far p ms)
+-- a call that may slide ranges comes to something, and its moves are replied with the numbers of their grants
+abbrev pub TakesSlide : Call → View → List (Option Handle) → View → Reply → Type 0
+TakesSlide c v handles w r = (o : Slid) × (xs : List named.Move) × IsSlid c v o w xs
+    × (ms : List Move) × AreNumbered handles xs ms × (r ≡ slid_reply o ms)
 
 -- a live range, or none, with the number of the grant whose handle has its name
 abbrev pub IsNumbered : List (Option Handle) → Option Handle → Option LiveRange → Type 0
@@ -107,12 +89,10 @@ Takes (call.Grow k n) v handles w later r = IfNamed (kept_name handles k)
     (λ x. (done : Bool) × Grows x n v w done × (later ≡ handles)
     × (r ≡ (if done then Resized else Answer machine.Refused)))
     (Stays v handles w later × (r ≡ Answer machine.Gone))
-Takes call.Compact v handles w later r = Compacts v w × (later ≡ handles)
-    × ((ms : List Move) × AreNumbered handles (moves 0 0 v.blocks) ms × (r ≡ Compacted ms))
-Takes (call.CompactBy n) v handles w later r = (done : Bool) × CompactsBy n v w done × (later ≡ handles)
-    × ((ms : List Move) × AreNumbered handles (if done then moves_by n 0 0 v.blocks else []) ms
-    × (r ≡ (if done then Compacted ms else Answer machine.Refused)))
-Takes (call.CompactWithin n from u m) v handles w later r = TakesWithin n from u m v handles w r × (later ≡ handles)
+Takes call.Compact v handles w later r = TakesSlide call.Compact v handles w r × (later ≡ handles)
+Takes (call.CompactBy n) v handles w later r = TakesSlide (call.CompactBy n) v handles w r × (later ≡ handles)
+Takes (call.CompactWithin n from u m) v handles w later r =
+    TakesSlide (call.CompactWithin n from u m) v handles w r × (later ≡ handles)
 Takes (call.Offset k) v handles w later r = Stays v handles w later × IfNamed (kept_name handles k)
     (λ x. (o : ℕ) × (option_map (λ (q : Range). q.offset) (range_of x v) ≡ Some o) × (r ≡ Offset o))
     (r ≡ Answer machine.Gone)
@@ -129,10 +109,9 @@ Takes (call.RefusalTightAligned n align) v handles w later r = Stays v handles w
     × ((why : Option Refusal) × IsReasonTight n align v why × (r ≡ reply.Refusal why))
 Takes (call.WouldBegin n align) v handles w later r = Stays v handles w later × (1 ≤ align)
     × ((b : Option ℕ) × IsBegin n align v b × (r ≡ begins_at b))
-Takes (call.MakeRoom n) v handles w later r = TakesRoom (value (up n)) v handles w r × (later ≡ handles)
+Takes (call.MakeRoom n) v handles w later r = TakesSlide (call.MakeRoom n) v handles w r × (later ≡ handles)
 Takes (call.MakeRoomBy n align m) v handles w later r =
-    TakesRoomBy m (value (up (units_needed n align))) (names_short (blocks_needed align) v) v handles w r
-    × (later ≡ handles)
+    TakesSlide (call.MakeRoomBy n align m) v handles w r × (later ≡ handles)
 Takes (call.RoomCost n) v handles w later r = Stays v handles w later
     × ((c : Option RoomCost) × IsLeastCost (value (up n)) v.blocks c × (r ≡ reply.RoomCost c))
 Takes (call.RoomCostBy n align m) v handles w later r = Stays v handles w later

@@ -1,7 +1,9 @@
 //! Calls, and the replies to them. It touches no space.
 
-ghost use Rattle.std.specs.Prelude.{◌≡◌, ◌↔◌, All, IsTrue};
+ghost use Rattle.std.specs.Prelude.{◌≡◌, ◌↔◌, All, IsTrue, if◌then◌else◌};
+ghost use Rattle.offset_script.specs.Machine as machine;
 ghost use Rattle.offset_calls.specs.Calls.{is_valid, reply_view};
+ghost use Rattle.offset_calls.specs.Calls as plain;
 ghost use Rattle.offset_calls.specs.Steps.{begins_at};
 
 use offset_allocator::{Refusal, RoomCost};
@@ -164,6 +166,17 @@ pub enum Reply {
     RoomCost(Option<RoomCost>),
     /// The live range that was asked for, or `None` where there is none.
     Found(Option<LiveRange>),
+}
+
+// The reply to a call that was to resize a range, or the space.
+pub(crate) fn resized(done: bool) -> Reply
+    ensures { reply_view result ≡ (if done then plain.Resized else plain.Answer machine.Refused) }
+{
+    if done {
+        Reply::Resized
+    } else {
+        Reply::Answer(Answer::Refused)
+    }
 }
 
 // The reply to `WouldBegin`.

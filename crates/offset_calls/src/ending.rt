@@ -1,4 +1,4 @@
-//! The replies of a player to calls at the end of a space.
+//! The replies of a player to calls at the end of a space. It touches the space, the handles and the numbers.
 
 ghost use Rattle.std.specs.Prelude.{IfOk, IsTrue, OnErr};
 ghost use Rattle.offset_script.specs.Steps.{AreHeld, Stays};
@@ -6,9 +6,8 @@ ghost use Rattle.offset_calls.specs.declared.calls.Call.{Call};
 ghost use Rattle.offset_calls.specs.Calls.{is_valid, reply_view};
 ghost use Rattle.offset_calls.specs.Steps.{AreKept, AreNumbers, Finds, IsKeptSome, Takes};
 
-use crate::calls::{LiveRange, Reply};
+use crate::calls::{LiveRange, Reply, resized};
 use crate::numbers::Numbers;
-use crate::playing::resized;
 use offset_allocator::{Allocation, NodeIndex, Tables};
 use offset_script::Answer;
 use offset_script::keeper::KeeperOf;

@@ -1,4 +1,4 @@
-//! Plays calls on a guarded allocator. Each call may pass any ticket.
+//! Plays calls on a guarded allocator, which it makes and alone touches. Each call may pass any ticket.
 
 ghost use Rattle.std.specs.Prelude.{◌≡◌, ◌+◌, ◌<◌, ◌≤◌, All, IfOk, IsTrue, Some, false, length, map, ℕ};
 ghost use Rattle.offset_guarded.specs.Guard.{HasSerialLeft, Ticket};
@@ -11,7 +11,8 @@ ghost use Rattle.offset_calls.specs.Tickets.{AreInOrder, IsGrantOf, AreAllTicket
 ghost use Rattle.offset_calls.specs.Tickets.{passed, ticket_of};
 
 use crate::calls::{Call, Reply};
-use crate::guarded_playing::{TicketPlayer, answer, other};
+use crate::guarded_playing::{answer, other};
+use crate::ticket_player::TicketPlayer;
 use offset_allocator::laws::is_well_formed;
 use offset_allocator::{NodeIndex, Tables};
 use offset_guarded::{GuardedOf, Ticket};

@@ -1,4 +1,4 @@
-//! The replies of a guarded allocator to calls at the end of a space.
+//! The replies of a guarded allocator to calls at the end of a space. It touches the space and the tickets.
 
 ghost use Rattle.std.specs.Prelude.{◌≡◌, ◌≤◌, IfOk, List, ℕ, option_map};
 ghost use Rattle.offset_guarded.specs.Guard.{HasSerialLeft, Ticket};
@@ -7,9 +7,8 @@ ghost use Rattle.offset_calls.specs.Calls.{reply_view};
 ghost use Rattle.offset_calls.specs.Steps.{AreKept};
 ghost use Rattle.offset_calls.specs.Tickets.{AreAllTickets, TakesTicket, IsNumberOf, handles_of};
 
-use crate::calls::{LiveRange, Reply};
-use crate::guarded_playing::{TicketPlayer, keep};
-use crate::playing::resized;
+use crate::calls::{LiveRange, Reply, resized};
+use crate::ticket_player::{TicketPlayer, keep};
 use offset_allocator::Tables;
 use offset_guarded::{GuardedOf, Ticket};
 use offset_script::Answer;

@@ -1,4 +1,5 @@
-//! The reply of a guarded allocator to one call, with the ticket that the call passes.
+//! The reply of a guarded allocator to one call, with the ticket that the call passes. It touches the space and the
+//! tickets.
 
 ghost use Rattle.std.specs.Prelude.{◌≡◌, IfOk, IsTrue, List, false, ℕ};
 ghost use Rattle.offset_guarded.specs.Guard.{HasSerialLeft, Ticket};
@@ -8,42 +9,16 @@ ghost use Rattle.offset_calls.specs.Calls.{is_command, is_valid, reply_view};
 ghost use Rattle.offset_calls.specs.Calls as plain;
 ghost use Rattle.offset_calls.specs.Histories.{renumber};
 ghost use Rattle.offset_calls.specs.Steps.{AreKept};
-ghost use Rattle.offset_calls.specs.Tickets.{AreAllTickets, IsStored, TakesTicket, IsNumberOf, handles_of};
+ghost use Rattle.offset_calls.specs.Tickets.{AreAllTickets, TakesTicket, IsNumberOf, handles_of};
 
-use crate::calls::{Call, Reply, begins};
-use crate::guarded_ending;
-use crate::playing::{resized, room_cost, room_cost_by};
-use crate::sliding::{
-    compact_by_guarded, compact_guarded, compact_within_guarded, make_room_by_guarded,
-    make_room_guarded,
-};
+use crate::calls::{Call, Reply, begins, resized};
+use crate::playing::{room_cost, room_cost_by};
+use crate::ticket_player::{TicketPlayer, keep};
+use crate::{guarded_ending, sliding};
 use offset_allocator::Tables;
 use offset_guarded::{GuardedOf, Ticket};
 use offset_script::{Answer, Command, full_answer};
 use std::alloc::{AllocError, Global};
-
-// A guarded allocator, with the tickets of all grants so far.
-#[derive(Drop)]
-pub(crate) struct TicketPlayer<T: Tables> {
-    pub(crate) space: GuardedOf<T>,
-    pub(crate) tickets: Vec<Ticket>,
-}
-
-// The answer to a request with this result. The ticket of a grant is kept.
-pub(crate) fn keep(tickets: &mut Vec<Ticket>, granted: Option<Ticket>) -> Result<Answer, AllocError>
-    ensures { IfOk result (λ a. IsStored granted tickets.old.items tickets.new.items (answer_view a)) }
-{
-    match granted {
-        None => Ok(Answer::Refused),
-        Some(ticket) => {
-            tickets.push(ticket)?;
-            Ok(Answer::Grant {
-                number: tickets.len() as u64,
-                offset: ticket.offset,
-            })
-        }
-    }
-}
 
 // The answer to `alloc`.
 fn allocate<T: Tables>(player: &mut TicketPlayer<T>, size: u32) -> Result<Answer, AllocError>
@@ -258,11 +233,9 @@ pub(crate) fn other<T: Tables>(
         Call::Command(_) => unreachable!(),
         Call::Shrink(_, size) => Ok(shrink(&mut player.space, ticket, size)),
         Call::Grow(_, size) => Ok(grow(&mut player.space, ticket, size)),
-        Call::Compact => compact_guarded(alloc, player),
-        Call::CompactBy(step) => compact_by_guarded(alloc, player, step),
-        Call::CompactWithin(step, from, most_units, most_ranges) => {
-            compact_within_guarded(alloc, player, step, from, most_units, most_ranges)
-        }
+        Call::Compact => sliding::reply_guarded(alloc, player, call),
+        Call::CompactBy(_) => sliding::reply_guarded(alloc, player, call),
+        Call::CompactWithin(_, _, _, _) => sliding::reply_guarded(alloc, player, call),
         Call::Offset(_) => Ok(offset_of(&player.space, ticket)),
         Call::Refusal(size) => Ok(Reply::Refusal(player.space.allocator().refusal(size))),
         Call::RefusalAligned(size, align) => Ok(Reply::Refusal(
@@ -280,10 +253,8 @@ pub(crate) fn other<T: Tables>(
         Call::WouldBegin(size, align) => Ok(begins(
             player.space.allocator().would_begin(size, align),
         )),
-        Call::MakeRoom(size) => make_room_guarded(alloc, player, size),
-        Call::MakeRoomBy(size, align, step) => {
-            make_room_by_guarded(alloc, player, size, align, step)
-        }
+        Call::MakeRoom(_) => sliding::reply_guarded(alloc, player, call),
+        Call::MakeRoomBy(_, _, _) => sliding::reply_guarded(alloc, player, call),
         Call::RoomCost(size) => Ok(room_cost(player.space.allocator(), size)),
         Call::RoomCostBy(size, align, step) => {
             Ok(room_cost_by(player.space.allocator(), size, align, step))

@@ -8,6 +8,8 @@
 //! first, the last, or beside one. The replies are proved to be those of the plain stamped list of blocks, which
 //! `specs/Calls.antt` extends by these calls, for every lawful layout and index type.
 #![tactic(auto)]
+// Each module uses those before it alone: calls, numbers, ticket_player, sliding, ending, playing, player, guarded_ending,
+// guarded_playing, guarded.
 
 mod calls;
 mod ending;
@@ -19,6 +21,7 @@ mod numbers;
 mod player;
 mod playing;
 mod sliding;
+mod ticket_player;
 
 pub use calls::{Call, LiveRange, Moved, Reply, are_valid};
 pub use guarded::{Played, TicketCall, play_guarded};

@@ -1,28 +1,22 @@
-//! Calls that slide ranges: the moves, and the numbers of the ranges that move.
+//! Calls that may slide ranges: the moves, and the numbers of the ranges that move. It changes the space and the
+//! numbers, and no handle or ticket.
 
-ghost use Rattle.std.specs.Prelude.{◌≡◌, ◌≤◌, ◌++◌, ◌∷◌, [], All, IfOk, List, None, OnErr, false, map};
-ghost use Rattle.std.specs.Prelude.{slice_index, if◌then◌else◌};
-ghost use Rattle.offset_allocator.specs.Classes.{value, up};
-ghost use Rattle.offset_allocator.specs.Moving.BySteps.{CompactsBy, moves_by};
+ghost use Rattle.std.specs.Prelude.{◌≡◌, ◌++◌, ◌∷◌, [], All, IfOk, IsTrue, List, None, OnErr, false, map, slice_index};
+ghost use Rattle.std.specs.List.{FoldsTo};
 ghost use Rattle.offset_allocator.specs.Moving.Compacting as named;
-ghost use Rattle.offset_allocator.specs.Moving.Compacting.{Compacts, moves};
+ghost use Rattle.offset_allocator.specs.Moving.Compacting.{IsCalledWith};
 ghost use Rattle.offset_allocator.specs.Ranges.{range_of};
-ghost use Rattle.offset_allocator.specs.Moving.Room.{IsLeastCost};
-ghost use Rattle.offset_allocator.specs.Moving.RoomBySteps.{IsLeastCostBy, names_short};
-ghost use Rattle.offset_allocator.specs.Requests.{blocks_needed, units_needed};
 ghost use Rattle.offset_guarded.specs.Guard.{KeepsSizes, serial_of};
-ghost use Rattle.offset_script.specs.Machine as machine;
-ghost use Rattle.offset_calls.specs.declared.calls.Call.{Call};
+ghost use Rattle.offset_calls.specs.Calling as calling;
 ghost use Rattle.offset_calls.specs.Calling.{IsLost};
-ghost use Rattle.offset_calls.specs.Calls.{move_view, reply_view};
-ghost use Rattle.offset_calls.specs.Calls as plain;
-ghost use Rattle.offset_calls.specs.Slides.{IsMade, IsMadeBy, IsMovedWithin, named_move, numbered_move};
-ghost use Rattle.offset_calls.specs.Steps.{AreKept, AreNumbers, Takes, comes_so_far};
+ghost use Rattle.offset_calls.specs.Calls.{is_valid, move_view, reply_view};
+ghost use Rattle.offset_calls.specs.Slides.{IsSlid, done, named_move, numbered_move, slid_reply, so_far};
+ghost use Rattle.offset_calls.specs.Steps.{AreKept, AreNumbers, Takes};
 ghost use Rattle.offset_calls.specs.Tickets.{AreAllTickets, TakesTicket, handles_of};
 
-use crate::calls::{Moved, Reply};
-use crate::guarded_playing::TicketPlayer;
+use crate::calls::{Call, Moved, Reply};
 use crate::numbers::Numbers;
+use crate::ticket_player::TicketPlayer;
 use offset_allocator::{Allocation, AllocatorOf, Move, NodeIndex, Progress, RoomCost, Tables};
 use offset_guarded::GuardedOf;
 use offset_script::Answer;
@@ -32,17 +26,17 @@ use std::alloc::{AllocError, Global};
 // The moves so far, without numbers, each with the handle of its range after it, unless memory for one was
 // refused.
 #[derive(Drop)]
-struct Slides<NI: NodeIndex> {
+struct Seen<NI: NodeIndex> {
     found: Vec<(Allocation<NI>, Moved)>,
     is_refused: bool,
 }
 
-impl<NI: NodeIndex> Slides<NI> {
+impl<NI: NodeIndex> Seen<NI> {
     // No moves.
     fn new(alloc: Global) -> Self
         ensures { result.found.items ≡ [] }
     {
-        Slides {
+        Seen {
             found: Vec::new(alloc),
             is_refused: false,
         }
@@ -70,97 +64,131 @@ impl<NI: NodeIndex> Slides<NI> {
     }
 }
 
-// Compacts a space, and collects the moves. Its index type is a parameter too, which keeps the proof short,
+// What a call comes to that may slide ranges: a reply without its moves.
+#[derive(Drop)]
+enum Slid {
+    Refused,
+    Compacted,
+    CompactedWithin(Option<u32>),
+    RoomMade(Option<RoomCost>),
+}
+
+// What a compaction comes to, which is done or refused.
+fn done(is_done: bool) -> Slid
+    ensures { result ≡ done is_done }
+{
+    if is_done {
+        Slid::Compacted
+    } else {
+        Slid::Refused
+    }
+}
+
+// What one within a budget comes to, which came so far or is refused.
+fn so_far(progress: Option<Progress>) -> Slid
+    ensures { result ≡ so_far progress }
+{
+    match progress {
+        None => Slid::Refused,
+        Some(progress) => Slid::CompactedWithin(progress.next),
+    }
+}
+
+// What a call comes to, which reports its moves to a closure, in their order.
+fn slide<T: Tables, F: FnMut(Move<T::Index>)>(
+    space: &mut AllocatorOf<T>,
+    call: Call,
+    moved: &mut F,
+) -> Slid
+    requires callable { F.IsAlwaysCallable moved.old }
+    requires slides { IsTrue (calling.slides call) }
+    requires valid { IsTrue (is_valid call) }
+    ensures { (xs : List named.Move)
+        × FoldsTo (IsCalledWith T.Index.NonMax.number (λ f range g. F.step f range tt g)) moved.old xs moved.new
+        × IsSlid call space.old result space.new xs }
+{
+    match call {
+        Call::Compact => {
+            space.compact(moved);
+            Slid::Compacted
+        }
+        Call::CompactBy(step) => done(space.compact_by(step, moved)),
+        Call::CompactWithin(step, from, most_units, most_ranges) => {
+            so_far(space.compact_within(step, from, most_units, most_ranges, moved))
+        }
+        Call::MakeRoom(size) => Slid::RoomMade(space.make_room(size, moved)),
+        Call::MakeRoomBy(size, align, step) => {
+            Slid::RoomMade(space.make_room_by(size, align, step, moved))
+        }
+        _ => unreachable!(),
+    }
+}
+
+// The same of a space with tickets, which keeps its serials.
+fn slide_guarded<T: Tables, F: FnMut(Move<T::Index>)>(
+    space: &mut GuardedOf<T>,
+    call: Call,
+    report: &mut F,
+) -> Slid
+    requires callable { F.IsAlwaysCallable report.old }
+    requires slides { IsTrue (calling.slides call) }
+    requires valid { IsTrue (is_valid call) }
+    ensures step { (xs : List named.Move)
+        × FoldsTo (IsCalledWith T.Index.NonMax.number (λ f range g. F.step f range tt g)) report.old xs report.new
+        × IsSlid call space.old.space result space.new.space xs }
+    ensures sizes { KeepsSizes space.old space.new }
+    ensures serials { space.new ≡ record space.old { space = space.new.space } }
+{
+    match call {
+        Call::Compact => {
+            space.compact_unaligned(report);
+            Slid::Compacted
+        }
+        Call::CompactBy(step) => done(space.compact_by(step, report)),
+        Call::CompactWithin(step, from, most_units, most_ranges) => {
+            so_far(space.compact_within_by(step, from, most_units, most_ranges, report))
+        }
+        Call::MakeRoom(size) => Slid::RoomMade(space.make_room_unaligned(size, report)),
+        Call::MakeRoomBy(size, align, step) => {
+            Slid::RoomMade(space.make_room_by(size, align, step, report))
+        }
+        _ => unreachable!(),
+    }
+}
+
+// What a call comes to, whose moves are collected. Its index type is a parameter too, which keeps the proof short,
 // here and below.
-fn compacted<NI: NodeIndex, T: Tables<Index = NI>>(
-    space: &mut AllocatorOf<T>,
-    seen: &mut Slides<NI>,
-)
-    requires { seen.old.found.items ≡ [] }
-    ensures moves { seen.new.is_refused ≡ false
-        → map named_move seen.new.found.items ≡ moves 0 0 space.old.blocks }
-    ensures step { Compacts space.old space.new }
-{
-    space.compact(&mut |range: Move<NI>| seen.add(range));
-}
-
-// Compacts a space by whole steps, and collects the moves.
-fn compacted_by<NI: NodeIndex, T: Tables<Index = NI>>(
-    space: &mut AllocatorOf<T>,
-    step: u32,
-    seen: &mut Slides<NI>,
-) -> bool
-    requires some { 1 ≤ step }
-    requires none { seen.old.found.items ≡ [] }
-    ensures moves { seen.new.is_refused ≡ false → map named_move seen.new.found.items
-        ≡ (if result then moves_by step 0 0 space.old.blocks else []) }
-    ensures step { CompactsBy step space.old space.new result }
-{
-    space.compact_by(step, &mut |range: Move<NI>| seen.add(range))
-}
-
-// Makes room in a space, and collects the moves.
 fn collect<NI: NodeIndex, T: Tables<Index = NI>>(
     space: &mut AllocatorOf<T>,
-    size: u32,
-    seen: &mut Slides<NI>,
-) -> Option<RoomCost>
-    requires { seen.old.found.items ≡ [] }
-    ensures cost { IsLeastCost (value (up size)) space.old.blocks result }
-    ensures step { seen.new.is_refused ≡ false → IsMade (value (up size)) space.old result space.new
-        (map named_move seen.new.found.items) }
+    call: Call,
+    seen: &mut Seen<NI>,
+) -> Slid
+    requires slides { IsTrue (calling.slides call) }
+    requires valid { IsTrue (is_valid call) }
+    requires none { seen.old.found.items ≡ [] }
+    ensures step { seen.new.is_refused ≡ false
+        → IsSlid call space.old result space.new (map named_move seen.new.found.items) }
     // Whatever was collected, there are such moves.
-    ensures some { (xs : List named.Move) × IsMade (value (up size)) space.old result space.new xs }
+    ensures some { (xs : List named.Move) × IsSlid call space.old result space.new xs }
 {
-    space.make_room(size, &mut |range: Move<NI>| seen.add(range))
+    slide(space, call, &mut |range: Move<NI>| seen.add(range))
 }
 
-// Makes room in a space by whole steps, and collects the moves.
-fn collect_by<NI: NodeIndex, T: Tables<Index = NI>>(
-    space: &mut AllocatorOf<T>,
-    size: u32,
-    align: u32,
-    step: u32,
-    seen: &mut Slides<NI>,
-) -> Option<RoomCost>
-    requires alignment { 1 ≤ align }
-    requires some { 1 ≤ step }
+// The same of a space with tickets.
+fn collect_guarded<NI: NodeIndex, T: Tables<Index = NI>>(
+    space: &mut GuardedOf<T>,
+    call: Call,
+    seen: &mut Seen<NI>,
+) -> Slid
+    requires slides { IsTrue (calling.slides call) }
+    requires valid { IsTrue (is_valid call) }
     requires none { seen.old.found.items ≡ [] }
-    ensures cost { IsLeastCostBy step (value (up (units_needed size align)))
-        (names_short (blocks_needed align) space.old) space.old.blocks result }
-    ensures step { seen.new.is_refused ≡ false → IsMadeBy step (value (up (units_needed size align)))
-        (names_short (blocks_needed align) space.old) space.old result space.new
-        (map named_move seen.new.found.items) }
-    // Whatever was collected, there are such moves, here and below.
-    ensures some { (xs : List named.Move) × IsMadeBy step (value (up (units_needed size align)))
-        (names_short (blocks_needed align) space.old) space.old result space.new xs }
+    ensures step { seen.new.is_refused ≡ false
+        → IsSlid call space.old.space result space.new.space (map named_move seen.new.found.items) }
+    ensures sizes { KeepsSizes space.old space.new }
+    ensures serials { space.new ≡ record space.old { space = space.new.space } }
 {
-    space.make_room_by(size, align, step, &mut |range: Move<NI>| seen.add(range))
-}
-
-// Compacts a space by whole steps within a budget, and collects the moves.
-fn moved_within<NI: NodeIndex, T: Tables<Index = NI>>(
-    space: &mut AllocatorOf<T>,
-    step: u32,
-    from: u32,
-    most_units: u32,
-    most_ranges: u32,
-    seen: &mut Slides<NI>,
-) -> Option<Progress>
-    requires some { 1 ≤ step }
-    requires none { seen.old.found.items ≡ [] }
-    ensures step { seen.new.is_refused ≡ false → IsMovedWithin step from most_units most_ranges space.old result
-        space.new (map named_move seen.new.found.items) }
-    ensures some { (xs : List named.Move)
-        × IsMovedWithin step from most_units most_ranges space.old result space.new xs }
-{
-    space.compact_within(
-        step,
-        from,
-        most_units,
-        most_ranges,
-        &mut |range: Move<NI>| seen.add(range),
-    )
+    slide_guarded(space, call, &mut |range: Move<NI>| seen.add(range))
 }
 
 // The moves, with the numbers of the ranges.
@@ -183,264 +211,7 @@ fn numbered<NI: NodeIndex>(
     Ok(found)
 }
 
-// The reply to `Compact`.
-#[inline(never)]
-pub(crate) fn compact<T: Tables>(
-    alloc: Global,
-    player: &mut KeeperOf<T>,
-    numbers: &mut Numbers,
-) -> Result<Reply, AllocError>
-    requires kept { AreKept player.old.space player.old.handles.items }
-    requires numbers { AreNumbers player.old.handles.items numbers.old.grants numbers.old.by_name.items }
-    ensures takes { IfOk result (λ r. Takes Call.Compact player.old.space player.old.handles.items
-        player.new.space player.new.handles.items (reply_view r)) }
-    ensures lost { OnErr result (IsLost Call.Compact player.old.space player.old.handles.items
-        player.new.space player.new.handles.items) }
-    ensures numbers { AreNumbers player.old.handles.items numbers.new.grants numbers.new.by_name.items }
-{
-    numbers.read(&player.handles, player.space.node_count())?;
-    let mut seen = Slides::new(alloc);
-    compacted(&mut player.space, &mut seen);
-    if seen.is_refused {
-        return Err(AllocError);
-    }
-    Ok(Reply::Compacted(numbered(alloc, numbers, &seen.found)?))
-}
-
-// The reply to a compaction by whole steps, which has these moves where it is done.
-fn by_steps(done: bool, moves: Vec<Moved>) -> Reply
-    ensures { reply_view result ≡ (if done then plain.Compacted (map move_view moves.items)
-        else plain.Answer machine.Refused) }
-{
-    if done {
-        Reply::Compacted(moves)
-    } else {
-        Reply::Answer(Answer::Refused)
-    }
-}
-
-// The reply to `CompactBy`.
-#[inline(never)]
-pub(crate) fn compact_by<T: Tables>(
-    alloc: Global,
-    player: &mut KeeperOf<T>,
-    numbers: &mut Numbers,
-    step: u32,
-) -> Result<Reply, AllocError>
-    requires kept { AreKept player.old.space player.old.handles.items }
-    requires numbers { AreNumbers player.old.handles.items numbers.old.grants numbers.old.by_name.items }
-    requires some { 1 ≤ step }
-    ensures takes { IfOk result (λ r. Takes (Call.CompactBy step) player.old.space player.old.handles.items
-        player.new.space player.new.handles.items (reply_view r)) }
-    ensures lost { OnErr result (IsLost (Call.CompactBy step) player.old.space player.old.handles.items
-        player.new.space player.new.handles.items) }
-    ensures numbers { AreNumbers player.old.handles.items numbers.new.grants numbers.new.by_name.items }
-{
-    numbers.read(&player.handles, player.space.node_count())?;
-    let mut seen = Slides::new(alloc);
-    let done = compacted_by(&mut player.space, step, &mut seen);
-    if seen.is_refused {
-        return Err(AllocError);
-    }
-    Ok(by_steps(done, numbered(alloc, numbers, &seen.found)?))
-}
-
-// The reply to `MakeRoom`.
-#[inline(never)]
-pub(crate) fn make_room<T: Tables>(
-    alloc: Global,
-    player: &mut KeeperOf<T>,
-    numbers: &mut Numbers,
-    size: u32,
-) -> Result<Reply, AllocError>
-    requires kept { AreKept player.old.space player.old.handles.items }
-    requires numbers { AreNumbers player.old.handles.items numbers.old.grants numbers.old.by_name.items }
-    ensures takes { IfOk result (λ r. Takes (Call.MakeRoom size) player.old.space player.old.handles.items
-        player.new.space player.new.handles.items (reply_view r)) }
-    ensures lost { OnErr result (IsLost (Call.MakeRoom size) player.old.space player.old.handles.items
-        player.new.space player.new.handles.items) }
-    ensures numbers { AreNumbers player.old.handles.items numbers.new.grants numbers.new.by_name.items }
-{
-    numbers.read(&player.handles, player.space.node_count())?;
-    let mut seen = Slides::new(alloc);
-    let cost = collect(&mut player.space, size, &mut seen);
-    if seen.is_refused {
-        return Err(AllocError);
-    }
-    Ok(Reply::RoomMade(cost, numbered(alloc, numbers, &seen.found)?))
-}
-
-// The reply to `MakeRoomBy`.
-#[inline(never)]
-pub(crate) fn make_room_by<T: Tables>(
-    alloc: Global,
-    player: &mut KeeperOf<T>,
-    numbers: &mut Numbers,
-    size: u32,
-    align: u32,
-    step: u32,
-) -> Result<Reply, AllocError>
-    requires kept { AreKept player.old.space player.old.handles.items }
-    requires numbers { AreNumbers player.old.handles.items numbers.old.grants numbers.old.by_name.items }
-    requires alignment { 1 ≤ align }
-    requires some { 1 ≤ step }
-    ensures takes { IfOk result (λ r. Takes (Call.MakeRoomBy size align step)
-        player.old.space player.old.handles.items player.new.space player.new.handles.items (reply_view r)) }
-    ensures lost { OnErr result (IsLost (Call.MakeRoomBy size align step)
-        player.old.space player.old.handles.items player.new.space player.new.handles.items) }
-    ensures numbers { AreNumbers player.old.handles.items numbers.new.grants numbers.new.by_name.items }
-{
-    numbers.read(&player.handles, player.space.node_count())?;
-    let mut seen = Slides::new(alloc);
-    let cost = collect_by(&mut player.space, size, align, step, &mut seen);
-    if seen.is_refused {
-        return Err(AllocError);
-    }
-    Ok(Reply::RoomMade(cost, numbered(alloc, numbers, &seen.found)?))
-}
-
-// The reply to a compaction within a budget that came so far, with these moves.
-fn so_far(progress: Option<Progress>, moves: Vec<Moved>) -> Reply
-    ensures { reply_view result ≡ comes_so_far progress (map move_view moves.items) }
-{
-    match progress {
-        None => Reply::Answer(Answer::Refused),
-        Some(progress) => Reply::CompactedWithin(progress.next, moves),
-    }
-}
-
-// The reply to `CompactWithin`.
-#[inline(never)]
-pub(crate) fn compact_within<T: Tables>(
-    alloc: Global,
-    player: &mut KeeperOf<T>,
-    numbers: &mut Numbers,
-    step: u32,
-    from: u32,
-    most_units: u32,
-    most_ranges: u32,
-) -> Result<Reply, AllocError>
-    requires kept { AreKept player.old.space player.old.handles.items }
-    requires numbers { AreNumbers player.old.handles.items numbers.old.grants numbers.old.by_name.items }
-    requires some { 1 ≤ step }
-    ensures takes { IfOk result (λ r. Takes (Call.CompactWithin step from most_units most_ranges)
-        player.old.space player.old.handles.items player.new.space player.new.handles.items (reply_view r)) }
-    ensures lost { OnErr result (IsLost (Call.CompactWithin step from most_units most_ranges)
-        player.old.space player.old.handles.items player.new.space player.new.handles.items) }
-    ensures numbers { AreNumbers player.old.handles.items numbers.new.grants numbers.new.by_name.items }
-{
-    numbers.read(&player.handles, player.space.node_count())?;
-    let mut seen = Slides::new(alloc);
-    let progress = moved_within(
-        &mut player.space,
-        step,
-        from,
-        most_units,
-        most_ranges,
-        &mut seen,
-    );
-    if seen.is_refused {
-        return Err(AllocError);
-    }
-    Ok(so_far(progress, numbered(alloc, numbers, &seen.found)?))
-}
-
-// Compacts a guarded space, and collects the moves, as `compacted` does.
-fn compacted_guarded<NI: NodeIndex, T: Tables<Index = NI>>(
-    space: &mut GuardedOf<T>,
-    seen: &mut Slides<NI>,
-)
-    requires { seen.old.found.items ≡ [] }
-    ensures moves { seen.new.is_refused ≡ false
-        → map named_move seen.new.found.items ≡ moves 0 0 space.old.space.blocks }
-    ensures step { Compacts space.old.space space.new.space }
-    ensures sizes { KeepsSizes space.old space.new }
-    ensures serials { space.new ≡ record space.old { space = space.new.space } }
-{
-    space.compact_unaligned(&mut |range: Move<NI>| seen.add(range));
-}
-
-// Compacts a guarded space by whole steps, and collects the moves, as `compacted_by` does.
-fn compacted_by_guarded<NI: NodeIndex, T: Tables<Index = NI>>(
-    space: &mut GuardedOf<T>,
-    step: u32,
-    seen: &mut Slides<NI>,
-) -> bool
-    requires some { 1 ≤ step }
-    requires none { seen.old.found.items ≡ [] }
-    ensures moves { seen.new.is_refused ≡ false → map named_move seen.new.found.items
-        ≡ (if result then moves_by step 0 0 space.old.space.blocks else []) }
-    ensures step { CompactsBy step space.old.space space.new.space result }
-    ensures sizes { KeepsSizes space.old space.new }
-    ensures serials { space.new ≡ record space.old { space = space.new.space } }
-{
-    space.compact_by(step, &mut |it: Move<NI>| seen.add(it))
-}
-
-// Makes room in a guarded space, and collects the moves, as `collect` does.
-fn collect_guarded<NI: NodeIndex, T: Tables<Index = NI>>(
-    space: &mut GuardedOf<T>,
-    size: u32,
-    seen: &mut Slides<NI>,
-) -> Option<RoomCost>
-    requires { seen.old.found.items ≡ [] }
-    ensures cost { IsLeastCost (value (up size)) space.old.space.blocks result }
-    ensures step { seen.new.is_refused ≡ false → IsMade (value (up size)) space.old.space result
-        space.new.space (map named_move seen.new.found.items) }
-    ensures sizes { KeepsSizes space.old space.new }
-    ensures serials { space.new ≡ record space.old { space = space.new.space } }
-{
-    space.make_room_unaligned(size, &mut |it: Move<NI>| seen.add(it))
-}
-
-// Makes room in a guarded space by whole steps, and collects the moves, as `collect_by` does.
-fn collect_by_guarded<NI: NodeIndex, T: Tables<Index = NI>>(
-    space: &mut GuardedOf<T>,
-    size: u32,
-    align: u32,
-    step: u32,
-    seen: &mut Slides<NI>,
-) -> Option<RoomCost>
-    requires alignment { 1 ≤ align }
-    requires some { 1 ≤ step }
-    requires none { seen.old.found.items ≡ [] }
-    ensures cost { IsLeastCostBy step (value (up (units_needed size align)))
-        (names_short (blocks_needed align) space.old.space) space.old.space.blocks result }
-    ensures step { seen.new.is_refused ≡ false → IsMadeBy step (value (up (units_needed size align)))
-        (names_short (blocks_needed align) space.old.space) space.old.space result space.new.space
-        (map named_move seen.new.found.items) }
-    ensures sizes { KeepsSizes space.old space.new }
-    ensures serials { space.new ≡ record space.old { space = space.new.space } }
-{
-    space.make_room_by(size, align, step, &mut |it: Move<NI>| seen.add(it))
-}
-
-// Compacts a guarded space by whole steps within a budget, and collects the moves, as `moved_within` does.
-fn moved_within_guarded<NI: NodeIndex, T: Tables<Index = NI>>(
-    space: &mut GuardedOf<T>,
-    step: u32,
-    from: u32,
-    most_units: u32,
-    most_ranges: u32,
-    seen: &mut Slides<NI>,
-) -> Option<Progress>
-    requires some { 1 ≤ step }
-    requires none { seen.old.found.items ≡ [] }
-    ensures step { seen.new.is_refused ≡ false → IsMovedWithin step from most_units most_ranges space.old.space
-        result space.new.space (map named_move seen.new.found.items) }
-    ensures sizes { KeepsSizes space.old space.new }
-    ensures serials { space.new ≡ record space.old { space = space.new.space } }
-{
-    space.compact_within_by(
-        step,
-        from,
-        most_units,
-        most_ranges,
-        &mut |it: Move<NI>| seen.add(it),
-    )
-}
-
-// The moves, with the numbers of the ranges, which are their serials.
+// The same of a space with tickets, where the numbers are serials.
 fn with_serials<T: Tables>(
     alloc: Global,
     space: &GuardedOf<T>,
@@ -463,117 +234,63 @@ fn with_serials<T: Tables>(
     Ok(found)
 }
 
-// The reply to `Compact` of a guarded space.
-#[inline(never)]
-pub(crate) fn compact_guarded<T: Tables>(
-    alloc: Global,
-    player: &mut TicketPlayer<T>,
-) -> Result<Reply, AllocError>
-    requires all_tickets { AreAllTickets player.old.space player.old.tickets.items }
-    requires kept { AreKept player.old.space.space (handles_of player.old.space player.old.tickets.items) }
-    ensures { IfOk result (λ r. TakesTicket Call.Compact player.old.space player.old.tickets.items
-        player.new.space player.new.tickets.items (reply_view r)) }
+// The reply to a call that came to this, with these moves.
+fn slid_reply(came_to: Slid, moves: Vec<Moved>) -> Reply
+    ensures { reply_view result ≡ slid_reply came_to (map move_view moves.items) }
 {
-    let mut seen = Slides::new(alloc);
-    compacted_guarded(&mut player.space, &mut seen);
-    if seen.is_refused {
-        return Err(AllocError);
+    match came_to {
+        Slid::Refused => Reply::Answer(Answer::Refused),
+        Slid::Compacted => Reply::Compacted(moves),
+        Slid::CompactedWithin(next) => Reply::CompactedWithin(next, moves),
+        Slid::RoomMade(cost) => Reply::RoomMade(cost, moves),
     }
-    Ok(Reply::Compacted(with_serials(alloc, &player.space, &seen.found)?))
 }
 
-// The reply to `CompactBy` of a guarded space.
+// The reply to a call.
 #[inline(never)]
-pub(crate) fn compact_by_guarded<T: Tables>(
+pub(crate) fn reply<T: Tables>(
     alloc: Global,
-    player: &mut TicketPlayer<T>,
-    step: u32,
+    player: &mut KeeperOf<T>,
+    numbers: &mut Numbers,
+    call: Call,
 ) -> Result<Reply, AllocError>
-    requires all_tickets { AreAllTickets player.old.space player.old.tickets.items }
-    requires kept { AreKept player.old.space.space (handles_of player.old.space player.old.tickets.items) }
-    requires some { 1 ≤ step }
-    ensures { IfOk result (λ r. TakesTicket (Call.CompactBy step) player.old.space player.old.tickets.items
-        player.new.space player.new.tickets.items (reply_view r)) }
+    requires kept { AreKept player.old.space player.old.handles.items }
+    requires numbers { AreNumbers player.old.handles.items numbers.old.grants numbers.old.by_name.items }
+    requires slides { IsTrue (calling.slides call) }
+    requires valid { IsTrue (is_valid call) }
+    ensures takes { IfOk result (λ r. Takes call player.old.space player.old.handles.items
+        player.new.space player.new.handles.items (reply_view r)) }
+    ensures lost { OnErr result (IsLost call player.old.space player.old.handles.items
+        player.new.space player.new.handles.items) }
+    ensures numbers { AreNumbers player.old.handles.items numbers.new.grants numbers.new.by_name.items }
 {
-    let mut seen = Slides::new(alloc);
-    let done = compacted_by_guarded(&mut player.space, step, &mut seen);
+    numbers.read(&player.handles, player.space.node_count())?;
+    let mut seen = Seen::new(alloc);
+    let came_to = collect(&mut player.space, call, &mut seen);
     if seen.is_refused {
         return Err(AllocError);
     }
-    Ok(by_steps(done, with_serials(alloc, &player.space, &seen.found)?))
+    Ok(slid_reply(came_to, numbered(alloc, numbers, &seen.found)?))
 }
 
-// The reply to `MakeRoom` of a guarded space.
+// The reply of a space with tickets.
 #[inline(never)]
-pub(crate) fn make_room_guarded<T: Tables>(
+pub(crate) fn reply_guarded<T: Tables>(
     alloc: Global,
     player: &mut TicketPlayer<T>,
-    size: u32,
+    call: Call,
 ) -> Result<Reply, AllocError>
     requires all_tickets { AreAllTickets player.old.space player.old.tickets.items }
     requires kept { AreKept player.old.space.space (handles_of player.old.space player.old.tickets.items) }
-    ensures { IfOk result (λ r. TakesTicket (Call.MakeRoom size) player.old.space player.old.tickets.items
+    requires slides { IsTrue (calling.slides call) }
+    requires valid { IsTrue (is_valid call) }
+    ensures { IfOk result (λ r. TakesTicket call player.old.space player.old.tickets.items
         player.new.space player.new.tickets.items (reply_view r)) }
 {
-    let mut seen = Slides::new(alloc);
-    let cost = collect_guarded(&mut player.space, size, &mut seen);
+    let mut seen = Seen::new(alloc);
+    let came_to = collect_guarded(&mut player.space, call, &mut seen);
     if seen.is_refused {
         return Err(AllocError);
     }
-    Ok(Reply::RoomMade(cost, with_serials(alloc, &player.space, &seen.found)?))
-}
-
-// The reply to `MakeRoomBy` of a guarded space.
-#[inline(never)]
-pub(crate) fn make_room_by_guarded<T: Tables>(
-    alloc: Global,
-    player: &mut TicketPlayer<T>,
-    size: u32,
-    align: u32,
-    step: u32,
-) -> Result<Reply, AllocError>
-    requires all_tickets { AreAllTickets player.old.space player.old.tickets.items }
-    requires kept { AreKept player.old.space.space (handles_of player.old.space player.old.tickets.items) }
-    requires alignment { 1 ≤ align }
-    requires some { 1 ≤ step }
-    ensures { IfOk result (λ r. TakesTicket (Call.MakeRoomBy size align step) player.old.space player.old.tickets.items
-        player.new.space player.new.tickets.items (reply_view r)) }
-{
-    let mut seen = Slides::new(alloc);
-    let cost = collect_by_guarded(&mut player.space, size, align, step, &mut seen);
-    if seen.is_refused {
-        return Err(AllocError);
-    }
-    Ok(Reply::RoomMade(cost, with_serials(alloc, &player.space, &seen.found)?))
-}
-
-// The reply to `CompactWithin` of a guarded space.
-#[inline(never)]
-pub(crate) fn compact_within_guarded<T: Tables>(
-    alloc: Global,
-    player: &mut TicketPlayer<T>,
-    step: u32,
-    from: u32,
-    most_units: u32,
-    most_ranges: u32,
-) -> Result<Reply, AllocError>
-    requires all_tickets { AreAllTickets player.old.space player.old.tickets.items }
-    requires kept { AreKept player.old.space.space (handles_of player.old.space player.old.tickets.items) }
-    requires some { 1 ≤ step }
-    ensures { IfOk result (λ r. TakesTicket (Call.CompactWithin step from most_units most_ranges)
-        player.old.space player.old.tickets.items player.new.space player.new.tickets.items (reply_view r)) }
-{
-    let mut seen = Slides::new(alloc);
-    let progress = moved_within_guarded(
-        &mut player.space,
-        step,
-        from,
-        most_units,
-        most_ranges,
-        &mut seen,
-    );
-    if seen.is_refused {
-        return Err(AllocError);
-    }
-    Ok(so_far(progress, with_serials(alloc, &player.space, &seen.found)?))
+    Ok(slid_reply(came_to, with_serials(alloc, &player.space, &seen.found)?))
 }

@@ -168,6 +168,15 @@ pub enum Reply {
     Found(Option<LiveRange>),
 }
 
+// The reply to a call that was to resize a range, or the space.
+pub(crate) fn resized(done: bool) -> Reply {
+    if done {
+        Reply::Resized
+    } else {
+        Reply::Answer(Answer::Refused)
+    }
+}
+
 // The reply to `WouldBegin`.
 pub(crate) fn begins(offset: Option<u32>) -> Reply {
     match offset {

@@ -1,10 +1,9 @@
 // Printed by rust/erase from crates/offset_calls/src/ending.rt: change it there.
 
-//! The replies of a player to calls at the end of a space.
+//! The replies of a player to calls at the end of a space. It touches the space, the handles and the numbers.
 
-use crate::calls::{LiveRange, Reply};
+use crate::calls::{LiveRange, Reply, resized};
 use crate::numbers::Numbers;
-use crate::playing::resized;
 use offset_allocator::{Allocation, NodeIndex, Tables};
 use offset_script::Answer;
 use offset_script::keeper::KeeperOf;

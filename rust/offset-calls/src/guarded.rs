@@ -1,9 +1,10 @@
 // Printed by rust/erase from crates/offset_calls/src/guarded.rt: change it there.
 
-//! Plays calls on a guarded allocator. Each call may pass any ticket.
+//! Plays calls on a guarded allocator, which it makes and alone touches. Each call may pass any ticket.
 
 use crate::calls::{Call, Reply};
-use crate::guarded_playing::{TicketPlayer, answer, other};
+use crate::guarded_playing::{answer, other};
+use crate::ticket_player::TicketPlayer;
 use offset_allocator::{NodeIndex, Tables};
 use offset_guarded::{GuardedOf, Ticket};
 use offset_script::Command;

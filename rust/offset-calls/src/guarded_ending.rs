@@ -1,10 +1,9 @@
 // Printed by rust/erase from crates/offset_calls/src/guarded_ending.rt: change it there.
 
-//! The replies of a guarded allocator to calls at the end of a space.
+//! The replies of a guarded allocator to calls at the end of a space. It touches the space and the tickets.
 
-use crate::calls::{LiveRange, Reply};
-use crate::guarded_playing::{TicketPlayer, keep};
-use crate::playing::resized;
+use crate::calls::{LiveRange, Reply, resized};
+use crate::ticket_player::{TicketPlayer, keep};
 use offset_allocator::Tables;
 use offset_guarded::{GuardedOf, Ticket};
 use offset_script::Answer;

@@ -1,39 +1,16 @@
 // Printed by rust/erase from crates/offset_calls/src/guarded_playing.rt: change it there.
 
-//! The reply of a guarded allocator to one call, with the ticket that the call passes.
+//! The reply of a guarded allocator to one call, with the ticket that the call passes. It touches the space and the
+//! tickets.
 
-use crate::calls::{Call, Reply, begins};
-use crate::guarded_ending;
-use crate::playing::{resized, room_cost, room_cost_by};
-use crate::sliding::{
-    compact_by_guarded, compact_guarded, compact_within_guarded, make_room_by_guarded,
-    make_room_guarded,
-};
+use crate::calls::{Call, Reply, begins, resized};
+use crate::playing::{room_cost, room_cost_by};
+use crate::ticket_player::{TicketPlayer, keep};
+use crate::{guarded_ending, sliding};
 use offset_allocator::Tables;
 use offset_guarded::{GuardedOf, Ticket};
 use offset_script::{Answer, Command, full_answer};
-use crate::memory::Vec;
 use crate::memory::{AllocError, Global};
-
-// A guarded allocator, with the tickets of all grants so far.
-pub(crate) struct TicketPlayer<T: Tables> {
-    pub(crate) space: GuardedOf<T>,
-    pub(crate) tickets: Vec<Ticket>,
-}
-
-// The answer to a request with this result. The ticket of a grant is kept.
-pub(crate) fn keep(tickets: &mut Vec<Ticket>, granted: Option<Ticket>) -> Result<Answer, AllocError> {
-    match granted {
-        None => Ok(Answer::Refused),
-        Some(ticket) => {
-            tickets.push(ticket)?;
-            Ok(Answer::Grant {
-                number: tickets.len() as u64,
-                offset: ticket.offset,
-            })
-        }
-    }
-}
 
 // The answer to `alloc`.
 fn allocate<T: Tables>(player: &mut TicketPlayer<T>, size: u32) -> Result<Answer, AllocError> {
@@ -179,11 +156,9 @@ pub(crate) fn other<T: Tables>(
         Call::Command(_) => unreachable!(),
         Call::Shrink(_, size) => Ok(shrink(&mut player.space, ticket, size)),
         Call::Grow(_, size) => Ok(grow(&mut player.space, ticket, size)),
-        Call::Compact => compact_guarded(alloc, player),
-        Call::CompactBy(step) => compact_by_guarded(alloc, player, step),
-        Call::CompactWithin(step, from, most_units, most_ranges) => {
-            compact_within_guarded(alloc, player, step, from, most_units, most_ranges)
-        }
+        Call::Compact => sliding::reply_guarded(alloc, player, call),
+        Call::CompactBy(_) => sliding::reply_guarded(alloc, player, call),
+        Call::CompactWithin(_, _, _, _) => sliding::reply_guarded(alloc, player, call),
         Call::Offset(_) => Ok(offset_of(&player.space, ticket)),
         Call::Refusal(size) => Ok(Reply::Refusal(player.space.allocator().refusal(size))),
         Call::RefusalAligned(size, align) => Ok(Reply::Refusal(
@@ -201,10 +176,8 @@ pub(crate) fn other<T: Tables>(
         Call::WouldBegin(size, align) => Ok(begins(
             player.space.allocator().would_begin(size, align),
         )),
-        Call::MakeRoom(size) => make_room_guarded(alloc, player, size),
-        Call::MakeRoomBy(size, align, step) => {
-            make_room_by_guarded(alloc, player, size, align, step)
-        }
+        Call::MakeRoom(_) => sliding::reply_guarded(alloc, player, call),
+        Call::MakeRoomBy(_, _, _) => sliding::reply_guarded(alloc, player, call),
         Call::RoomCost(size) => Ok(room_cost(player.space.allocator(), size)),
         Call::RoomCostBy(size, align, step) => {
             Ok(room_cost_by(player.space.allocator(), size, align, step))

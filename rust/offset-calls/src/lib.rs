@@ -14,6 +14,8 @@ pub use offset_allocator::{Allocation, Allocator, AllocatorOf, ByField, ByNode, 
 pub use offset_allocator::{Refusal, RoomCost, StorageReport, Tables};
 pub use offset_guarded::{Guarded, GuardedOf, Ticket};
 pub use offset_script::{Answer, Command, FullRow, PlayerOf};
+// Each module uses those before it alone: calls, numbers, ticket_player, sliding, ending, playing, player, guarded_ending,
+// guarded_playing, guarded.
 
 mod calls;
 mod ending;
@@ -24,6 +26,7 @@ mod numbers;
 mod player;
 mod playing;
 mod sliding;
+mod ticket_player;
 
 pub use calls::{Call, LiveRange, Moved, Reply, are_valid};
 pub use guarded::{Played, TicketCall, play_guarded};

@@ -1,25 +1,15 @@
 // Printed by rust/erase from crates/offset_calls/src/playing.rt: change it there.
 
-//! Plays calls on an allocator.
+//! Plays calls on an allocator, whose handles it keeps. It touches that allocator, the handles and the numbers.
 
-use crate::calls::{Call, Reply, begins};
-use crate::ending;
+use crate::calls::{Call, Reply, begins, resized};
 use crate::numbers::Numbers;
-use crate::sliding::{compact, compact_by, compact_within, make_room, make_room_by};
+use crate::{ending, sliding};
 use offset_allocator::{AllocatorOf, ByNode, NodeIndex, Tables};
 use offset_script::Answer;
 use offset_script::keeper::KeeperOf;
 use crate::memory::Vec;
 use crate::memory::{AllocError, Global};
-
-// The reply to a call that was to resize a range.
-pub(crate) fn resized(done: bool) -> Reply {
-    if done {
-        Reply::Resized
-    } else {
-        Reply::Answer(Answer::Refused)
-    }
-}
 
 // The reply to `Shrink`.
 fn shrink<T: Tables>(player: &mut KeeperOf<T>, number: u32, size: u32) -> Reply {
@@ -107,17 +97,9 @@ fn other<T: Tables>(
         Call::Command(_) => unreachable!(),
         Call::Shrink(number, size) => Ok(shrink(player, number, size)),
         Call::Grow(number, size) => Ok(grow(player, number, size)),
-        Call::Compact => compact(alloc, player, numbers),
-        Call::CompactBy(step) => compact_by(alloc, player, numbers, step),
-        Call::CompactWithin(step, from, most_units, most_ranges) => compact_within(
-            alloc,
-            player,
-            numbers,
-            step,
-            from,
-            most_units,
-            most_ranges,
-        ),
+        Call::Compact => sliding::reply(alloc, player, numbers, call),
+        Call::CompactBy(_) => sliding::reply(alloc, player, numbers, call),
+        Call::CompactWithin(_, _, _, _) => sliding::reply(alloc, player, numbers, call),
         Call::Offset(number) => Ok(offset(player, number)),
         Call::Refusal(size) => Ok(Reply::Refusal(player.space.refusal(size))),
         Call::RefusalAligned(size, align) => Ok(Reply::Refusal(
@@ -131,10 +113,8 @@ fn other<T: Tables>(
             player.space.refusal_tight_aligned(size, align),
         )),
         Call::WouldBegin(size, align) => Ok(begins(player.space.would_begin(size, align))),
-        Call::MakeRoom(size) => make_room(alloc, player, numbers, size),
-        Call::MakeRoomBy(size, align, step) => {
-            make_room_by(alloc, player, numbers, size, align, step)
-        }
+        Call::MakeRoom(_) => sliding::reply(alloc, player, numbers, call),
+        Call::MakeRoomBy(_, _, _) => sliding::reply(alloc, player, numbers, call),
         Call::RoomCost(size) => Ok(room_cost(&player.space, size)),
         Call::RoomCostBy(size, align, step) => Ok(room_cost_by(&player.space, size, align, step)),
         Call::Relocate(number) => ending::relocate(player, number),

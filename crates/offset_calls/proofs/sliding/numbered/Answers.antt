@@ -1,4 +1,4 @@
-use Rattle.offset_calls.proofs.{Common.◌∙◌, Common.ap, Slid.one_more}
+use Rattle.offset_calls.proofs.{Common.◌∙◌, Common.ap, Collected.one_more}
 use Rattle.std.specs.Prelude.{slice_index}
 use Rattle.offset_calls.proofs.sliding.numbered.Goals as goal
 

@@ -1,4 +1,4 @@
-use Rattle.offset_calls.proofs.{Common.◌≡◌, Common.◌∙◌, Common.ap, Common.get_or, Common.Ticket, Common.serial_of, Slid.one_more}
+use Rattle.offset_calls.proofs.{Common.◌≡◌, Common.◌∙◌, Common.ap, Common.get_or, Common.Ticket, Common.serial_of, Collected.one_more}
 use Rattle.offset_calls.proofs.sliding.with_serials.Goals.{in-None, in-Some}
 use Rattle.offset_calls.proofs.sliding.with_serials.Goals as goal
 
