@@ -13,6 +13,7 @@ use Rattle.std.specs.Prelude.{MatchOption}
 use Rattle.offset_allocator.specs.declared.reports.Refusal.{Refusal as OfSpace}
 use Rattle.offset_allocator.specs.declared.reports.Refusal.TheVariants as why
 use Rattle.offset_guarded.specs.declared.refusal.Refusal.{Refusal}
+use Rattle.offset_guarded.specs.Answers.{Requests}
 use Rattle.offset_guarded.specs.Guard.{Guard, Table, Grants, AreAlike, IsGuarded, IsLive, KeepsOthers, Ticket, last_serial, cell, covering, fits, for_space, nodes, of_space, serial_of}
 
 -- what the fields show
@@ -142,9 +143,12 @@ module _ (max n realm : ℕ) (v w : View) (t u : Table) (h : Handle) (is : IsGua
   granted table step now = search (arith, none_if, fit, others)
 
   pub granted_as : u.cells ≡ slice_set (covering (nodes w) t.cells) h.name (t.given + 1) → (step now : ℕ) (g : Guard) (z : Ticket) → guard v t realm step ≡ g → z ≡ ticket
-      → Grants n g (guard w u realm now) z
-  granted_as table step now g z shows same =
-      subst (λ g. Grants n g (guard w u realm now) z) shows (subst (λ z. Grants n (guard v t realm step) (guard w u realm now) z) (sym same) (granted table step now))
+      → Requests n g (guard w u realm now) (Some z)
+  granted_as table step now g z shows same = record {
+    grants = subst (λ g. Grants n g (guard w u realm now) z) shows (subst (λ z. Grants n (guard v t realm step) (guard w u realm now) z) (sym same) (granted table step now));
+    same = λ e. absurd (cc);
+    serials = λ e. absurd (cc);
+  }
 
 -- what holds of a name in the space of the fields holds of it in what they show
 pub shown : (P : ℕ → View → Type 0) (x y : ℕ) (g h : Guard) → g ≡ h → x ≡ y → P x g.space → P y h.space
