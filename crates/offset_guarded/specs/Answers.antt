@@ -334,10 +334,10 @@ Answers (Make_room_by n align s) g h a ms = (r : Option RoomCost) × (a ≡ Room
 Answers (Make_room_unaligned n) g h a ms = (r : Option RoomCost) × (a ≡ Room_made r) × MakesRoomUnaligned Notes n [] g h ms r
 
 -- a call goes by the step of the space, or by a multiple of it: so it keeps every alignment that was asked for
-abbrev pub KeepsStep : Call → Guard → Type 0
-KeepsStep (Compact_by s) g = g.step ∣ s
-KeepsStep (Compact_within_by s from units ranges) g = g.step ∣ s
-KeepsStep (Make_room_by n align s) g = g.step ∣ s
-KeepsStep Compact_unaligned g = ⊥
-KeepsStep (Make_room_unaligned n) g = ⊥
-KeepsStep c g = Unit {0}
+abbrev pub GoesByTheStep : Call → Guard → Type 0
+GoesByTheStep (Compact_by s) g = g.step ∣ s
+GoesByTheStep (Compact_within_by s from units ranges) g = g.step ∣ s
+GoesByTheStep (Make_room_by n align s) g = g.step ∣ s
+GoesByTheStep Compact_unaligned g = ⊥
+GoesByTheStep (Make_room_unaligned n) g = ⊥
+GoesByTheStep c g = Unit {0}
