@@ -1,3 +1,4 @@
+pub mod ByTheStep
 pub mod Bytes
 pub mod Continued
 pub mod Decided

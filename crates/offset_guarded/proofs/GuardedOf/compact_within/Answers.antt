@@ -1,29 +1,9 @@
-use Rattle.std.proofs.Common.{ℕ, ap, subst, rules}
-use Rattle.offset_guarded.specs.Guard.{Guard, KeepsDivisors}
-use Rattle.offset_guarded.proofs.Offsets.{kept_alignments, same_aligned}
+use Rattle.std.proofs.Common.{arith}
+use Rattle.offset_guarded.proofs.ByTheStep.{none_within, within}
 use Rattle.offset_guarded.proofs.GuardedOf.compact_within.Goals as goal
 
 pub returns-then-step-eq0 : goal.returns-then-step-eq0
-returns-then-step-eq0 g c = record {
-  sizes = search rules;
-  aligned = same_aligned c.args.self.now;
-  budget = search rules;
-  none = search rules;
-  step = search rules;
-  serials = search rules;
-  accesses_max = search rules;
-  accesses_budget = search rules;
-}
+returns-then-step-eq0 g c = none_within _ _ c.args.self.now (omega (arith, c.step_number-step.ensures, c.if-step-eq0.true)) c.args.from c.args.most_units c.args.most_ranges
 
 pub returns : goal.returns
-returns g c = record {
-  sizes = c.compact_within_by.ensures.sizes;
-  aligned = kept_alignments c.args.self.now c.compact_within_by.new.self (ap (λ (k : Guard). k.step) c.compact_within_by.ensures.serials)
-      (subst (λ (n : ℕ). KeepsDivisors n c.args.self.now c.compact_within_by.new.self) c.step_number-step.ensures c.compact_within_by.ensures.divisors);
-  budget = c.compact_within_by.ensures.budget;
-  none = search rules;
-  step = λ some. rw c.step_number-step.ensures at c.compact_within_by.ensures.step;
-  serials = c.compact_within_by.ensures.serials;
-  accesses_max = c.compact_within_by.ensures.accesses_max;
-  accesses_budget = c.compact_within_by.ensures.accesses_budget;
-}
+returns g c = within _ _ c.args.self.now c.compact_within_by.new.self _ c.step_number-step.result c.step_number-step.ensures (omega (arith, c.if-step-eq0.false)) c.args.from c.args.most_units c.args.most_ranges c.compact_within_by.result c.compact_within_by.ensures
