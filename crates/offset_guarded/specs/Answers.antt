@@ -1,4 +1,5 @@
--- What each call of a space with tickets returns and leaves: a relation for each, which its call on one heap of many has too.
+-- What each call of a space with tickets returns and leaves: a relation for each, which is its contract, and that of the
+-- same call on one heap of many.
 use Rattle.std.specs.Prelude.{◌≡◌, ◌↔◌, ℕ, ◌+◌, ◌*◌, ◌%◌, ◌≤◌, ◌⊎◌, Bool, true, false, List, [], ◌∷◌, ◌++◌, Option, Some, None, IfSome, IsSome, IsTrue, option_map, if◌then◌else◌, length, max, min}
 use Rattle.std.specs.Int.{◌∣◌, IsGcd}
 use Rattle.std.specs.List.{FoldsTo}
@@ -42,7 +43,7 @@ pub record Aligns (align : ℕ) (g h : Guard) (r : Option Ticket) : Type 0 where
   pub aligned : IfSome r (λ t. t.offset % align ≡ 0)
   pub joined : IfSome r (λ _. IsJoined g.step align h.step)
 
--- `step` is that of the allocator, where a serial is left
+-- here, as below, `step` says what the allocator does, where a serial is left; `g.step` is the step of the space
 pub record Allocates (n : ℕ) (g h : Guard) (r : Option Ticket) : Type 0 where
   pub request : Requests n g h r
   -- it is granted exactly when a serial is left and the allocator can grant it: for at least one unit, when n is at most the
@@ -99,7 +100,7 @@ pub record Relocates (t : Ticket) (g h : Guard) (r : Option Ticket) : Type 0 whe
   pub aligned : IfSome r (λ u. (a : ℕ) → a ∣ g.step → a ∣ offset_of t.name g.space → a ∣ u.offset)
   -- where there is no step, nothing changes
   pub none : g.step ≡ 0 → (r ≡ None) × (h ≡ g)
-  -- that of the allocator, where the ticket is live, a serial is left, and there is a step
+  -- where the ticket is live, a serial is left, and there is a step
   pub step : IsLive t g → HasSerialLeft g → 1 ≤ g.step → (align : ℕ) → IsGcd (offset_of t.name g.space) g.step align
       → again.RelocatesAligned t.name align g.space h.space (option_map handle_in r)
   pub same_step : h.step ≡ g.step

@@ -1,9 +1,9 @@
 use Rattle.std.proofs.Common.{◌≡◌, ◌%◌, Some, refl, subst, sym, rules}
-use Rattle.offset_allocator.specs.Requests.{blocks_needed, units_needed}
+use Rattle.offset_allocator.specs.Requests.{CanGrant, blocks_needed, units_needed}
 use Rattle.offset_allocator.specs.Relations.{Aligns}
 use Rattle.offset_guarded.specs.Guard.{Guard, Ticket, handle_in}
 use Rattle.offset_guarded.specs.Step.{IsJoined}
-use Rattle.offset_guarded.proofs.Guards.{can_grant, granted_as, issued, same_limit}
+use Rattle.offset_guarded.proofs.Guards.{granted_as, issued, same_limit, served}
 use Rattle.offset_guarded.proofs.GuardedOf.allocate_aligned.Goals as goal
 
 pub invariant_of-self-in-Some : goal.invariant_of-self-in-Some
@@ -19,7 +19,7 @@ returns-in-Some g c = record {
     aligned = subst (λ (t : Ticket). t.offset % c.args.align ≡ 0) (sym c.ticket_for.ensures.ticket) c.in-Some.ensures.aligned;
     joined = subst (λ (k : Guard). IsJoined k.step c.args.align c.joined-self-inside.result) c.self.view_is c.joined-self-inside.ensures;
   };
-  can_grant = can_grant (blocks_needed c.args.align) (units_needed c.args.size c.args.align) _ _ c.self.view_is (c.is_spent.ensures.left c.if-is_spent.false)
+  can_grant = served (CanGrant (blocks_needed c.args.align) (units_needed c.args.size c.args.align)) _ _ c.self.view_is (c.is_spent.ensures.left c.if-is_spent.false)
       (c.in-Some.ensures.can_grant.0 refl);
   step = λ left.
       subst (λ (t : Ticket). Aligns c.args.size c.args.align c.args.self.now.space c.allocate_aligned.new.self (Some (handle_in t))) (sym c.ticket_for.ensures.ticket)

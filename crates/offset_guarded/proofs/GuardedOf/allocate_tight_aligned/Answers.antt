@@ -1,8 +1,8 @@
 use Rattle.std.proofs.Common.{◌≡◌, ◌%◌, Some, refl, subst, sym, rules}
-use Rattle.offset_allocator.specs.Tight.{AlignsTight}
+use Rattle.offset_allocator.specs.Tight.{AlignsTight, CanHold}
 use Rattle.offset_guarded.specs.Guard.{Guard, Ticket, handle_in}
 use Rattle.offset_guarded.specs.Step.{IsJoined}
-use Rattle.offset_guarded.proofs.Guards.{can_hold, granted_as, issued, same_limit_tight}
+use Rattle.offset_guarded.proofs.Guards.{granted_as, issued, same_limit_tight, served}
 use Rattle.offset_guarded.proofs.GuardedOf.allocate_tight_aligned.Goals as goal
 
 pub invariant_of-self-in-Some : goal.invariant_of-self-in-Some
@@ -18,7 +18,7 @@ returns-in-Some g c = record {
     aligned = subst (λ (t : Ticket). t.offset % c.args.align ≡ 0) (sym c.ticket_for.ensures.ticket) c.in-Some.ensures.aligned;
     joined = subst (λ (k : Guard). IsJoined k.step c.args.align c.joined-self-inside.result) c.self.view_is c.joined-self-inside.ensures;
   };
-  can_hold = can_hold c.args.size c.args.align _ _ c.self.view_is (c.is_spent.ensures.left c.if-is_spent.false) (c.in-Some.ensures.can_hold.0 refl);
+  can_hold = served (CanHold c.args.size c.args.align) _ _ c.self.view_is (c.is_spent.ensures.left c.if-is_spent.false) (c.in-Some.ensures.can_hold.0 refl);
   step = λ left.
       let w = c.allocate_tight_aligned.new.self in
       subst (λ (t : Ticket). AlignsTight c.args.size c.args.align c.args.self.now.space w (Some (handle_in t))) (sym c.ticket_for.ensures.ticket)
