@@ -116,61 +116,61 @@ moving f x x' a a' ms ms' h h' e e' s = (e ∙ ap f s.0 ∙ sym e', s.1, s.2)
 
 pub answers_decided : (c : Call) (g g' h h' : Guard) → IsWellFormed g.space → IsTwin g g' → (a a' : Answer) (ms ms' : List Move) → Answers c g h a ms → Answers c g' h' a' ms' → Same a a' ms ms' h h'
 answers_decided (Allocate n) g g' h h' known t a a' ms ms' x y =
-    let d = granted n n g g' h h' x.0 y.0 refl t x.2.0 y.2.0
-    (served g g' h h' t x.0 y.0 x.2.3 y.2.3 (λ l m. allocates_decided n g.space g'.space h.space h'.space known t.space (option_map handle_in x.0) (option_map handle_in y.0) (x.2.4 l) (y.2.4 m)))
-    (λ p q. same_step g g' h h' t x.2.1 y.2.1) in
+    let d = granted n n g g' h h' x.0 y.0 refl t x.2.request y.2.request
+    (served g g' h h' t x.0 y.0 x.2.can_grant y.2.can_grant (λ l m. allocates_decided n g.space g'.space h.space h'.space known t.space (option_map handle_in x.0) (option_map handle_in y.0) (x.2.step l) (y.2.step m)))
+    (λ p q. same_step g g' h h' t x.2.same_step y.2.same_step) in
     still Requested x.0 y.0 a a' ms ms' h h' x.1 y.1 x.3 y.3 d
 answers_decided (Allocate_aligned n align) g g' h h' known t a a' ms ms' x y =
-    let d = granted n n g g' h h' x.0 y.0 refl t x.2.0 y.2.0
-    (served g g' h h' t x.0 y.0 x.2.2 y.2.2 (λ l m. aligns_decided n align g.space g'.space h.space h'.space known t.space (option_map handle_in x.0) (option_map handle_in y.0) (x.2.3 l) (y.2.3 m)))
-    (joined g g' h h' t align x.0 y.0 x.2.1 y.2.1) in
+    let d = granted n n g g' h h' x.0 y.0 refl t x.2.request y.2.request
+    (served g g' h h' t x.0 y.0 x.2.can_grant y.2.can_grant (λ l m. aligns_decided n align g.space g'.space h.space h'.space known t.space (option_map handle_in x.0) (option_map handle_in y.0) (x.2.step l) (y.2.step m)))
+    (joined g g' h h' t align x.0 y.0 x.2.aligns y.2.aligns) in
     still Requested x.0 y.0 a a' ms ms' h h' x.1 y.1 x.3 y.3 d
 answers_decided (Allocate_tight n) g g' h h' known t a a' ms ms' x y =
-    let d = granted n n g g' h h' x.0 y.0 refl t x.2.0 y.2.0
-    (served g g' h h' t x.0 y.0 x.2.2 y.2.2 (λ l m. tight_decided n 1 g.space g'.space h.space h'.space known t.space (option_map handle_in x.0) (option_map handle_in y.0) (x.2.3 l) (y.2.3 m)))
-    (λ p q. same_step g g' h h' t x.2.1 y.2.1) in
+    let d = granted n n g g' h h' x.0 y.0 refl t x.2.request y.2.request
+    (served g g' h h' t x.0 y.0 x.2.can_hold y.2.can_hold (λ l m. tight_decided n 1 g.space g'.space h.space h'.space known t.space (option_map handle_in x.0) (option_map handle_in y.0) (x.2.step l) (y.2.step m)))
+    (λ p q. same_step g g' h h' t x.2.same_step y.2.same_step) in
     still Requested x.0 y.0 a a' ms ms' h h' x.1 y.1 x.3 y.3 d
 answers_decided (Allocate_tight_aligned n align) g g' h h' known t a a' ms ms' x y =
-    let d = granted n n g g' h h' x.0 y.0 refl t x.2.0 y.2.0
-    (served g g' h h' t x.0 y.0 x.2.2 y.2.2 (λ l m. tight_decided n align g.space g'.space h.space h'.space known t.space (option_map handle_in x.0) (option_map handle_in y.0) (x.2.3 l) (y.2.3 m)))
-    (joined g g' h h' t align x.0 y.0 x.2.1 y.2.1) in
+    let d = granted n n g g' h h' x.0 y.0 refl t x.2.request y.2.request
+    (served g g' h h' t x.0 y.0 x.2.can_hold y.2.can_hold (λ l m. tight_decided n align g.space g'.space h.space h'.space known t.space (option_map handle_in x.0) (option_map handle_in y.0) (x.2.step l) (y.2.step m)))
+    (joined g g' h h' t align x.0 y.0 x.2.aligns y.2.aligns) in
     still Requested x.0 y.0 a a' ms ms' h h' x.1 y.1 x.3 y.3 d
 answers_decided (Allocate_at offset n) g g' h h' known t a a' ms ms' x y =
-    let d = granted n n g g' h h' x.0 y.0 refl t x.2.0 y.2.0
-    (served g g' h h' t x.0 y.0 x.2.2 y.2.2 (λ l m. at_decided offset n g.space g'.space h.space h'.space known t.space (option_map handle_in x.0) (option_map handle_in y.0) (x.2.4 l) (y.2.4 m)))
-    (λ p q. same_step g g' h h' t x.2.1 y.2.1) in
+    let d = granted n n g g' h h' x.0 y.0 refl t x.2.request y.2.request
+    (served g g' h h' t x.0 y.0 x.2.granted y.2.granted (λ l m. at_decided offset n g.space g'.space h.space h'.space known t.space (option_map handle_in x.0) (option_map handle_in y.0) (x.2.step l) (y.2.step m)))
+    (λ p q. same_step g g' h h' t x.2.same_step y.2.same_step) in
     still Requested x.0 y.0 a a' ms ms' h h' x.1 y.1 x.3 y.3 d
 answers_decided (Relocate u) g g' h h' known t a a' ms ms' x y = elim (cases_lt 0 g.step) [
   | inl l ↦
       let offset' : offset_of u.name g'.space ≡ offset_of u.name g.space = ap (λ (v : View). offset_of u.name v) t.space in
       let some : 1 ≤ g.step = omega (arith, l) in
-      let d = granted (size_of u.name g.space) (size_of u.name g'.space) g g' h h' x.0 y.0 (size_same g g' h h' t u.name) t x.2.0.request y.2.0.request
-      (second g g' h h' t u x.0 y.0 x.2.0 y.2.0 (λ l m l' m'.
+      let d = granted (size_of u.name g.space) (size_of u.name g'.space) g g' h h' x.0 y.0 (size_same g g' h h' t u.name) t x.2.second.request y.2.second.request
+      (second g g' h h' t u x.0 y.0 x.2.second y.2.second (λ l m l' m'.
       let align = gcd_there (offset_of u.name g.space) g.step some in
       relocates_aligned_decided u.name align.0 g.space g'.space h.space h'.space align.1 known t.space (option_map handle_in x.0) (option_map handle_in y.0)
-      (x.2.4 l m some align.0 align.2) (y.2.4 l' m' (omega (arith, some, t.step)) align.0 (subst₂ (λ (o s : ℕ). IsGcd o s align.0) (sym offset') (sym t.step) align.2))))
-      (λ p q. same_step g g' h h' t x.2.1 y.2.1) in
+      (x.2.step l m some align.0 align.2) (y.2.step l' m' (omega (arith, some, t.step)) align.0 (subst₂ (λ (o s : ℕ). IsGcd o s align.0) (sym offset') (sym t.step) align.2))))
+      (λ p q. same_step g g' h h' t x.2.same_step y.2.same_step) in
       still Requested x.0 y.0 a a' ms ms' h h' x.1 y.1 x.3 y.3 d
   | inr m ↦
-      let e = x.2.3 (omega (arith, m)) in
-      let f = y.2.3 (omega (arith, m, t.step)) in
+      let e = x.2.none (omega (arith, m)) in
+      let f = y.2.none (omega (arith, m, t.step)) in
       still Requested x.0 y.0 a a' ms ms' h h' x.1 y.1 x.3 y.3 (e.0 ∙ sym f.0, subst₂ IsTwin (sym e.1) (sym f.1) t)
 ]
 answers_decided (Relocate_aligned u align) g g' h h' known t a a' ms ms' x y =
-    let d = granted (size_of u.name g.space) (size_of u.name g'.space) g g' h h' x.0 y.0 (size_same g g' h h' t u.name) t x.2.0.request y.2.0.request
-    (second g g' h h' t u x.0 y.0 x.2.0 y.2.0 (λ l m l' m'. relocates_aligned_decided u.name align g.space g'.space h.space h'.space x.4 known t.space (option_map handle_in x.0) (option_map handle_in y.0) (x.2.2 l m) (y.2.2 l' m')))
-    (joined g g' h h' t align x.0 y.0 x.2.1 y.2.1) in
+    let d = granted (size_of u.name g.space) (size_of u.name g'.space) g g' h h' x.0 y.0 (size_same g g' h h' t u.name) t x.2.second.request y.2.second.request
+    (second g g' h h' t u x.0 y.0 x.2.second y.2.second (λ l m l' m'. relocates_aligned_decided u.name align g.space g'.space h.space h'.space x.4 known t.space (option_map handle_in x.0) (option_map handle_in y.0) (x.2.step l m) (y.2.step l' m')))
+    (joined g g' h h' t align x.0 y.0 x.2.aligns y.2.aligns) in
     still Requested x.0 y.0 a a' ms ms' h h' x.1 y.1 x.3 y.3 d
 answers_decided (Relocate_unaligned u) g g' h h' known t a a' ms ms' x y =
-    let d = granted (size_of u.name g.space) (size_of u.name g'.space) g g' h h' x.0 y.0 (size_same g g' h h' t u.name) t x.2.0.request y.2.0.request
-    (second g g' h h' t u x.0 y.0 x.2.0 y.2.0 (λ l m l' m'. relocates_decided u.name g.space g'.space h.space h'.space known t.space (option_map handle_in x.0) (option_map handle_in y.0) (x.2.2 l m) (y.2.2 l' m')))
-    (λ p q. same_step g g' h h' t x.2.1 y.2.1) in
+    let d = granted (size_of u.name g.space) (size_of u.name g'.space) g g' h h' x.0 y.0 (size_same g g' h h' t u.name) t x.2.second.request y.2.second.request
+    (second g g' h h' t u x.0 y.0 x.2.second y.2.second (λ l m l' m'. relocates_decided u.name g.space g'.space h.space h'.space known t.space (option_map handle_in x.0) (option_map handle_in y.0) (x.2.step l m) (y.2.step l' m')))
+    (λ p q. same_step g g' h h' t x.2.same_step y.2.same_step) in
     still Requested x.0 y.0 a a' ms ms' h h' x.1 y.1 x.3 y.3 d
-answers_decided (Free u) g g' h h' known t a a' ms ms' x y = still Was_done x.0 y.0 a a' ms ms' h h' x.1 y.1 x.3 y.3 (go x.0 y.0 x.2.0 y.2.0 x.2.3 y.2.3 x.2.4 y.2.4)
+answers_decided (Free u) g g' h h' known t a a' ms ms' x y = still Was_done x.0 y.0 a a' ms ms' h h' x.1 y.1 x.3 y.3 (go x.0 y.0 x.2.done y.2.done x.2.same y.2.same x.2.step y.2.step)
   where
     go : (r r' : Bool) → IsTrue r ↔ IsLive u g → IsTrue r' ↔ IsLive u g' → (r ≡ false → h ≡ g) → (r' ≡ false → h' ≡ g')
         → (r ≡ true → space.Frees u.name g.space h.space) → (r' ≡ true → space.Frees u.name g'.space h'.space) → (r ≡ r') × IsTwin h h'
-    go true true live live' same same' step step' = (refl, free_twins u.name g g' h h' known t (step refl) (step' refl) x.2.5 y.2.5)
+    go true true live live' same same' step step' = (refl, free_twins u.name g g' h h' known t (step refl) (step' refl) x.2.serials y.2.serials)
     go false false live live' same same' step step' = (refl, subst₂ IsTwin (sym (same refl)) (sym (same' refl)) t)
     go true false live live' same same' step step' = absurd (let e : false ≡ true = live'.1 (subst IsSome (sym (range_twin u g g' t)) (live.0 refl)) in cc)
     go false true live live' same same' step step' = absurd (let e : false ≡ true = live.1 (subst IsSome (range_twin u g g' t) (live'.0 refl)) in cc)
@@ -179,62 +179,62 @@ answers_decided (Shrink u n) g g' h h' known t a a' ms ms' x y = still Resized x
 answers_decided (Grow_in_place u n) g g' h h' known t a a' ms ms' x y = still Resized x.0 y.0 a a' ms ms' h h' x.1 y.1 x.3 y.3
     (resized g g' h h' t u n (CanGrow u.name n) (Grows u.name n) (λ d d' s s'. grows_decided u.name n g.space g'.space h.space h'.space known t.space d d' s s') x.0 y.0 x.2 y.2)
 answers_decided (Extend more) g g' h h' known t a a' ms ms' x y =
-    let e = extends_decided more g.space g'.space h.space h'.space known t.space x.0 y.0 x.2.6 y.2.6 in
-    still Was_done x.0 y.0 a a' ms ms' h h' x.1 y.1 x.3 y.3 (e.0, kept_twins g g' h h' t x.2.1 y.2.1 (λ u. ap is_some (x.2.0 u)) e.1)
+    let e = extends_decided more g.space g'.space h.space h'.space known t.space x.0 y.0 x.2.step y.2.step in
+    still Was_done x.0 y.0 a a' ms ms' h h' x.1 y.1 x.3 y.3 (e.0, kept_twins g g' h h' t x.2.serials y.2.serials (λ u. ap is_some (x.2.kept u)) e.1)
 answers_decided (Retract less) g g' h h' known t a a' ms ms' x y =
-    let e = retracts_decided less g.space g'.space h.space h'.space t.space x.0 y.0 x.2.5 y.2.5 in
-    still Was_done x.0 y.0 a a' ms ms' h h' x.1 y.1 x.3 y.3 (e.0, slid_twins g g' h h' t x.2.1 y.2.1 (λ u. ap (option_map (λ (r : Range). r.size)) (x.2.0 u)) e.1)
+    let e = retracts_decided less g.space g'.space h.space h'.space t.space x.0 y.0 x.2.step y.2.step in
+    still Was_done x.0 y.0 a a' ms ms' h h' x.1 y.1 x.3 y.3 (e.0, slid_twins g g' h h' t x.2.serials y.2.serials (λ u. ap (option_map (λ (r : Range). r.size)) (x.2.kept u)) e.1)
 answers_decided (Raise_step align) g g' h h' known t a a' ms ms' x y = (
   x.0 ∙ sym y.0,
   x.2 ∙ sym y.2,
-  subst₂ IsTwin (sym x.1.1) (sym y.1.1) (record {
+  subst₂ IsTwin (sym x.1.rest) (sym y.1.rest) (record {
     space = t.space;
     serials = t.serials;
     given = t.given;
     realm = t.realm;
-    step = joined_twins align g g' h h' t x.1.0 y.1.0;
+    step = joined_twins align g g' h h' t x.1.joined y.1.joined;
   }),
 )
-answers_decided Reset g g' h h' known t a a' ms ms' x y = (x.0 ∙ sym y.0, x.2 ∙ sym y.2, reset_twins g g' h h' known t x.1.2 y.1.2 x.1.1 y.1.1 x.1.0)
+answers_decided Reset g g' h h' known t a a' ms ms' x y = (x.0 ∙ sym y.0, x.2 ∙ sym y.2, reset_twins g g' h h' known t x.1.step y.1.step x.1.serials y.1.serials x.1.gone)
 answers_decided Compact g g' h h' known t a a' ms ms' x y = moving Was_done x.0 y.0 a a' ms ms' h h' x.1 y.1
-    (stepped g g' h h' x.0 y.0 ms ms' t x.2.0 x.2.1 y.2.1
+    (stepped g g' h h' x.0 y.0 ms ms' t x.2.sizes x.2.serials y.2.serials
     (λ e f.
-    let p = x.2.3 e in
-    let q = y.2.3 f in
-    (p.0 ∙ sym q.0, noted g g' h h' t [] [] ms ms' refl (none g ms x.0 p.0 x.2.5) (none g' ms' y.0 q.0 y.2.5), p.1, q.1))
-    (λ l m. by_step g g' h h' t g.step x.0 y.0 ms ms' (x.2.4 l) (subst (λ s. CompactsBy s g'.space h'.space y.0) t.step (y.2.4 m)) x.2.5
-    (subst (λ s. FoldsTo Notes [] (if y.0 then moves_by s 0 0 g'.space.blocks else []) ms') t.step y.2.5)))
+    let p = x.2.none e in
+    let q = y.2.none f in
+    (p.0 ∙ sym q.0, noted g g' h h' t [] [] ms ms' refl (none g ms x.0 p.0 x.2.moved) (none g' ms' y.0 q.0 y.2.moved), p.1, q.1))
+    (λ l m. by_step g g' h h' t g.step x.0 y.0 ms ms' (x.2.step l) (subst (λ s. CompactsBy s g'.space h'.space y.0) t.step (y.2.step m)) x.2.moved
+    (subst (λ s. FoldsTo Notes [] (if y.0 then moves_by s 0 0 g'.space.blocks else []) ms') t.step y.2.moved)))
   where
     none : (g : Guard) (ms : List Move) (r : Bool) → r ≡ false → FoldsTo Notes [] (if r then moves_by g.step 0 0 g.space.blocks else []) ms → FoldsTo Notes [] [] ms
     none g ms r e f = subst (λ (b : Bool). FoldsTo Notes [] (if b then moves_by g.step 0 0 g.space.blocks else []) ms) e f
 answers_decided (Compact_by s) g g' h h' known t a a' ms ms' x y =
-    let e = by_step g g' h h' t s x.0 y.0 ms ms' x.2.3 y.2.3 x.2.4 y.2.4 in
-    moving Was_done x.0 y.0 a a' ms ms' h h' x.1 y.1 (e.0, e.1, slid_twins g g' h h' t x.2.1 y.2.1 x.2.0 e.2)
+    let e = by_step g g' h h' t s x.0 y.0 ms ms' x.2.step y.2.step x.2.moved y.2.moved in
+    moving Was_done x.0 y.0 a a' ms ms' h h' x.1 y.1 (e.0, e.1, slid_twins g g' h h' t x.2.serials y.2.serials x.2.sizes e.2)
 answers_decided Compact_unaligned g g' h h' known t a a' ms ms' x y = (
   x.0 ∙ sym y.0,
-  noted g g' h h' t (moves 0 0 g.space.blocks) (moves 0 0 g'.space.blocks) ms ms' (ap (λ (v : View). moves 0 0 v.blocks) t.space) x.1.3 y.1.3,
-  slid_twins g g' h h' t x.1.1 y.1.1 x.1.0 (compacts_decided g.space g'.space h.space h'.space t.space x.1.2 y.1.2),
+  noted g g' h h' t (moves 0 0 g.space.blocks) (moves 0 0 g'.space.blocks) ms ms' (ap (λ (v : View). moves 0 0 v.blocks) t.space) x.1.moved y.1.moved,
+  slid_twins g g' h h' t x.1.serials y.1.serials x.1.sizes (compacts_decided g.space g'.space h.space h'.space t.space x.1.step y.1.step),
 )
 answers_decided (Compact_within from units ranges) g g' h h' known t a a' ms ms' x y = moving Progressed x.0 y.0 a a' ms ms' h h' x.1 y.1
-    (stepped g g' h h' x.0 y.0 ms ms' t x.2.0 x.2.1 y.2.1
+    (stepped g g' h h' x.0 y.0 ms ms' t x.2.sizes x.2.serials y.2.serials
     (λ e f.
-    let p = x.2.4 e in
-    let q = y.2.4 f in
+    let p = x.2.none e in
+    let q = y.2.none f in
     (p.0 ∙ sym q.0, p.2 ∙ sym q.2, p.1, q.1))
-    (λ l m. within_decided g.step from units ranges g.space g'.space h.space h'.space known t.space x.0 y.0 ms ms' (x.2.5 l)
-    (subst (λ s. CompactsWithin Notes s from units ranges g'.space [] y.0 h'.space ms') t.step (y.2.5 m))))
+    (λ l m. within_decided g.step from units ranges g.space g'.space h.space h'.space known t.space x.0 y.0 ms ms' (x.2.step l)
+    (subst (λ s. CompactsWithin Notes s from units ranges g'.space [] y.0 h'.space ms') t.step (y.2.step m))))
 answers_decided (Compact_within_by s from units ranges) g g' h h' known t a a' ms ms' x y =
-    let e = within_decided s from units ranges g.space g'.space h.space h'.space known t.space x.0 y.0 ms ms' x.2.4 y.2.4 in
-    moving Progressed x.0 y.0 a a' ms ms' h h' x.1 y.1 (e.0, e.1, slid_twins g g' h h' t x.2.1 y.2.1 x.2.0 e.2)
+    let e = within_decided s from units ranges g.space g'.space h.space h'.space known t.space x.0 y.0 ms ms' x.2.step y.2.step in
+    moving Progressed x.0 y.0 a a' ms ms' h h' x.1 y.1 (e.0, e.1, slid_twins g g' h h' t x.2.serials y.2.serials x.2.sizes e.2)
 answers_decided (Make_room n align) g g' h h' known t a a' ms ms' x y = moving Room_made x.0 y.0 a a' ms ms' h h' x.1 y.1
-    (stepped g g' h h' x.0 y.0 ms ms' t x.2.0 x.2.1 y.2.1
+    (stepped g g' h h' x.0 y.0 ms ms' t x.2.sizes x.2.serials y.2.serials
     (λ e f.
-    let p = x.2.5 e in
-    let q = y.2.5 f in
+    let p = x.2.none e in
+    let q = y.2.none f in
     (p.0 ∙ sym q.0, p.2 ∙ sym q.2, p.1, q.1))
-    (λ l m. noted_by_decided g.step want blocks g.space g'.space h.space h'.space known t.space x.0 y.0 ms ms' (x.2.3 l)
-    (subst (λ s. IsLeastCostBy s want (names_short blocks g'.space) g'.space.blocks y.0) t.step (y.2.3 m)) (x.2.6 l)
-    (subst (λ s. MakesRoomBy Notes s want (names_short blocks g'.space) g'.space [] y.0 h'.space ms') t.step (y.2.6 m))))
+    (λ l m. noted_by_decided g.step want blocks g.space g'.space h.space h'.space known t.space x.0 y.0 ms ms' (x.2.cost l)
+    (subst (λ s. IsLeastCostBy s want (names_short blocks g'.space) g'.space.blocks y.0) t.step (y.2.cost m)) (x.2.step l)
+    (subst (λ s. MakesRoomBy Notes s want (names_short blocks g'.space) g'.space [] y.0 h'.space ms') t.step (y.2.step m))))
   where
     want : ℕ
     want = value (up (units_needed n align))
@@ -242,8 +242,8 @@ answers_decided (Make_room n align) g g' h h' known t a a' ms ms' x y = moving R
     blocks : ℕ
     blocks = blocks_needed align
 answers_decided (Make_room_by n align s) g g' h h' known t a a' ms ms' x y =
-    let e = noted_by_decided s (value (up (units_needed n align))) (blocks_needed align) g.space g'.space h.space h'.space known t.space x.0 y.0 ms ms' x.2.3 y.2.3 x.2.5 y.2.5 in
-    moving Room_made x.0 y.0 a a' ms ms' h h' x.1 y.1 (e.0, e.1, slid_twins g g' h h' t x.2.1 y.2.1 x.2.0 e.2)
+    let e = noted_by_decided s (value (up (units_needed n align))) (blocks_needed align) g.space g'.space h.space h'.space known t.space x.0 y.0 ms ms' x.2.cost y.2.cost x.2.step y.2.step in
+    moving Room_made x.0 y.0 a a' ms ms' h h' x.1 y.1 (e.0, e.1, slid_twins g g' h h' t x.2.serials y.2.serials x.2.sizes e.2)
 answers_decided (Make_room_unaligned n) g g' h h' known t a a' ms ms' x y =
-    let e = noted_decided (value (up n)) g.space g'.space h.space h'.space known t.space x.0 y.0 ms ms' x.2.2 y.2.2 x.2.4 y.2.4 in
-    moving Room_made x.0 y.0 a a' ms ms' h h' x.1 y.1 (e.0, e.1, slid_twins g g' h h' t x.2.1 y.2.1 x.2.0 e.2)
+    let e = noted_decided (value (up n)) g.space g'.space h.space h'.space known t.space x.0 y.0 ms ms' x.2.cost y.2.cost x.2.step y.2.step in
+    moving Room_made x.0 y.0 a a' ms ms' h h' x.1 y.1 (e.0, e.1, slid_twins g g' h h' t x.2.serials y.2.serials x.2.sizes e.2)

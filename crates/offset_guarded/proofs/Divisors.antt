@@ -14,10 +14,6 @@ rest_multiple a b z n p q =
     ap (λ k. k + (a % b) * n) (sym (mul_assoc (a / b) b n)) ∙ sym (add-mul (a / b * b) (a % b) n) ∙ ap (λ k. k * n) (div-add-mod' a b) in
     (dvd-add_iff_right z {m = a / b * (b * n)} {n = (a % b) * n} (dvd-mul_left_of_dvd z q (a / b))).1 (subst (λ k. z ∣ k) (sym whole) p)
 
--- a number is a multiple of each that divides it
-pub joined_same : (a b : ℕ) → a ≤ 4294967295 → a % b ≡ 0 → IsJoined a b a
-joined_same a b few e = record { fits = few; first = dvd_refl a; second = dvd_of_mod-eq-zero b e; least = λ n l p q. p }
-
 module _ (a b g : ℕ) (some : 1 ≤ b) (is : IsGcd a b g) (multiples : (z n : ℕ) → z ∣ a * n → z ∣ b * n → z ∣ g * n) where
   pub divisor_some : 0 < g
   divisor_some = pos_of_dvd_of_pos is.1 (omega (arith, some))

@@ -5,7 +5,7 @@ use Rattle.std.proofs.lemmas.Bool.{cases_eq, cases_lt, eqb-true, and_parts}
 use Rattle.std.proofs.lemmas.List.{get_or-set_same, get_or-set_other, length-replicate, replicate_more}
 use Rattle.std.proofs.Common.{zero, suc, ◌++◌, append_assoc, length-append, max, replicate}
 use Rattle.offset_allocator.specs.View.{Block, View, Handle, Place, AreNames, IsWellFormed, count_named, place_of}
-use Rattle.offset_allocator.specs.{Ranges.Range, Relations.Aligns, Relations.Allocates, Requests.CanGrant, Tight.AlignsTight, Tight.CanHold, AtOffset.AllocatesAt, AtOffset.CanGrantAt}
+use Rattle.offset_allocator.specs.{Ranges.Range, Relations.Aligns, Relations.Allocates, Tight.AlignsTight, AtOffset.AllocatesAt}
 use Rattle.offset_allocator.specs.Ranges as named
 use Rattle.offset_allocator.proofs.{Reading.range_at, Tallies.hit_cases}
 use Rattle.offset_guarded.specs.State as state
@@ -13,6 +13,7 @@ use Rattle.std.specs.Prelude.{MatchOption}
 use Rattle.offset_allocator.specs.declared.reports.Refusal.{Refusal as OfSpace}
 use Rattle.offset_allocator.specs.declared.reports.Refusal.TheVariants as why
 use Rattle.offset_guarded.specs.declared.refusal.Refusal.{Refusal}
+use Rattle.offset_guarded.specs.Answers.{Requests}
 use Rattle.offset_guarded.specs.Guard.{Guard, Table, Grants, AreAlike, IsGuarded, IsLive, KeepsOthers, Ticket, last_serial, cell, covering, fits, for_space, nodes, of_space, serial_of}
 
 -- what the fields show
@@ -142,28 +143,21 @@ module _ (max n realm : ℕ) (v w : View) (t u : Table) (h : Handle) (is : IsGua
   granted table step now = search (arith, none_if, fit, others)
 
   pub granted_as : u.cells ≡ slice_set (covering (nodes w) t.cells) h.name (t.given + 1) → (step now : ℕ) (g : Guard) (z : Ticket) → guard v t realm step ≡ g → z ≡ ticket
-      → Grants n g (guard w u realm now) z
-  granted_as table step now g z shows same =
-      subst (λ g. Grants n g (guard w u realm now) z) shows (subst (λ z. Grants n (guard v t realm step) (guard w u realm now) z) (sym same) (granted table step now))
+      → Requests n g (guard w u realm now) (Some z)
+  granted_as table step now g z shows same = record {
+    grants = subst (λ g. Grants n g (guard w u realm now) z) shows (subst (λ z. Grants n (guard v t realm step) (guard w u realm now) z) (sym same) (granted table step now));
+    same = λ e. absurd (cc);
+    serials = λ e. absurd (cc);
+  }
 
 -- what holds of a name in the space of the fields holds of it in what they show
 pub shown : (P : ℕ → View → Type 0) (x y : ℕ) (g h : Guard) → g ≡ h → x ≡ y → P x g.space → P y h.space
 shown P x y g h shows same p = subst (λ (k : Guard). P y k.space) shows (subst (λ z. P z g.space) same p)
 
 -- the answer to a request that is granted
-pub can_grant : (blocks units : ℕ) (g h : Guard) → g ≡ h → g.given < last_serial → CanGrant blocks units g.space
-    → (true ≡ true → (h.given < last_serial) × CanGrant blocks units h.space) × ((h.given < last_serial) × CanGrant blocks units h.space → true ≡ true)
-can_grant blocks units g h shows left can = (λ e. subst (λ h. (h.given < last_serial) × CanGrant blocks units h.space) shows (left, can), λ h. refl)
-
--- the same of a request for any free block that holds it
-pub can_hold : (n align : ℕ) (g h : Guard) → g ≡ h → g.given < last_serial → CanHold n align g.space
-    → (true ≡ true → (h.given < last_serial) × CanHold n align h.space) × ((h.given < last_serial) × CanHold n align h.space → true ≡ true)
-can_hold n align g h shows left can = (λ e. subst (λ h. (h.given < last_serial) × CanHold n align h.space) shows (left, can), λ h. refl)
-
--- the same of a request for the units from an offset on
-pub can_grant_at : (offset n : ℕ) (g h : Guard) → g ≡ h → g.given < last_serial → CanGrantAt offset n g.space
-    → (true ≡ true → (h.given < last_serial) × CanGrantAt offset n h.space) × ((h.given < last_serial) × CanGrantAt offset n h.space → true ≡ true)
-can_grant_at offset n g h shows left can = (λ e. subst (λ h. (h.given < last_serial) × CanGrantAt offset n h.space) shows (left, can), λ h. refl)
+pub served : (Can : View → Type 0) (g h : Guard) → g ≡ h → g.given < last_serial → Can g.space
+    → (true ≡ true → (h.given < last_serial) × Can h.space) × ((h.given < last_serial) × Can h.space → true ≡ true)
+served Can g h shows left can = (λ e. subst (λ h. (h.given < last_serial) × Can h.space) shows (left, can), λ h. refl)
 
 pub same_limit_at : (offset n : ℕ) (v w : View) (h : Handle) → AllocatesAt offset n v w (Some h) → w.max_allocs ≡ v.max_allocs
 same_limit_at offset n v w h t = ap (λ (z : View). z.max_allocs) t.split.view

@@ -1,6 +1,6 @@
-pub mod Answered
-pub mod Asked
+pub mod ByTheStep
 pub mod Bytes
+pub mod Continued
 pub mod Decided
 pub mod Divisors
 pub mod Entries

@@ -44,41 +44,41 @@ module _ {F : Type 0} (R : F → Move → F → Type 0) (f g : F) where
 
   -- ---- the calls of a space with tickets
   pub compacts_noted : (g' h : Guard) (r : Bool) → tickets.Compacts R f g' h g r → (ms : List Move) × tickets.Compacts Notes [] g' h ms r
-  compacts_noted g' h r x = let ms = if r then moves_by g'.step 0 0 g'.space.blocks else [] in (ms, (x.0, x.1, x.2, x.3, x.4, notes_all [] ms, x.6))
+  compacts_noted g' h r x = let ms = if r then moves_by g'.step 0 0 g'.space.blocks else [] in (ms, record { sizes = x.sizes; aligned = x.aligned; none = x.none; step = x.step; serials = x.serials; accesses_max = x.accesses_max; moved = notes_all [] ms })
 
   pub compacts_by_noted : (s : ℕ) (g' h : Guard) (r : Bool) → tickets.CompactsBy R s f g' h g r → (ms : List Move) × tickets.CompactsBy Notes s [] g' h ms r
-  compacts_by_noted s g' h r x = let ms = if r then moves_by s 0 0 g'.space.blocks else [] in (ms, (x.0, x.1, x.2, x.3, notes_all [] ms, x.5))
+  compacts_by_noted s g' h r x = let ms = if r then moves_by s 0 0 g'.space.blocks else [] in (ms, record { sizes = x.sizes; divisors = x.divisors; step = x.step; serials = x.serials; accesses_max = x.accesses_max; moved = notes_all [] ms })
 
   pub unaligned_noted : (g' h : Guard) → tickets.CompactsUnaligned R f g' h g → (ms : List Move) × tickets.CompactsUnaligned Notes [] g' h ms
-  unaligned_noted g' h x = let ms = moves 0 0 g'.space.blocks in (ms, (x.0, x.1, x.2, notes_all [] ms, x.4))
+  unaligned_noted g' h x = let ms = moves 0 0 g'.space.blocks in (ms, record { sizes = x.sizes; step = x.step; serials = x.serials; accesses_max = x.accesses_max; moved = notes_all [] ms })
 
   pub compacts_within_noted : (from u n : ℕ) (g' h : Guard) (r : Option Progress) → tickets.CompactsWithin R from u n f g' h g r → (ms : List Move) × tickets.CompactsWithin Notes from u n [] g' h ms r
   compacts_within_noted from u n g' h r x = elim (cases_lt 0 g'.step) [
     | inl l ↦
-        let m = within_noted g'.step from u n g'.space h.space r (x.5 (omega (arith, l))) in
-        (m.0, (x.0, x.1, x.2, x.3, (λ e. absurd (omega (arith, l, e))), (λ some. m.1), x.6, x.7))
+        let m = within_noted g'.step from u n g'.space h.space r (x.step (omega (arith, l))) in
+        (m.0, record { sizes = x.sizes; aligned = x.aligned; budget = x.budget; serials = x.serials; accesses_max = x.accesses_max; accesses_budget = x.accesses_budget; none = λ e. absurd (omega (arith, l, e)); step = λ some. m.1 })
     | inr l ↦
-        let e = x.4 (omega (arith, l)) in
-        ([], (x.0, x.1, x.2, x.3, (λ z. (e.0, e.1, refl)), (λ some. absurd (omega (arith, l, some))), x.6, x.7))
+        let e = x.none (omega (arith, l)) in
+        ([], record { sizes = x.sizes; aligned = x.aligned; budget = x.budget; serials = x.serials; accesses_max = x.accesses_max; accesses_budget = x.accesses_budget; none = λ z. (e.0, e.1, refl); step = λ some. absurd (omega (arith, l, some)) })
   ]
 
   pub compacts_within_by_noted : (s from u n : ℕ) (g' h : Guard) (r : Option Progress) → tickets.CompactsWithinBy R s from u n f g' h g r → (ms : List Move) × tickets.CompactsWithinBy Notes s from u n [] g' h ms r
-  compacts_within_by_noted s from u n g' h r x = let m = within_noted s from u n g'.space h.space r x.4 in (m.0, (x.0, x.1, x.2, x.3, m.1, x.5, x.6))
+  compacts_within_by_noted s from u n g' h r x = let m = within_noted s from u n g'.space h.space r x.step in (m.0, record { sizes = x.sizes; divisors = x.divisors; budget = x.budget; serials = x.serials; accesses_max = x.accesses_max; accesses_budget = x.accesses_budget; step = m.1 })
 
   pub makes_room_noted : (n align : ℕ) (g' h : Guard) (r : Option RoomCost) → tickets.MakesRoom R n align f g' h g r → (ms : List Move) × tickets.MakesRoom Notes n align [] g' h ms r
   makes_room_noted n align g' h r x = elim (cases_lt 0 g'.step) [
     | inl l ↦
-        let m = room_by_noted g'.step (value (up (units_needed n align))) (names_short (blocks_needed align) g'.space) g'.space h.space r (x.6 (omega (arith, l))) in
-        (m.0, (x.0, x.1, x.2, x.3, x.4, (λ e. absurd (omega (arith, l, e))), (λ some. m.1), x.7))
+        let m = room_by_noted g'.step (value (up (units_needed n align))) (names_short (blocks_needed align) g'.space) g'.space h.space r (x.step (omega (arith, l))) in
+        (m.0, record { cost = x.cost; sizes = x.sizes; aligned = x.aligned; granted = x.granted; serials = x.serials; accesses_max = x.accesses_max; none = λ e. absurd (omega (arith, l, e)); step = λ some. m.1 })
     | inr l ↦
-        let e = x.5 (omega (arith, l)) in
-        ([], (x.0, x.1, x.2, x.3, x.4, (λ z. (e.0, e.1, refl)), (λ some. absurd (omega (arith, l, some))), x.7))
+        let e = x.none (omega (arith, l)) in
+        ([], record { cost = x.cost; sizes = x.sizes; aligned = x.aligned; granted = x.granted; serials = x.serials; accesses_max = x.accesses_max; none = λ z. (e.0, e.1, refl); step = λ some. absurd (omega (arith, l, some)) })
   ]
 
   pub makes_room_by_noted : (n align s : ℕ) (g' h : Guard) (r : Option RoomCost) → tickets.MakesRoomBy R n align s f g' h g r → (ms : List Move) × tickets.MakesRoomBy Notes n align s [] g' h ms r
   makes_room_by_noted n align s g' h r x =
-      let m = room_by_noted s (value (up (units_needed n align))) (names_short (blocks_needed align) g'.space) g'.space h.space r x.5 in
-      (m.0, (x.0, x.1, x.2, x.3, x.4, m.1, x.6))
+      let m = room_by_noted s (value (up (units_needed n align))) (names_short (blocks_needed align) g'.space) g'.space h.space r x.step in
+      (m.0, record { cost = x.cost; sizes = x.sizes; divisors = x.divisors; granted = x.granted; serials = x.serials; accesses_max = x.accesses_max; step = m.1 })
 
   pub makes_room_unaligned_noted : (n : ℕ) (g' h : Guard) (r : Option RoomCost) → tickets.MakesRoomUnaligned R n f g' h g r → (ms : List Move) × tickets.MakesRoomUnaligned Notes n [] g' h ms r
-  makes_room_unaligned_noted n g' h r x = let m = room_noted (value (up n)) g'.space h.space r x.4 in (m.0, (x.0, x.1, x.2, x.3, m.1, x.5))
+  makes_room_unaligned_noted n g' h r x = let m = room_noted (value (up n)) g'.space h.space r x.step in (m.0, record { cost = x.cost; sizes = x.sizes; granted = x.granted; serials = x.serials; accesses_max = x.accesses_max; step = m.1 })

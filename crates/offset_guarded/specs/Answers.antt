@@ -1,4 +1,5 @@
--- What each call of a space with tickets returns and leaves: a relation for each, which its call on one heap of many has too.
+-- What each call of a space with tickets returns and leaves: a relation for each, which is its contract, and that of the
+-- same call on one heap of many.
 use Rattle.std.specs.Prelude.{◌≡◌, ◌↔◌, ℕ, ◌+◌, ◌*◌, ◌%◌, ◌≤◌, ◌⊎◌, Bool, true, false, List, [], ◌∷◌, ◌++◌, Option, Some, None, IfSome, IsSome, IsTrue, option_map, if◌then◌else◌, length, max, min}
 use Rattle.std.specs.Int.{◌∣◌, IsGcd}
 use Rattle.std.specs.List.{FoldsTo}
@@ -8,7 +9,7 @@ use Rattle.offset_allocator.specs.Moving.Budget as frames
 use Rattle.offset_allocator.specs.Moving.BySteps as steps
 use Rattle.offset_allocator.specs.Moving.Compacting as slide
 use Rattle.offset_allocator.specs.Moving.Compacting.{Move}
-use Rattle.offset_allocator.specs.Moving.Relocating as second
+use Rattle.offset_allocator.specs.Moving.Relocating as again
 use Rattle.offset_allocator.specs.Moving.Relocating.{offset_of}
 use Rattle.offset_allocator.specs.Moving.Retracting as end
 use Rattle.offset_allocator.specs.Moving.Room as room
@@ -18,7 +19,7 @@ use Rattle.offset_allocator.specs.Moving.RoomBySteps.{IsLeastCostBy, names_short
 use Rattle.offset_allocator.specs.Ranges.{size_of}
 use Rattle.offset_allocator.specs.Relations as space
 use Rattle.offset_allocator.specs.Requests.{CanGrant, blocks_needed, units_needed}
-use Rattle.offset_allocator.specs.Resizing as size
+use Rattle.offset_allocator.specs.Resizing as resize
 use Rattle.offset_allocator.specs.Tight as tight
 use Rattle.offset_allocator.specs.Tight.{CanHold}
 use Rattle.offset_allocator.specs.View.{View, bin_at, count_used, reported_largest}
@@ -30,7 +31,10 @@ use Rattle.offset_guarded.specs.Step.{IsJoined}
 -- ---- requests
 -- a request for n units is granted with the next serial, or leaves all as it was
 pub record Requests (n : ℕ) (g h : Guard) (r : Option Ticket) : Type 0 where
+  -- a grant has the next serial, and its ticket was not live; its range has exactly n units, lies in the space, and overlaps
+  -- no live range; every other ticket keeps its range, if it has one
   pub grants : IfSome r (Grants n g h)
+  -- a refusal leaves all as it was
   pub same : r ≡ None → IsSame g h
   pub serials : r ≡ None → h ≡ record g { space = h.space }
 
@@ -39,166 +43,231 @@ pub record Aligns (align : ℕ) (g h : Guard) (r : Option Ticket) : Type 0 where
   pub aligned : IfSome r (λ t. t.offset % align ≡ 0)
   pub joined : IfSome r (λ _. IsJoined g.step align h.step)
 
-abbrev pub Allocates : ℕ → Guard → Guard → Option Ticket → Type 0
-Allocates n g h r = Requests n g h r × (h.step ≡ g.step)
-    × (1 ≤ n → (IsSome r ↔ (HasSerialLeft g × (n ≤ reported_largest g.space))))
-    × (IsSome r ↔ (HasSerialLeft g × CanGrant 1 n g.space))
-    × (HasSerialLeft g → space.Allocates n g.space h.space (option_map handle_in r))
-    × (h.space.accesses ≤ g.space.accesses + 64)
+-- here, as below, `step` says what the allocator does, where a serial is left; `g.step` is the step of the space
+pub record Allocates (n : ℕ) (g h : Guard) (r : Option Ticket) : Type 0 where
+  pub request : Requests n g h r
+  -- it is granted exactly when a serial is left and the allocator can grant it: for at least one unit, when n is at most the
+  -- reported `largest_free_region`
+  pub granted : 1 ≤ n → (IsSome r ↔ (HasSerialLeft g × (n ≤ reported_largest g.space)))
+  pub can_grant : IsSome r ↔ (HasSerialLeft g × CanGrant 1 n g.space)
+  pub step : HasSerialLeft g → space.Allocates n g.space h.space (option_map handle_in r)
+  pub same_step : h.step ≡ g.step
+  pub accesses_max : h.space.accesses ≤ g.space.accesses + 64
 
-abbrev pub AllocatesAligned : ℕ → ℕ → Guard → Guard → Option Ticket → Type 0
-AllocatesAligned n align g h r = Requests n g h r × Aligns align g h r
-    × (IsSome r ↔ (HasSerialLeft g × CanGrant (blocks_needed align) (units_needed n align) g.space))
-    × (HasSerialLeft g → space.Aligns n align g.space h.space (option_map handle_in r))
-    × (h.space.accesses ≤ g.space.accesses + 128)
+pub record AllocatesAligned (n align : ℕ) (g h : Guard) (r : Option Ticket) : Type 0 where
+  pub request : Requests n g h r
+  pub aligns : Aligns align g h r
+  pub can_grant : IsSome r ↔ (HasSerialLeft g × CanGrant (blocks_needed align) (units_needed n align) g.space)
+  pub step : HasSerialLeft g → space.Aligns n align g.space h.space (option_map handle_in r)
+  pub accesses_max : h.space.accesses ≤ g.space.accesses + 128
 
-abbrev pub AllocatesTight : ℕ → Guard → Guard → Option Ticket → Type 0
-AllocatesTight n g h r = Requests n g h r × (h.step ≡ g.step)
-    × (IsSome r ↔ (HasSerialLeft g × CanHold n 1 g.space))
-    × (HasSerialLeft g → tight.AlignsTight n 1 g.space h.space (option_map handle_in r))
-    × (h.space.accesses ≤ g.space.accesses + 140 + 6 * length (bin_at g.space.bins (down n)))
+-- of any free block that has n units
+pub record AllocatesTight (n : ℕ) (g h : Guard) (r : Option Ticket) : Type 0 where
+  pub request : Requests n g h r
+  -- it is granted exactly when a serial is left and there is room for one more block and a free block of n units
+  pub can_hold : IsSome r ↔ (HasSerialLeft g × CanHold n 1 g.space)
+  pub step : HasSerialLeft g → tight.AlignsTight n 1 g.space h.space (option_map handle_in r)
+  pub same_step : h.step ≡ g.step
+  pub accesses_max : h.space.accesses ≤ g.space.accesses + 140 + 6 * length (bin_at g.space.bins (down n))
 
-abbrev pub AllocatesTightAligned : ℕ → ℕ → Guard → Guard → Option Ticket → Type 0
-AllocatesTightAligned n align g h r = Requests n g h r × Aligns align g h r
-    × (IsSome r ↔ (HasSerialLeft g × CanHold n align g.space))
-    × (HasSerialLeft g → tight.AlignsTight n align g.space h.space (option_map handle_in r))
-    × (h.space.accesses ≤ g.space.accesses + 140 + 6 * length (tight.listed_from (down n) g.space.bins))
+pub record AllocatesTightAligned (n align : ℕ) (g h : Guard) (r : Option Ticket) : Type 0 where
+  pub request : Requests n g h r
+  pub aligns : Aligns align g h r
+  pub can_hold : IsSome r ↔ (HasSerialLeft g × CanHold n align g.space)
+  pub step : HasSerialLeft g → tight.AlignsTight n align g.space h.space (option_map handle_in r)
+  pub accesses_max : h.space.accesses ≤ g.space.accesses + 140 + 6 * length (tight.listed_from (down n) g.space.bins)
 
--- by an offset, and units
-abbrev pub AllocatesAt : ℕ → ℕ → Guard → Guard → Option Ticket → Type 0
-AllocatesAt offset n g h r = Requests n g h r × (h.step ≡ g.step)
-    × (IsSome r ↔ (HasSerialLeft g × at.CanGrantAt offset n g.space))
-    × IfSome r (λ t. t.offset ≡ offset)
-    × (HasSerialLeft g → at.AllocatesAt offset n g.space h.space (option_map handle_in r))
-    × (h.space.accesses ≤ g.space.accesses + 80 + 3 * length g.space.blocks)
+-- the units from an offset on
+pub record AllocatesAt (offset n : ℕ) (g h : Guard) (r : Option Ticket) : Type 0 where
+  pub request : Requests n g h r
+  pub granted : IsSome r ↔ (HasSerialLeft g × at.CanGrantAt offset n g.space)
+  pub begins : IfSome r (λ t. t.offset ≡ offset)
+  pub step : HasSerialLeft g → at.AllocatesAt offset n g.space h.space (option_map handle_in r)
+  pub same_step : h.step ≡ g.step
+  pub accesses_max : h.space.accesses ≤ g.space.accesses + 80 + 3 * length g.space.blocks
 
 -- a second range of as many units is granted for that of a live ticket, and ends where that begins, or before
 pub record RequestsSecond (t : Ticket) (g h : Guard) (r : Option Ticket) : Type 0 where
   pub live : IsSome r → IsLive t g × HasSerialLeft g
   pub request : Requests (size_of t.name g.space) g h r
   pub before : IfSome r (λ u. u.offset + size_of t.name g.space ≤ offset_of t.name g.space)
-  pub accesses : h.space.accesses ≤ g.space.accesses + 67
+  -- those of the test whether the ticket is live, at most 8, are not counted
+  pub accesses_max : h.space.accesses ≤ g.space.accesses + 67
 
--- at each alignment that the step and the offset of the first range have
-abbrev pub Relocates : Ticket → Guard → Guard → Option Ticket → Type 0
-Relocates t g h r = RequestsSecond t g h r × (h.step ≡ g.step)
-    × IfSome r (λ u. (a : ℕ) → a ∣ g.step → a ∣ offset_of t.name g.space → a ∣ u.offset)
-    × (g.step ≡ 0 → (r ≡ None) × (h ≡ g))
-    × (IsLive t g → HasSerialLeft g → 1 ≤ g.step → (align : ℕ) → IsGcd (offset_of t.name g.space) g.step align
-    → second.RelocatesAligned t.name align g.space h.space (option_map handle_in r))
+pub record Relocates (t : Ticket) (g h : Guard) (r : Option Ticket) : Type 0 where
+  pub second : RequestsSecond t g h r
+  -- it has each alignment of the old range that divides the step
+  pub aligned : IfSome r (λ u. (a : ℕ) → a ∣ g.step → a ∣ offset_of t.name g.space → a ∣ u.offset)
+  -- where there is no step, nothing changes
+  pub none : g.step ≡ 0 → (r ≡ None) × (h ≡ g)
+  -- where the ticket is live, a serial is left, and there is a step
+  pub step : IsLive t g → HasSerialLeft g → 1 ≤ g.step → (align : ℕ) → IsGcd (offset_of t.name g.space) g.step align
+      → again.RelocatesAligned t.name align g.space h.space (option_map handle_in r)
+  pub same_step : h.step ≡ g.step
 
-abbrev pub RelocatesAligned : Ticket → ℕ → Guard → Guard → Option Ticket → Type 0
-RelocatesAligned t align g h r = RequestsSecond t g h r × Aligns align g h r
-    × (IsLive t g → HasSerialLeft g → second.RelocatesAligned t.name align g.space h.space (option_map handle_in r))
+pub record RelocatesAligned (t : Ticket) (align : ℕ) (g h : Guard) (r : Option Ticket) : Type 0 where
+  pub second : RequestsSecond t g h r
+  pub aligns : Aligns align g h r
+  pub step : IsLive t g → HasSerialLeft g → again.RelocatesAligned t.name align g.space h.space (option_map handle_in r)
 
-abbrev pub RelocatesUnaligned : Ticket → Guard → Guard → Option Ticket → Type 0
-RelocatesUnaligned t g h r = RequestsSecond t g h r × (h.step ≡ g.step)
-    × (IsLive t g → HasSerialLeft g → second.Relocates t.name g.space h.space (option_map handle_in r))
+pub record RelocatesUnaligned (t : Ticket) (g h : Guard) (r : Option Ticket) : Type 0 where
+  pub second : RequestsSecond t g h r
+  pub step : IsLive t g → HasSerialLeft g → again.Relocates t.name g.space h.space (option_map handle_in r)
+  pub same_step : h.step ≡ g.step
 
 -- ---- ranges and the space in place
-abbrev pub Frees : Ticket → Guard → Guard → Bool → Type 0
-Frees t g h r = (IsTrue r ↔ IsLive t g) × (range_of t h ≡ None) × KeepsOthers t g h
-    × (r ≡ false → h ≡ g) × (r ≡ true → space.Frees t.name g.space h.space) × (h ≡ record g { space = h.space })
-    × (h.space.accesses ≤ g.space.accesses + 128)
+pub record Frees (t : Ticket) (g h : Guard) (r : Bool) : Type 0 where
+  -- it is done exactly when the ticket is live; after it the ticket is not, and every other one keeps its range, if it has one
+  pub done : IsTrue r ↔ IsLive t g
+  pub gone : range_of t h ≡ None
+  pub others : KeepsOthers t g h
+  -- a ticket that is not live changes nothing at all
+  pub same : r ≡ false → h ≡ g
+  -- the step of the allocator; all serials stay
+  pub step : r ≡ true → space.Frees t.name g.space h.space
+  pub serials : h ≡ record g { space = h.space }
+  -- those of the test whether the ticket is live, at most 8, are not counted: `is_live_counted` of the allocator's `laws` has them
+  pub accesses_max : h.space.accesses ≤ g.space.accesses + 128
 
 -- the range of a ticket has n units, from its first one on, where the space can do it
 pub record Resizes (t : Ticket) (n : ℕ) (Can : View → Type 0) (Step : View → View → Bool → Type 0) (g h : Guard) (r : Option Bool) : Type 0 where
   pub live : IsSome r ↔ IsLive t g
   pub done : IfSome r (λ d. IsTrue d ↔ Can g.space)
   pub range : r ≡ Some true → HasUnits t n g h
+  -- every other ticket keeps its range
   pub others : KeepsOthers t g h
   pub kept : KeepsLive g h
+  -- a refusal leaves all as it was, and a ticket that is not live changes nothing at all
   pub same : r ≡ Some false → IsSame g h
   pub not_live : r ≡ None → h ≡ g
+  -- the step of the allocator; all serials stay
   pub step : IfSome r (Step g.space h.space)
   pub serials : KeepsSerials g h
   pub table : IfSome r (λ _. CoversNodes g h)
-  pub accesses : h.space.accesses ≤ g.space.accesses + 128
+  -- those of the test whether the ticket is live, at most 8, are not counted
+  pub accesses_max : h.space.accesses ≤ g.space.accesses + 128
 
 abbrev pub Shrinks : Ticket → ℕ → Guard → Guard → Option Bool → Type 0
-Shrinks t n g h r = Resizes t n (size.CanShrink t.name n) (size.Shrinks t.name n) g h r
+Shrinks t n g h r = Resizes t n (resize.CanShrink t.name n) (resize.Shrinks t.name n) g h r
 
 abbrev pub Grows : Ticket → ℕ → Guard → Guard → Option Bool → Type 0
-Grows t n g h r = Resizes t n (size.CanGrow t.name n) (size.Grows t.name n) g h r
+Grows t n g h r = Resizes t n (resize.CanGrow t.name n) (resize.Grows t.name n) g h r
 
-abbrev pub Extends : ℕ → Guard → Guard → Bool → Type 0
-Extends more g h r = KeepsAll g h × KeepsSerials g h × CoversNodes g h
-    × (IsTrue r ↔ (1 ≤ more → space.CanExtend more g.space)) × (r ≡ false → IsSame g h)
-    × (IsTrue r → h.space.size ≡ g.space.size + more) × space.Extends more g.space h.space r
-    × (h.space.accesses ≤ g.space.accesses + 128)
+pub record Extends (more : ℕ) (g h : Guard) (r : Bool) : Type 0 where
+  pub done : IsTrue r ↔ (1 ≤ more → space.CanExtend more g.space)
+  pub size : IsTrue r → h.space.size ≡ g.space.size + more
+  -- every ticket keeps its range, and a refusal leaves all as it was
+  pub kept : KeepsAll g h
+  pub same : r ≡ false → IsSame g h
+  pub step : space.Extends more g.space h.space r
+  pub serials : KeepsSerials g h
+  pub table : CoversNodes g h
+  pub accesses_max : h.space.accesses ≤ g.space.accesses + 128
 
-abbrev pub Retracts : ℕ → Guard → Guard → Bool → Type 0
-Retracts less g h r = KeepsAll g h × (h ≡ record g { space = h.space })
-    × (IsTrue r ↔ (1 ≤ less → end.CanRetract less g.space)) × (r ≡ false → IsSame g h)
-    × (IsTrue r → h.space.size + less ≡ g.space.size) × end.Retracts less g.space h.space r
-    × (h.space.accesses ≤ g.space.accesses + 64)
+pub record Retracts (less : ℕ) (g h : Guard) (r : Bool) : Type 0 where
+  pub done : IsTrue r ↔ (1 ≤ less → end.CanRetract less g.space)
+  pub size : IsTrue r → h.space.size + less ≡ g.space.size
+  pub kept : KeepsAll g h
+  pub same : r ≡ false → IsSame g h
+  pub step : end.Retracts less g.space h.space r
+  pub serials : h ≡ record g { space = h.space }
+  pub accesses_max : h.space.accesses ≤ g.space.accesses + 64
 
-abbrev pub RaisesStep : ℕ → Guard → Guard → Type 0
-RaisesStep align g h = IsJoined g.step align h.step × (h ≡ record g { step = h.step })
+pub record RaisesStep (align : ℕ) (g h : Guard) : Type 0 where
+  pub joined : IsJoined g.step align h.step
+  pub rest : h ≡ record g { step = h.step }
 
-abbrev pub Resets : Guard → Guard → Type 0
-Resets g h = ((t : Ticket) → range_of t h ≡ None) × (h ≡ record g { space = h.space; step = 1 })
-    × space.Resets g.space h.space × (h.space.accesses ≤ g.space.accesses + min (130 * count_used g.space.blocks + 2) 270)
+pub record Resets (g h : Guard) : Type 0 where
+  pub gone : (t : Ticket) → range_of t h ≡ None
+  pub size : h.space.size ≡ g.space.size
+  -- the step of the allocator; all serials stay, so that none is given again
+  pub step : space.Resets g.space h.space
+  pub serials : h ≡ record g { space = h.space; step = 1 }
+  pub accesses_max : h.space.accesses ≤ g.space.accesses + min (130 * count_used g.space.blocks + 2) 270
 
--- ---- ranges that move: a closure is called with each move
+-- ---- ranges that move: a closure is called with each move, in space order. All serials stay
 module _ {F : Type 0} (R : F → Move → F → Type 0) where
-  abbrev pub Compacts : F → Guard → Guard → F → Bool → Type 0
-  Compacts f g h f' r = KeepsSizes g h × (h ≡ record g { space = h.space }) × KeepsAlignments g h
-      × (g.step ≡ 0 → (r ≡ false) × (h ≡ g)) × (1 ≤ g.step → steps.CompactsBy g.step g.space h.space r)
-      × FoldsTo R f (if r then steps.moves_by g.step 0 0 g.space.blocks else []) f'
-      × (h.space.accesses ≤ g.space.accesses + 21 * length g.space.blocks + 40)
+  -- by the step of the space: where there is none, nothing changes, and no move is seen
+  pub record Compacts (f : F) (g h : Guard) (f' : F) (r : Bool) : Type 0 where
+    pub sizes : KeepsSizes g h
+    -- every range keeps each alignment that divides the step
+    pub aligned : KeepsAlignments g h
+    pub moved : FoldsTo R f (if r then steps.moves_by g.step 0 0 g.space.blocks else []) f'
+    pub none : g.step ≡ 0 → (r ≡ false) × (h ≡ g)
+    pub step : 1 ≤ g.step → steps.CompactsBy g.step g.space h.space r
+    pub serials : h ≡ record g { space = h.space }
+    pub accesses_max : h.space.accesses ≤ g.space.accesses + 21 * length g.space.blocks + 40
 
-  abbrev pub CompactsBy : ℕ → F → Guard → Guard → F → Bool → Type 0
-  CompactsBy s f g h f' r = KeepsSizes g h × (h ≡ record g { space = h.space }) × KeepsDivisors s g h
-      × steps.CompactsBy s g.space h.space r × FoldsTo R f (if r then steps.moves_by s 0 0 g.space.blocks else []) f'
-      × (h.space.accesses ≤ g.space.accesses + 21 * length g.space.blocks + 40)
+  -- by whole steps: a range keeps each alignment that divides the step
+  pub record CompactsBy (s : ℕ) (f : F) (g h : Guard) (f' : F) (r : Bool) : Type 0 where
+    pub sizes : KeepsSizes g h
+    pub divisors : KeepsDivisors s g h
+    pub moved : FoldsTo R f (if r then steps.moves_by s 0 0 g.space.blocks else []) f'
+    pub step : steps.CompactsBy s g.space h.space r
+    pub serials : h ≡ record g { space = h.space }
+    pub accesses_max : h.space.accesses ≤ g.space.accesses + 21 * length g.space.blocks + 40
 
-  abbrev pub CompactsUnaligned : F → Guard → Guard → F → Type 0
-  CompactsUnaligned f g h f' = KeepsSizes g h × (h ≡ record g { space = h.space })
-      × slide.Compacts g.space h.space × FoldsTo R f (slide.moves 0 0 g.space.blocks) f'
-      × (h.space.accesses ≤ g.space.accesses + 10 * length g.space.blocks + 384)
+  pub record CompactsUnaligned (f : F) (g h : Guard) (f' : F) : Type 0 where
+    pub sizes : KeepsSizes g h
+    pub moved : FoldsTo R f (slide.moves 0 0 g.space.blocks) f'
+    pub step : slide.Compacts g.space h.space
+    pub serials : h ≡ record g { space = h.space }
+    pub accesses_max : h.space.accesses ≤ g.space.accesses + 10 * length g.space.blocks + 384
 
   -- one range moves, or as many as these units and ranges allow
   abbrev pub IsWithin : ℕ → ℕ → Option Progress → Type 0
   IsWithin units ranges r = IfSome r (λ p. (p.ranges ≡ 1) ⊎ ((p.units ≤ units) × (p.ranges ≤ ranges)))
 
-  -- from an offset on, by these units and ranges
-  abbrev pub CompactsWithin : ℕ → ℕ → ℕ → F → Guard → Guard → F → Option Progress → Type 0
-  CompactsWithin from units ranges f g h f' r = KeepsSizes g h × (h ≡ record g { space = h.space }) × KeepsAlignments g h
-      × IsWithin units ranges r × (g.step ≡ 0 → (r ≡ None) × (h ≡ g) × (f' ≡ f))
-      × (1 ≤ g.step → frames.CompactsWithin R g.step from units ranges g.space f r h.space f')
-      × (h.space.accesses ≤ g.space.accesses + 26 * length g.space.blocks + 60)
-      × (h.space.accesses ≤ g.space.accesses + 5 * length g.space.blocks + 42 * max 1 ranges + 60)
+  -- from an offset on, by these units and ranges; `step` has the moves
+  pub record CompactsWithin (from units ranges : ℕ) (f : F) (g h : Guard) (f' : F) (r : Option Progress) : Type 0 where
+    pub sizes : KeepsSizes g h
+    pub aligned : KeepsAlignments g h
+    pub budget : IsWithin units ranges r
+    pub none : g.step ≡ 0 → (r ≡ None) × (h ≡ g) × (f' ≡ f)
+    pub step : 1 ≤ g.step → frames.CompactsWithin R g.step from units ranges g.space f r h.space f'
+    pub serials : h ≡ record g { space = h.space }
+    pub accesses_max : h.space.accesses ≤ g.space.accesses + 26 * length g.space.blocks + 60
+    pub accesses_budget : h.space.accesses ≤ g.space.accesses + 5 * length g.space.blocks + 42 * max 1 ranges + 60
 
-  abbrev pub CompactsWithinBy : ℕ → ℕ → ℕ → ℕ → F → Guard → Guard → F → Option Progress → Type 0
-  CompactsWithinBy s from units ranges f g h f' r = KeepsSizes g h × (h ≡ record g { space = h.space }) × KeepsDivisors s g h
-      × IsWithin units ranges r × frames.CompactsWithin R s from units ranges g.space f r h.space f'
-      × (h.space.accesses ≤ g.space.accesses + 26 * length g.space.blocks + 60)
-      × (h.space.accesses ≤ g.space.accesses + 5 * length g.space.blocks + 42 * max 1 ranges + 60)
+  pub record CompactsWithinBy (s from units ranges : ℕ) (f : F) (g h : Guard) (f' : F) (r : Option Progress) : Type 0 where
+    pub sizes : KeepsSizes g h
+    pub divisors : KeepsDivisors s g h
+    pub budget : IsWithin units ranges r
+    pub step : frames.CompactsWithin R s from units ranges g.space f r h.space f'
+    pub serials : h ≡ record g { space = h.space }
+    pub accesses_max : h.space.accesses ≤ g.space.accesses + 26 * length g.space.blocks + 60
+    pub accesses_budget : h.space.accesses ≤ g.space.accesses + 5 * length g.space.blocks + 42 * max 1 ranges + 60
 
-  -- for a request, by its units and its alignment
-  abbrev pub MakesRoom : ℕ → ℕ → F → Guard → Guard → F → Option RoomCost → Type 0
-  MakesRoom n align f g h f' r = KeepsSizes g h × (h ≡ record g { space = h.space }) × KeepsAlignments g h
-      × (1 ≤ g.step → IsLeastCostBy g.step (value (up (units_needed n align))) (names_short (blocks_needed align) g.space) g.space.blocks r)
-      × IfSome r (λ c. CanGrant (blocks_needed align) (units_needed n align) h.space)
-      × (g.step ≡ 0 → (r ≡ None) × (h ≡ g) × (f' ≡ f))
-      × (1 ≤ g.step → room_by.MakesRoomBy R g.step (value (up (units_needed n align))) (names_short (blocks_needed align) g.space) g.space f r h.space f')
-      × (h.space.accesses ≤ g.space.accesses + 7 * length g.space.blocks + 36 * ranges_of r + 60)
+  -- for a request, by its units and its alignment: what `room_cost_aligned` would have returned before, and the allocator can
+  -- grant the request then
+  pub record MakesRoom (n align : ℕ) (f : F) (g h : Guard) (f' : F) (r : Option RoomCost) : Type 0 where
+    pub cost : 1 ≤ g.step → IsLeastCostBy g.step (value (up (units_needed n align))) (names_short (blocks_needed align) g.space) g.space.blocks r
+    pub sizes : KeepsSizes g h
+    pub aligned : KeepsAlignments g h
+    pub granted : IfSome r (λ c. CanGrant (blocks_needed align) (units_needed n align) h.space)
+    pub none : g.step ≡ 0 → (r ≡ None) × (h ≡ g) × (f' ≡ f)
+    pub step : 1 ≤ g.step → room_by.MakesRoomBy R g.step (value (up (units_needed n align))) (names_short (blocks_needed align) g.space) g.space f r h.space f'
+    pub serials : h ≡ record g { space = h.space }
+    pub accesses_max : h.space.accesses ≤ g.space.accesses + 7 * length g.space.blocks + 36 * ranges_of r + 60
 
   -- and by a step
-  abbrev pub MakesRoomBy : ℕ → ℕ → ℕ → F → Guard → Guard → F → Option RoomCost → Type 0
-  MakesRoomBy n align s f g h f' r = KeepsSizes g h × (h ≡ record g { space = h.space }) × KeepsDivisors s g h
-      × IsLeastCostBy s (value (up (units_needed n align))) (names_short (blocks_needed align) g.space) g.space.blocks r
-      × IfSome r (λ c. CanGrant (blocks_needed align) (units_needed n align) h.space)
-      × room_by.MakesRoomBy R s (value (up (units_needed n align))) (names_short (blocks_needed align) g.space) g.space f r h.space f'
-      × (h.space.accesses ≤ g.space.accesses + 7 * length g.space.blocks + 36 * ranges_of r + 60)
+  pub record MakesRoomBy (n align s : ℕ) (f : F) (g h : Guard) (f' : F) (r : Option RoomCost) : Type 0 where
+    pub cost : IsLeastCostBy s (value (up (units_needed n align))) (names_short (blocks_needed align) g.space) g.space.blocks r
+    pub sizes : KeepsSizes g h
+    pub divisors : KeepsDivisors s g h
+    pub granted : IfSome r (λ c. CanGrant (blocks_needed align) (units_needed n align) h.space)
+    pub step : room_by.MakesRoomBy R s (value (up (units_needed n align))) (names_short (blocks_needed align) g.space) g.space f r h.space f'
+    pub serials : h ≡ record g { space = h.space }
+    pub accesses_max : h.space.accesses ≤ g.space.accesses + 7 * length g.space.blocks + 36 * ranges_of r + 60
 
-  abbrev pub MakesRoomUnaligned : ℕ → F → Guard → Guard → F → Option RoomCost → Type 0
-  MakesRoomUnaligned n f g h f' r = KeepsSizes g h × (h ≡ record g { space = h.space })
-      × IsLeastCost (value (up n)) g.space.blocks r
-      × IfSome r (λ c. 1 ≤ c.ranges → CanGrant 1 n h.space)
-      × room.MakesRoom R (value (up n)) g.space f r h.space f'
-      × (h.space.accesses ≤ g.space.accesses + 6 * length g.space.blocks + 40 * ranges_of r + 20)
+  -- what `room_cost` of the allocator would have returned before; where ranges had to move, the allocator can grant the request then
+  pub record MakesRoomUnaligned (n : ℕ) (f : F) (g h : Guard) (f' : F) (r : Option RoomCost) : Type 0 where
+    pub cost : IsLeastCost (value (up n)) g.space.blocks r
+    pub sizes : KeepsSizes g h
+    pub granted : IfSome r (λ c. 1 ≤ c.ranges → CanGrant 1 n h.space)
+    pub step : room.MakesRoom R (value (up n)) g.space f r h.space f'
+    pub serials : h ≡ record g { space = h.space }
+    pub accesses_max : h.space.accesses ≤ g.space.accesses + 6 * length g.space.blocks + 40 * ranges_of r + 20
 
 -- ---- calls as data
 pub data Call : Type 0 where
@@ -266,10 +335,10 @@ Answers (Make_room_by n align s) g h a ms = (r : Option RoomCost) × (a ≡ Room
 Answers (Make_room_unaligned n) g h a ms = (r : Option RoomCost) × (a ≡ Room_made r) × MakesRoomUnaligned Notes n [] g h ms r
 
 -- a call goes by the step of the space, or by a multiple of it: so it keeps every alignment that was asked for
-abbrev pub KeepsStep : Call → Guard → Type 0
-KeepsStep (Compact_by s) g = g.step ∣ s
-KeepsStep (Compact_within_by s from units ranges) g = g.step ∣ s
-KeepsStep (Make_room_by n align s) g = g.step ∣ s
-KeepsStep Compact_unaligned g = ⊥
-KeepsStep (Make_room_unaligned n) g = ⊥
-KeepsStep c g = Unit {0}
+abbrev pub GoesByTheStep : Call → Guard → Type 0
+GoesByTheStep (Compact_by s) g = g.step ∣ s
+GoesByTheStep (Compact_within_by s from units ranges) g = g.step ∣ s
+GoesByTheStep (Make_room_by n align s) g = g.step ∣ s
+GoesByTheStep Compact_unaligned g = ⊥
+GoesByTheStep (Make_room_unaligned n) g = ⊥
+GoesByTheStep c g = Unit {0}

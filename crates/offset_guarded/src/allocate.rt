@@ -1,20 +1,20 @@
 //! Grants, each with the next serial, and why one is refused. Nothing else gives a serial.
-ghost use Rattle.std.specs.Prelude.{ℕ, ◌≡◌, ◌↔◌, ◌+◌, ◌*◌, ◌%◌, ◌<◌, ◌≤◌, None, Some, IsSome, IfSome};
-ghost use Rattle.std.specs.Prelude.{if◌then◌else◌, length, nat_eq, option_map, slice_set};
-ghost use Rattle.std.specs.Int.{◌∣◌, IsGcd};
+ghost use Rattle.std.specs.Prelude.{ℕ, ◌≡◌, ◌↔◌, ◌+◌, ◌<◌, ◌≤◌, None, Some, IsSome, IfSome};
+ghost use Rattle.std.specs.Prelude.{if◌then◌else◌, nat_eq, option_map, slice_set};
 ghost use Rattle.offset_allocator.specs.Ranges as named;
 ghost use Rattle.offset_allocator.specs.Ranges.{size_of};
-ghost use Rattle.offset_allocator.specs.Moving.Relocating.{Relocates, RelocatesAligned, WouldBegin, offset_of};
-ghost use Rattle.offset_allocator.specs.View.{View, Handle, bin_at, padding_to, reported_largest};
+ghost use Rattle.offset_allocator.specs.Moving.Relocating as again;
+ghost use Rattle.offset_allocator.specs.Moving.Relocating.{WouldBegin, offset_of};
+ghost use Rattle.offset_allocator.specs.View.{View, Handle, padding_to};
 ghost use Rattle.offset_allocator.specs.Accesses.{Costs};
-ghost use Rattle.offset_allocator.specs.Relations.{Aligns, Allocates};
+ghost use Rattle.offset_allocator.specs.Relations as space;
 ghost use Rattle.offset_allocator.specs.Requests.{CanGrant, blocks_needed, units_needed};
-ghost use Rattle.offset_allocator.specs.Classes.{down};
-ghost use Rattle.offset_allocator.specs.AtOffset.{AllocatesAt, CanGrantAt};
-ghost use Rattle.offset_allocator.specs.Tight.{AlignsTight, CanHold, listed_from};
-ghost use Rattle.offset_guarded.specs.Guard.{Grants, IsLive, IsSame, IsWhy, IsWhyTight, cell, handle_in};
-ghost use Rattle.offset_guarded.specs.Guard.{HasSerialLeft, covering, last_serial, nodes};
-ghost use Rattle.offset_guarded.specs.Step.{IsJoined};
+ghost use Rattle.offset_allocator.specs.Tight.{CanHold};
+ghost use Rattle.offset_guarded.specs.Answers.{Aligns, Allocates, AllocatesAligned, AllocatesAt, AllocatesTight};
+ghost use Rattle.offset_guarded.specs.Answers.{AllocatesTightAligned, Relocates, RelocatesAligned};
+ghost use Rattle.offset_guarded.specs.Answers.{RelocatesUnaligned, Requests};
+ghost use Rattle.offset_guarded.specs.Guard.{HasSerialLeft, IsWhy, IsWhyTight, cell, covering, handle_in};
+ghost use Rattle.offset_guarded.specs.Guard.{last_serial, nodes};
 
 use crate::GuardedOf;
 use crate::refusal::Refusal;
@@ -63,7 +63,7 @@ pub fn would_begin_counted<T: Tables>(
     ensures granted { IsSome result ↔ (HasSerialLeft guarded.now
         × CanGrant (blocks_needed align) (units_needed size align) guarded.now.space) }
     ensures begins { HasSerialLeft guarded.now → (w : View) (h : Handle)
-        → Aligns size align guarded.now.space w (Some h) → result ≡ Some h.offset }
+        → space.Aligns size align guarded.now.space w (Some h) → result ≡ Some h.offset }
     ensures starts { HasSerialLeft guarded.now → (o : ℕ)
         → CanGrant (blocks_needed align) (units_needed size align) guarded.now.space
         → WouldBegin (units_needed size align) guarded.now.space o → result ≡ Some (o + padding_to align o) }
@@ -80,7 +80,7 @@ impl<T: Tables> GuardedOf<T> {
     /// grants, with the next serial.
     ///
     /// `None` is returned where that call returns `None`, or where all serials are given; then all is as it
-    /// was.
+    /// was. It makes at most 64 accesses to the tables of the allocator.
     ///
     /// ```
     /// let mesh = guarded.allocate(300).unwrap();
@@ -89,22 +89,9 @@ impl<T: Tables> GuardedOf<T> {
     /// ```
     #[inline(always)]
     pub fn allocate(&mut self, size: u32) -> Option<Ticket>
-        // It is granted exactly when a serial is left and the allocator can grant it: for at least one unit,
-        // when `size` is at most the reported `largest_free_region`.
-        ensures granted { 1 ≤ size
-            → (IsSome result ↔ (HasSerialLeft self.old × (size ≤ reported_largest self.old.space))) }
-        ensures can_grant { IsSome result ↔ (HasSerialLeft self.old × CanGrant 1 size self.old.space) }
-        // A grant has the next serial, and its ticket was not live. Its range has exactly `size` units, lies
-        // in the space, and overlaps no live range. Every other ticket keeps its range, if it has one.
-        ensures grants { IfSome result (Grants size self.old self.new) }
-        // A refusal leaves all as it was.
-        ensures same { result ≡ None → IsSame self.old self.new }
-        ensures serials { result ≡ None → self.new ≡ record self.old { space = self.new.space } }
-        // The step of the allocator, where a serial is left.
-        ensures step { HasSerialLeft self.old
-            → Allocates size self.old.space self.new.space (option_map handle_in result) }
-        ensures same_step { self.new.step ≡ self.old.step }
-        ensures accesses_max { self.new.space.accesses ≤ self.old.space.accesses + 64 }
+        // It is granted exactly when a serial is left and the allocator can grant it. A grant has the next serial, a refusal
+        // leaves all as it was.
+        ensures { Allocates size self.old self.new result }
     {
         if self.serials.is_spent() {
             return None;
@@ -119,7 +106,7 @@ impl<T: Tables> GuardedOf<T> {
     /// `Allocator::allocate_aligned` grants, with the next serial.
     ///
     /// `None` is returned where that call returns `None`, or where all serials are given; then all is as it
-    /// was.
+    /// was. It makes at most 128 accesses to the tables of the allocator.
     ///
     /// ```
     /// guarded.allocate(10);
@@ -128,17 +115,8 @@ impl<T: Tables> GuardedOf<T> {
     /// ```
     pub fn allocate_aligned(&mut self, size: u32, align: u32) -> Option<Ticket>
         requires alignment { 1 ≤ align }
-        ensures can_grant { IsSome result ↔ (HasSerialLeft self.old
-            × CanGrant (blocks_needed align) (units_needed size align) self.old.space) }
-        ensures grants { IfSome result (Grants size self.old self.new) }
-        ensures aligned { IfSome result (λ t. t.offset % align ≡ 0) }
-        ensures same { result ≡ None → IsSame self.old self.new }
-        ensures serials { result ≡ None → self.new ≡ record self.old { space = self.new.space } }
-        ensures step { HasSerialLeft self.old
-            → Aligns size align self.old.space self.new.space (option_map handle_in result) }
-        // A grant takes the alignment into the step.
-        ensures joined { IfSome result (λ _. IsJoined self.old.step align self.new.step) }
-        ensures accesses_max { self.new.space.accesses ≤ self.old.space.accesses + 128 }
+        // The same, for what such a request may take. A grant takes the alignment into the step.
+        ensures { AllocatesAligned size align self.old self.new result }
     {
         if self.serials.is_spent() {
             return None;
@@ -156,7 +134,7 @@ impl<T: Tables> GuardedOf<T> {
     /// grants, with the next serial.
     ///
     /// `None` is returned where that call returns `None`, or where all serials are given; then all is as it
-    /// was.
+    /// was. It makes at most 140 accesses to the tables of the allocator, and 6 for each free block of the class.
     ///
     /// ```
     /// guarded.allocate(300);
@@ -166,15 +144,7 @@ impl<T: Tables> GuardedOf<T> {
     pub fn allocate_tight(&mut self, size: u32) -> Option<Ticket>
         // It is granted exactly when a serial is left and there is room for one more block and a free block
         // of `size` units.
-        ensures can_hold { IsSome result ↔ (HasSerialLeft self.old × CanHold size 1 self.old.space) }
-        ensures grants { IfSome result (Grants size self.old self.new) }
-        ensures same { result ≡ None → IsSame self.old self.new }
-        ensures serials { result ≡ None → self.new ≡ record self.old { space = self.new.space } }
-        ensures step { HasSerialLeft self.old
-            → AlignsTight size 1 self.old.space self.new.space (option_map handle_in result) }
-        ensures same_step { self.new.step ≡ self.old.step }
-        ensures accesses_max { self.new.space.accesses
-            ≤ self.old.space.accesses + 140 + 6 * length (bin_at self.old.space.bins (down size)) }
+        ensures { AllocatesTight size self.old self.new result }
     {
         if self.serials.is_spent() {
             return None;
@@ -189,7 +159,8 @@ impl<T: Tables> GuardedOf<T> {
     /// them: the range that `Allocator::allocate_tight_aligned` grants, with the next serial.
     ///
     /// `None` is returned where that call returns `None`, or where all serials are given; then all is as it
-    /// was.
+    /// was. It makes at most 140 accesses to the tables of the allocator, and 6 for each free block of the class or
+    /// above.
     ///
     /// ```
     /// guarded.allocate(256);
@@ -198,17 +169,8 @@ impl<T: Tables> GuardedOf<T> {
     /// ```
     pub fn allocate_tight_aligned(&mut self, size: u32, align: u32) -> Option<Ticket>
         requires alignment { 1 ≤ align }
-        ensures can_hold { IsSome result ↔ (HasSerialLeft self.old × CanHold size align self.old.space) }
-        ensures grants { IfSome result (Grants size self.old self.new) }
-        ensures aligned { IfSome result (λ t. t.offset % align ≡ 0) }
-        ensures same { result ≡ None → IsSame self.old self.new }
-        ensures serials { result ≡ None → self.new ≡ record self.old { space = self.new.space } }
-        ensures step { HasSerialLeft self.old
-            → AlignsTight size align self.old.space self.new.space (option_map handle_in result) }
-        // A grant takes the alignment into the step.
-        ensures joined { IfSome result (λ _. IsJoined self.old.step align self.new.step) }
-        ensures accesses_max { self.new.space.accesses
-            ≤ self.old.space.accesses + 140 + 6 * length (listed_from (down size) self.old.space.bins) }
+        // The same, of a free block that holds them at such a multiple. A grant takes the alignment into the step.
+        ensures { AllocatesTightAligned size align self.old self.new result }
     {
         if self.serials.is_spent() {
             return None;
@@ -234,17 +196,8 @@ impl<T: Tables> GuardedOf<T> {
     /// assert!(guarded.allocate_at(700, 100).is_none());
     /// ```
     pub fn allocate_at(&mut self, offset: u32, size: u32) -> Option<Ticket>
-        ensures granted { IsSome result
-            ↔ (HasSerialLeft self.old × CanGrantAt offset size self.old.space) }
-        ensures grants { IfSome result (Grants size self.old self.new) }
-        ensures begins { IfSome result (λ t. t.offset ≡ offset) }
-        ensures same { result ≡ None → IsSame self.old self.new }
-        ensures serials { result ≡ None → self.new ≡ record self.old { space = self.new.space } }
-        ensures step { HasSerialLeft self.old
-            → AllocatesAt offset size self.old.space self.new.space (option_map handle_in result) }
-        ensures same_step { self.new.step ≡ self.old.step }
-        ensures accesses_max { self.new.space.accesses
-            ≤ self.old.space.accesses + 80 + 3 * length self.old.space.blocks }
+        // It is granted exactly when a serial is left and the allocator can grant these units, and begins there.
+        ensures { AllocatesAt offset size self.old self.new result }
     {
         if self.serials.is_spent() {
             return None;
@@ -273,25 +226,9 @@ impl<T: Tables> GuardedOf<T> {
     /// guarded.free(mesh);
     /// ```
     pub fn relocate(&mut self, ticket: Ticket) -> Option<Ticket>
-        ensures live { IsSome result → IsLive ticket self.old × HasSerialLeft self.old }
-        ensures grants { IfSome result (Grants (size_of ticket.name self.old.space) self.old self.new) }
-        // It has each alignment of the old range that divides the step.
-        ensures aligned { IfSome result (λ t. (a : ℕ) → a ∣ self.old.step
-            → a ∣ offset_of ticket.name self.old.space → a ∣ t.offset) }
-        // It ends where the old range begins, or before.
-        ensures before { IfSome result (λ t. t.offset + size_of ticket.name self.old.space
-            ≤ offset_of ticket.name self.old.space) }
-        ensures same { result ≡ None → IsSame self.old self.new }
-        ensures serials { result ≡ None → self.new ≡ record self.old { space = self.new.space } }
-        // Where there is no step, nothing changes.
-        ensures none { self.old.step ≡ 0 → (result ≡ None) × (self.new ≡ self.old) }
-        // The step of the allocator, where the ticket is live, a serial is left, and there is a step.
-        ensures step { IsLive ticket self.old → HasSerialLeft self.old → 1 ≤ self.old.step → (align : ℕ)
-            → IsGcd (offset_of ticket.name self.old.space) self.old.step align
-            → RelocatesAligned ticket.name align self.old.space self.new.space (option_map handle_in result) }
-        ensures same_step { self.new.step ≡ self.old.step }
-        // It counts the accesses of the step, without those of the test whether the ticket is live, at most 8.
-        ensures accesses_max { self.new.space.accesses ≤ self.old.space.accesses + 67 }
+        // It ends where the old range begins, or before, and has each alignment of that which divides the step. Where there
+        // is no step, nothing changes.
+        ensures { Relocates ticket self.old self.new result }
     {
         let step = self.step_number();
         if step == 0 {
@@ -322,19 +259,8 @@ impl<T: Tables> GuardedOf<T> {
     /// guarded.free(mesh);
     /// ```
     pub fn relocate_unaligned(&mut self, ticket: Ticket) -> Option<Ticket>
-        ensures live { IsSome result → IsLive ticket self.old × HasSerialLeft self.old }
-        ensures grants { IfSome result (Grants (size_of ticket.name self.old.space) self.old self.new) }
         // It ends where the old range begins, or before.
-        ensures before { IfSome result (λ t. t.offset + size_of ticket.name self.old.space
-            ≤ offset_of ticket.name self.old.space) }
-        ensures same { result ≡ None → IsSame self.old self.new }
-        ensures serials { result ≡ None → self.new ≡ record self.old { space = self.new.space } }
-        // The step of the allocator, where the ticket is live and a serial is left.
-        ensures step { IsLive ticket self.old → HasSerialLeft self.old
-            → Relocates ticket.name self.old.space self.new.space (option_map handle_in result) }
-        ensures same_step { self.new.step ≡ self.old.step }
-        // It counts the accesses of the step, without those of the test whether the ticket is live, at most 8.
-        ensures accesses_max { self.new.space.accesses ≤ self.old.space.accesses + 67 }
+        ensures { RelocatesUnaligned ticket self.old self.new result }
     {
         let handle = self.handle(ticket)?;
         if self.serials.is_spent() {
@@ -367,21 +293,8 @@ impl<T: Tables> GuardedOf<T> {
     /// ```
     pub fn relocate_aligned(&mut self, ticket: Ticket, align: u32) -> Option<Ticket>
         requires alignment { 1 ≤ align }
-        ensures live { IsSome result → IsLive ticket self.old × HasSerialLeft self.old }
-        ensures grants { IfSome result (Grants (size_of ticket.name self.old.space) self.old self.new) }
-        ensures aligned { IfSome result (λ t. t.offset % align ≡ 0) }
-        // It ends where the old range begins, or before.
-        ensures before { IfSome result (λ t. t.offset + size_of ticket.name self.old.space
-            ≤ offset_of ticket.name self.old.space) }
-        ensures same { result ≡ None → IsSame self.old self.new }
-        ensures serials { result ≡ None → self.new ≡ record self.old { space = self.new.space } }
-        // The step of the allocator, where the ticket is live and a serial is left.
-        ensures step { IsLive ticket self.old → HasSerialLeft self.old
-            → RelocatesAligned ticket.name align self.old.space self.new.space (option_map handle_in result) }
-        // A grant takes the alignment into the step.
-        ensures joined { IfSome result (λ _. IsJoined self.old.step align self.new.step) }
-        // It counts the accesses of the step, without those of the test whether the ticket is live, at most 8.
-        ensures accesses_max { self.new.space.accesses ≤ self.old.space.accesses + 67 }
+        // It ends where the old range begins, or before. A grant takes the alignment into the step.
+        ensures { RelocatesAligned ticket align self.old self.new result }
     {
         let handle = self.handle(ticket)?;
         self.second(handle, align)
@@ -392,15 +305,12 @@ impl<T: Tables> GuardedOf<T> {
         requires alignment { 1 ≤ align }
         requires live { named.IsLive handle.name self.old.space }
         ensures left { IsSome result → HasSerialLeft self.old }
-        ensures grants { IfSome result (Grants (size_of handle.name self.old.space) self.old self.new) }
-        ensures aligned { IfSome result (λ t. t.offset % align ≡ 0) }
+        ensures request { Requests (size_of handle.name self.old.space) self.old self.new result }
+        ensures aligns { Aligns align self.old self.new result }
         ensures before { IfSome result (λ t. t.offset + size_of handle.name self.old.space
             ≤ offset_of handle.name self.old.space) }
-        ensures same { result ≡ None → IsSame self.old self.new }
-        ensures serials { result ≡ None → self.new ≡ record self.old { space = self.new.space } }
         ensures step { HasSerialLeft self.old
-            → RelocatesAligned handle.name align self.old.space self.new.space (option_map handle_in result) }
-        ensures joined { IfSome result (λ _. IsJoined self.old.step align self.new.step) }
+            → again.RelocatesAligned handle.name align self.old.space self.new.space (option_map handle_in result) }
         ensures accesses_max { self.new.space.accesses ≤ self.old.space.accesses + 67 }
     {
         if self.serials.is_spent() {
@@ -430,7 +340,7 @@ impl<T: Tables> GuardedOf<T> {
             × CanGrant (blocks_needed align) (units_needed size align) self.now.space) }
         // Whatever a grant of the allocator leaves, it begins there.
         ensures begins { HasSerialLeft self.now → (w : View) (h : Handle)
-            → Aligns size align self.now.space w (Some h) → result ≡ Some h.offset }
+            → space.Aligns size align self.now.space w (Some h) → result ≡ Some h.offset }
         // The block that such a grant takes begins at o.
         ensures starts { HasSerialLeft self.now → (o : ℕ)
             → CanGrant (blocks_needed align) (units_needed size align) self.now.space

@@ -1,14 +1,13 @@
 //! What holds of every guarded allocator. Its functions do nothing. With them are questions with a count of their
 //! accesses.
 ghost use Rattle.std.specs.Int.{◌∣◌};
-ghost use Rattle.std.specs.Prelude.{◌≡◌, ◌+◌, ◌<◌, ℕ, List, Option, Some};
+ghost use Rattle.std.specs.Prelude.{◌≡◌, ◌+◌, ◌<◌, ℕ, List, Some};
 ghost use Rattle.std.specs.List.{AllByRecursion};
 ghost use Rattle.offset_allocator.specs.Moving.Compacting.{Move};
 ghost use Rattle.offset_allocator.specs.Ranges.{Range};
 ghost use Rattle.offset_allocator.specs.View as view;
-ghost use Rattle.offset_guarded.specs.Answers as answers;
-ghost use Rattle.offset_guarded.specs.Answers.{Answer, Answers, KeepsStep};
-ghost use Rattle.offset_guarded.specs.Calls.{Call, HasAsked, KeepsAsked, Takes, TakesAligned, TakesAll, TakesSecond};
+ghost use Rattle.offset_guarded.specs.Answers.{Aligns, Answer, Answers, Call, Relocates, Requests};
+ghost use Rattle.offset_guarded.specs.Calls.{AllHappen, Continues, Event, Happens, HasAsked, KeepsAsked};
 ghost use Rattle.offset_guarded.specs.Guard.{Guard, IsCopy, Ticket, range_of};
 ghost use Rattle.offset_guarded.specs.State.{IsStateOf, IsWellFormed, SameGuard};
 ghost use Rattle.offset_guarded.specs.Twins.{IsTwin};
@@ -36,25 +35,24 @@ pub fn a_state_is_read_back<T: Tables>(guarded: &GuardedOf<T>)
     let _ = guarded.step_number();
 }
 
-/// For every list of calls of tickets, without those whose names say that they keep no alignment: a range that was
-/// granted at a multiple of an alignment that was asked for begins at one as long as it lives, whatever was granted,
-/// freed, moved, copied, stored and read. Calls that take a step are in the list where that is a multiple of the step
-/// of the space.
+/// For every list of calls of tickets, with their answers, without those whose names say that they keep no alignment: a
+/// range that was granted at a multiple of an alignment that was asked for begins at one as long as it lives, whatever was
+/// granted, freed, moved, copied, stored and read. Calls that take a step are in the list where that is a multiple of the
+/// step of the space.
 pub fn alignments_are_kept()
-    // Each call keeps each alignment that was asked for.
-    ensures each { (c : Call) (g h : Guard) (r : Option Ticket) → Takes c g h r → KeepsAsked g h }
+    // What each call leaves continues what there was: it makes no earlier ticket live, and each range keeps each alignment
+    // that divides the step.
+    ensures each { (e : Event) (g h : Guard) → Happens e g h → Continues g h }
+    // So it keeps each alignment that was asked for.
+    ensures kept { (g h : Guard) → Continues g h → KeepsAsked g h }
     // A grant at a multiple of an alignment has it, and a second range by the step has those of the first one.
-    ensures granted { (n align : ℕ) (g h : Guard) (t : Ticket) → TakesAligned n align g h (Some t)
+    ensures granted { (n align : ℕ) (g h : Guard) (t : Ticket) → Requests n g h (Some t) → Aligns align g h (Some t)
         → HasAsked t align h }
-    ensures second { (t u : Ticket) (a : ℕ) (g h : Guard) → TakesSecond t g h (Some u) → HasAsked t a g
+    ensures second { (t u : Ticket) (a : ℕ) (g h : Guard) → Relocates t g h (Some u) → HasAsked t a g
         → HasAsked u a h }
     // So, whatever calls follow the grant, its range begins at a multiple as long as it lives.
-    ensures lists { (n align : ℕ) (g h i : Guard) (t : Ticket) (cs : List Call) (rs : List (Option Ticket))
-        → TakesAligned n align g h (Some t) → TakesAll h cs rs i
-        → (r : Range) → range_of t i ≡ Some r → align ∣ r.offset }
-    // What each call answers says so much, where it goes by the step of the space or a multiple of it.
-    ensures answers { (c : answers.Call) (g h : Guard) (a : Answer) (ms : List Move) → KeepsStep c g
-        → Answers c g h a ms → (d : Call) × (r : Option Ticket) × Takes d g h r }
+    ensures lists { (n align : ℕ) (g h i : Guard) (t : Ticket) (es : List Event) → Requests n g h (Some t)
+        → Aligns align g h (Some t) → AllHappen h es i → (r : Range) → range_of t i ≡ Some r → align ∣ r.offset }
 {}
 
 /// A space with tickets and a call decide what is returned, which moves are seen, and what is left. Two are twins where
@@ -62,7 +60,7 @@ pub fn alignments_are_kept()
 /// a call returns the same, tickets included, and leaves twins. So a copy, and what was read from a state, continue as the
 /// first one does.
 pub fn a_state_decides_each_step()
-    ensures each { (c : answers.Call) (g g' h h' : Guard) → view.IsWellFormed g.space → IsTwin g g'
+    ensures each { (c : Call) (g g' h h' : Guard) → view.IsWellFormed g.space → IsTwin g g'
         → (a a' : Answer) (ms ms' : List Move) → Answers c g h a ms → Answers c g' h' a' ms'
         → (a ≡ a') × (ms ≡ ms') × IsTwin h h' }
     ensures copy { (g h : Guard) → IsCopy g h → IsTwin g h }

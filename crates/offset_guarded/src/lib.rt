@@ -14,13 +14,13 @@
 //! ```
 #![tactic(auto)]
 
-ghost use Rattle.std.specs.Prelude.{◌≡◌, ◌↔◌, ◌+◌, ◌-◌, ◌*◌, ◌<◌, ◌≤◌, min, None, Some, false, true, []};
+ghost use Rattle.std.specs.Prelude.{◌≡◌, ◌↔◌, ◌+◌, ◌-◌, ◌<◌, ◌≤◌, None, Some, false, []};
 ghost use Rattle.std.specs.Prelude.{IsSome, IsTrue, IfSome, IfOk, MatchOption, option_map};
 ghost use Rattle.offset_allocator.specs.Ranges.{Range};
 ghost use Rattle.offset_allocator.specs.Ranges as named;
-ghost use Rattle.offset_allocator.specs.Relations.{Frees, IsFresh, Resets};
-ghost use Rattle.offset_allocator.specs.View.{count_used};
-ghost use Rattle.offset_guarded.specs.Guard.{HasSerialLeft, IsCopy, IsLive, IsRaised, KeepsOthers};
+ghost use Rattle.offset_allocator.specs.Relations.{IsFresh};
+ghost use Rattle.offset_guarded.specs.Answers.{Frees, Resets};
+ghost use Rattle.offset_guarded.specs.Guard.{HasSerialLeft, IsCopy, IsLive, IsRaised};
 ghost use Rattle.offset_guarded.specs.Guard.{last_serial, range_of, serial_of};
 
 mod allocate;
@@ -369,19 +369,9 @@ impl<T: Tables> GuardedOf<T> {
     /// ```
     #[inline(always)]
     pub fn free(&mut self, ticket: Ticket) -> bool
-        // It is done exactly when the ticket is live.
-        ensures done { IsTrue result ↔ IsLive ticket self.old }
-        // After it the ticket is not live. Every other ticket keeps its range, if it has one.
-        ensures gone { range_of ticket self.new ≡ None }
-        ensures others { KeepsOthers ticket self.old self.new }
-        // A ticket that is not live changes nothing at all.
-        ensures same { result ≡ false → self.new ≡ self.old }
-        // The step of the allocator. All serials stay.
-        ensures step { result ≡ true → Frees ticket.name self.old.space self.new.space }
-        ensures serials { self.new ≡ record self.old { space = self.new.space } }
-        // It counts the accesses of the step. Those of the test whether the ticket is live, at most 8, are left
-        // out: `is_live_counted` of the allocator's `laws` has them.
-        ensures accesses_max { self.new.space.accesses ≤ self.old.space.accesses + 128 }
+        // It is done exactly when the ticket is live. After it the ticket is not live, and every other one keeps its range,
+        // if it has one.
+        ensures { Frees ticket self.old self.new result }
     {
         match self.handle_fitting(ticket) {
             None => false,
@@ -392,19 +382,16 @@ impl<T: Tables> GuardedOf<T> {
     /// Makes the whole space one free block again, as `Allocator::reset` does. No earlier ticket is ever live
     /// again. The step is 1.
     ///
+    /// It makes at most 2 accesses to the tables of the allocator, and 130 for each live range, or 270 where that is less.
+    ///
     /// ```
     /// let mesh = guarded.allocate(300).unwrap();
     /// guarded.reset();
     /// assert!(!guarded.is_live(mesh));
     /// ```
     pub fn reset(&mut self)
-        ensures gone { (t : Ticket) → range_of t self.new ≡ None }
-        ensures size { self.new.space.size ≡ self.old.space.size }
-        // The step of the allocator. All serials stay, so that none is given again.
-        ensures step { Resets self.old.space self.new.space }
-        ensures serials { self.new ≡ record self.old { space = self.new.space; step = 1 } }
-        ensures accesses_max { self.new.space.accesses
-            ≤ self.old.space.accesses + min (130 * count_used self.old.space.blocks + 2) 270 }
+        // All serials stay, so that none is given again.
+        ensures { Resets self.old self.new }
     {
         self.space.reset();
         self.step = 1;

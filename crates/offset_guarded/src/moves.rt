@@ -1,17 +1,16 @@
 //! Ranges that slide to the front of the space, all, within a budget, or to make room: by the step of the space,
 //! by another one, or by none. It changes the allocator, and no serial.
-ghost use Rattle.std.specs.Prelude.{ℕ, ◌≡◌, ◌≢◌, ◌↔◌, ◌+◌, ◌*◌, ◌≤◌, ◌⊎◌, [], IfSome, None, true, false, max, length};
-ghost use Rattle.std.specs.Prelude.{if◌then◌else◌};
-ghost use Rattle.std.specs.List.{FoldsTo};
+ghost use Rattle.std.specs.Prelude.{ℕ, ◌≡◌, ◌≢◌, ◌↔◌, ◌≤◌, [], IfSome, None, true};
 ghost use Rattle.offset_allocator.specs.Classes.{up, value};
-ghost use Rattle.offset_allocator.specs.Moving.Budget.{CompactsWithin};
-ghost use Rattle.offset_allocator.specs.Moving.BySteps.{CanFollow, CompactsBy, moves_by, run_by};
-ghost use Rattle.offset_allocator.specs.Moving.Compacting.{Compacts, IsCalledWith, moves};
+ghost use Rattle.offset_allocator.specs.Moving.BySteps as steps;
+ghost use Rattle.offset_allocator.specs.Moving.BySteps.{CanFollow, run_by};
+ghost use Rattle.offset_allocator.specs.Moving.Compacting.{IsCalledWith};
 ghost use Rattle.offset_allocator.specs.Requests.{AdmitsBlocks, CanGrant, blocks_needed, units_needed};
-ghost use Rattle.offset_allocator.specs.Moving.Room.{IsLeastCost, MakesRoom, ranges_of};
-ghost use Rattle.offset_allocator.specs.Moving.RoomBySteps.{IsLeastCostBy, MakesRoomBy, names_short};
+ghost use Rattle.offset_allocator.specs.Moving.RoomBySteps.{IsLeastCostBy, names_short};
 ghost use Rattle.offset_allocator.specs.View.{View, IsWellFormed, count_used, used_units};
-ghost use Rattle.offset_guarded.specs.Guard.{KeepsAlignments, KeepsDivisors, KeepsSizes};
+ghost use Rattle.offset_guarded.specs.Answers.{Compacts, CompactsBy, CompactsUnaligned, CompactsWithin};
+ghost use Rattle.offset_guarded.specs.Answers.{CompactsWithinBy, MakesRoom, MakesRoomBy};
+ghost use Rattle.offset_guarded.specs.Answers.{MakesRoomUnaligned};
 
 use crate::GuardedOf;
 use offset_allocator::laws::is_well_formed;
@@ -23,7 +22,7 @@ impl<T: Tables> GuardedOf<T> {
     /// where its range begins. If `moved` panics, the guarded allocator must not be used any more: drop it.
     ///
     /// `false` is returned, and nothing changes, where the space has no step, or `Allocator::compact_by` returns
-    /// `false`.
+    /// `false`. It makes at most 40 accesses to the tables of the allocator, and 21 for each block.
     ///
     /// ```
     /// let hole = guarded.allocate(300).unwrap();
@@ -34,19 +33,9 @@ impl<T: Tables> GuardedOf<T> {
     /// ```
     pub fn compact<F: FnMut(Move<T::Index>)>(&mut self, moved: &mut F) -> bool
         requires callable { F.IsAlwaysCallable moved.old }
-        ensures sizes { KeepsSizes self.old self.new }
-        // Every range keeps each alignment that divides the step.
-        ensures aligned { KeepsAlignments self.old self.new }
-        // The closure is called with the moves, in space order, each by whole steps.
-        ensures moved { FoldsTo (IsCalledWith T.Index.NonMax.number (λ f range g. F.step f range tt g))
-            moved.old (if result then moves_by self.old.step 0 0 self.old.space.blocks else []) moved.new }
-        // Where there is no step, nothing changes.
-        ensures none { self.old.step ≡ 0 → (result ≡ false) × (self.new ≡ self.old) }
-        // The step of the allocator. All serials stay.
-        ensures step { 1 ≤ self.old.step → CompactsBy self.old.step self.old.space self.new.space result }
-        ensures serials { self.new ≡ record self.old { space = self.new.space } }
-        ensures accesses_max { self.new.space.accesses
-            ≤ self.old.space.accesses + 21 * length self.old.space.blocks + 40 }
+        // Every range keeps each alignment that divides the step. The closure is called with the moves, in space order.
+        ensures { Compacts (IsCalledWith T.Index.NonMax.number (λ f range g. F.step f range tt g))
+            moved.old self.old self.new moved.new result }
     {
         let step = self.step_number();
         if step == 0 {
@@ -61,7 +50,8 @@ impl<T: Tables> GuardedOf<T> {
     /// be used any more: drop it.
     ///
     /// `None` is returned, and nothing changes, where the space has no step, or `Allocator::compact_within` returns
-    /// `None`.
+    /// `None`. It makes at most 60 accesses to the tables of the allocator, and 26 for each block; and at most 60, 5 for
+    /// each block, and 42 for each range of the budget, or for one.
     ///
     /// ```
     /// let hole = guarded.allocate(300).unwrap();
@@ -80,22 +70,9 @@ impl<T: Tables> GuardedOf<T> {
         moved: &mut F,
     ) -> Option<Progress>
         requires callable { F.IsAlwaysCallable moved.old }
-        ensures sizes { KeepsSizes self.old self.new }
-        // Every range keeps each alignment that divides the step.
-        ensures aligned { KeepsAlignments self.old self.new }
-        // One range, or as many as the budget allows.
-        ensures budget { IfSome result (λ p. (p.ranges ≡ 1)
-            ⊎ ((p.units ≤ most_units) × (p.ranges ≤ most_ranges))) }
-        // Where there is no step, nothing changes, and no move is seen.
-        ensures none { self.old.step ≡ 0 → (result ≡ None) × (self.new ≡ self.old) × (moved.new ≡ moved.old) }
-        // The step of the allocator, with the moves. All serials stay.
-        ensures step { 1 ≤ self.old.step → CompactsWithin (IsCalledWith T.Index.NonMax.number (λ f range g. F.step f range tt g))
-            self.old.step from most_units most_ranges self.old.space moved.old result self.new.space moved.new }
-        ensures serials { self.new ≡ record self.old { space = self.new.space } }
-        ensures accesses_max { self.new.space.accesses
-            ≤ self.old.space.accesses + 26 * length self.old.space.blocks + 60 }
-        ensures accesses_budget { self.new.space.accesses
-            ≤ self.old.space.accesses + 5 * length self.old.space.blocks + 42 * max 1 most_ranges + 60 }
+        // Every range keeps each alignment that divides the step. One range moves, or as many as the budget allows.
+        ensures { CompactsWithin (IsCalledWith T.Index.NonMax.number (λ f range g. F.step f range tt g))
+            from most_units most_ranges moved.old self.old self.new moved.new result }
     {
         let step = self.step_number();
         if step == 0 {
@@ -109,7 +86,8 @@ impl<T: Tables> GuardedOf<T> {
     /// returns where its range begins. If `moved` panics, the guarded allocator must not be used any more: drop it.
     ///
     /// It returns what `room_cost` would have returned before: `None` where no run of blocks gives up enough, or the
-    /// space has no step, and then nothing changes.
+    /// space has no step, and then nothing changes. It makes at most 60 accesses to the tables of the allocator, 7 for each
+    /// block, and 36 for each range that moves.
     ///
     /// ```
     /// let hole = guarded.allocate(300).unwrap();
@@ -125,24 +103,9 @@ impl<T: Tables> GuardedOf<T> {
         moved: &mut F,
     ) -> Option<RoomCost>
         requires callable { F.IsAlwaysCallable moved.old }
-        // It returns what `room_cost` would have returned before.
-        ensures cost { 1 ≤ self.old.step → IsLeastCostBy self.old.step (value (up (units_needed size 1)))
-            (names_short (blocks_needed 1) self.old.space) self.old.space.blocks result }
-        ensures sizes { KeepsSizes self.old self.new }
-        // Every range keeps each alignment that divides the step.
-        ensures aligned { KeepsAlignments self.old self.new }
-        // The allocator can grant the request then.
-        ensures granted { IfSome result (λ c. CanGrant (blocks_needed 1) (units_needed size 1)
-            self.new.space) }
-        // Where there is no step, nothing changes, and no move is seen.
-        ensures none { self.old.step ≡ 0 → (result ≡ None) × (self.new ≡ self.old) × (moved.new ≡ moved.old) }
-        // The step of the allocator, with the moves. All serials stay.
-        ensures step { 1 ≤ self.old.step → MakesRoomBy (IsCalledWith T.Index.NonMax.number (λ f range g. F.step f range tt g))
-            self.old.step (value (up (units_needed size 1))) (names_short (blocks_needed 1) self.old.space)
-            self.old.space moved.old result self.new.space moved.new }
-        ensures serials { self.new ≡ record self.old { space = self.new.space } }
-        ensures accesses_max { self.new.space.accesses
-            ≤ self.old.space.accesses + 7 * length self.old.space.blocks + 36 * ranges_of result + 60 }
+        // Every range keeps each alignment that divides the step. The allocator can grant the request then.
+        ensures { MakesRoom (IsCalledWith T.Index.NonMax.number (λ f range g. F.step f range tt g))
+            size 1 moved.old self.old self.new moved.new result }
     {
         let step = self.step_number();
         if step == 0 {
@@ -169,24 +132,9 @@ impl<T: Tables> GuardedOf<T> {
     ) -> Option<RoomCost>
         requires alignment { 1 ≤ align }
         requires callable { F.IsAlwaysCallable moved.old }
-        // It returns what `room_cost_aligned` would have returned before.
-        ensures cost { 1 ≤ self.old.step → IsLeastCostBy self.old.step (value (up (units_needed size align)))
-            (names_short (blocks_needed align) self.old.space) self.old.space.blocks result }
-        ensures sizes { KeepsSizes self.old self.new }
-        // Every range keeps each alignment that divides the step.
-        ensures aligned { KeepsAlignments self.old self.new }
-        // The allocator can grant the request then.
-        ensures granted { IfSome result (λ c. CanGrant (blocks_needed align) (units_needed size align)
-            self.new.space) }
-        // Where there is no step, nothing changes, and no move is seen.
-        ensures none { self.old.step ≡ 0 → (result ≡ None) × (self.new ≡ self.old) × (moved.new ≡ moved.old) }
-        // The step of the allocator, with the moves. All serials stay.
-        ensures step { 1 ≤ self.old.step → MakesRoomBy (IsCalledWith T.Index.NonMax.number (λ f range g. F.step f range tt g))
-            self.old.step (value (up (units_needed size align))) (names_short (blocks_needed align) self.old.space)
-            self.old.space moved.old result self.new.space moved.new }
-        ensures serials { self.new ≡ record self.old { space = self.new.space } }
-        ensures accesses_max { self.new.space.accesses
-            ≤ self.old.space.accesses + 7 * length self.old.space.blocks + 36 * ranges_of result + 60 }
+        // The same. It returns what `room_cost_aligned` would have returned before.
+        ensures { MakesRoom (IsCalledWith T.Index.NonMax.number (λ f range g. F.step f range tt g))
+            size align moved.old self.old self.new moved.new result }
     {
         let step = self.step_number();
         if step == 0 {
@@ -217,7 +165,7 @@ impl<T: Tables> GuardedOf<T> {
         ensures ranges { IfSome result (λ c. c.ranges ≡ count_used (run_by self.now.step self.now.space.blocks)) }
         // Whatever the compaction leaves, this is the largest request that the allocator grants then.
         ensures granted { IfSome result (λ c. (n : ℕ) (w : View) → 1 ≤ n → IsWellFormed w
-            → CompactsBy self.now.step self.now.space w true
+            → steps.CompactsBy self.now.step self.now.space w true
             → CanGrant 1 n w ↔ (AdmitsBlocks 1 w × (n ≤ c.largest))) }
     {
         let step = self.step_number();
@@ -267,8 +215,8 @@ impl<T: Tables> GuardedOf<T> {
 
     /// Slides live ranges to the front of the space by whole steps, as `Allocator::compact_by` does: each keeps
     /// its alignment where that divides `step`. Every ticket stays live, with its size; `offset_of` returns
-    /// where its range begins. `false` is returned, and nothing changes, where that call returns `false`. If
-    /// `moved` panics, the guarded allocator must not be used any more: drop it.
+    /// where its range begins. `false` is returned, and nothing changes, where that call returns `false`. It makes as
+    /// many accesses as `compact`. If `moved` panics, the guarded allocator must not be used any more: drop it.
     ///
     /// ```
     /// let hole = guarded.allocate(300).unwrap();
@@ -280,17 +228,9 @@ impl<T: Tables> GuardedOf<T> {
     pub fn compact_by<F: FnMut(Move<T::Index>)>(&mut self, step: u32, moved: &mut F) -> bool
         requires some { 1 ≤ step }
         requires callable { F.IsAlwaysCallable moved.old }
-        ensures sizes { KeepsSizes self.old self.new }
-        // The closure is called with the moves, in space order, each by whole steps.
-        ensures moved { FoldsTo (IsCalledWith T.Index.NonMax.number (λ f range g. F.step f range tt g))
-            moved.old (if result then moves_by step 0 0 self.old.space.blocks else []) moved.new }
-        // A range keeps each alignment that divides `step`.
-        ensures divisors { KeepsDivisors step self.old self.new }
-        // The step of the allocator. All serials stay.
-        ensures step { CompactsBy step self.old.space self.new.space result }
-        ensures serials { self.new ≡ record self.old { space = self.new.space } }
-        ensures accesses_max { self.new.space.accesses
-            ≤ self.old.space.accesses + 21 * length self.old.space.blocks + 40 }
+        // A range keeps each alignment that divides `step`. The closure is called with the moves, in space order.
+        ensures { CompactsBy (IsCalledWith T.Index.NonMax.number (λ f range g. F.step f range tt g))
+            step moved.old self.old self.new moved.new result }
     {
         // Steps of the proof, which do nothing: no name is that of two blocks.
         is_well_formed(&self.space);
@@ -302,8 +242,8 @@ impl<T: Tables> GuardedOf<T> {
     /// Slides live ranges to the front by whole steps, from the offset `from` on and within a budget, as
     /// `Allocator::compact_within` does: so a compaction can be done over several frames. Every ticket stays
     /// live, with its size; `offset_of` returns where its range begins. The result says what moved, and where
-    /// the next call goes on; `None` is returned, and nothing changes, where that call returns `None`. If `moved`
-    /// panics, the guarded allocator must not be used any more: drop it.
+    /// the next call goes on; `None` is returned, and nothing changes, where that call returns `None`. It makes as
+    /// many accesses as `compact_within`. If `moved` panics, the guarded allocator must not be used any more: drop it.
     ///
     /// ```
     /// let hole = guarded.allocate(300).unwrap();
@@ -324,20 +264,9 @@ impl<T: Tables> GuardedOf<T> {
     ) -> Option<Progress>
         requires some { 1 ≤ step }
         requires callable { F.IsAlwaysCallable moved.old }
-        ensures sizes { KeepsSizes self.old self.new }
-        // One range, or as many as the budget allows.
-        ensures budget { IfSome result (λ p. (p.ranges ≡ 1)
-            ⊎ ((p.units ≤ most_units) × (p.ranges ≤ most_ranges))) }
-        // A range keeps each alignment that divides `step`.
-        ensures divisors { KeepsDivisors step self.old self.new }
-        // The step of the allocator, with the moves. All serials stay.
-        ensures step { CompactsWithin (IsCalledWith T.Index.NonMax.number (λ f range g. F.step f range tt g))
-            step from most_units most_ranges self.old.space moved.old result self.new.space moved.new }
-        ensures serials { self.new ≡ record self.old { space = self.new.space } }
-        ensures accesses_max { self.new.space.accesses
-            ≤ self.old.space.accesses + 26 * length self.old.space.blocks + 60 }
-        ensures accesses_budget { self.new.space.accesses
-            ≤ self.old.space.accesses + 5 * length self.old.space.blocks + 42 * max 1 most_ranges + 60 }
+        // A range keeps each alignment that divides `step`. One range moves, or as many as the budget allows.
+        ensures { CompactsWithinBy (IsCalledWith T.Index.NonMax.number (λ f range g. F.step f range tt g))
+            step from most_units most_ranges moved.old self.old self.new moved.new result }
     {
         // Steps of the proof, which do nothing: no name is that of two blocks.
         is_well_formed(&self.space);
@@ -351,8 +280,8 @@ impl<T: Tables> GuardedOf<T> {
     /// Makes room for `allocate_aligned(size, align)` by whole steps, as `Allocator::make_room_by` does: each
     /// range that moves keeps its alignment where that divides `step`. Every ticket stays live, with its size;
     /// `offset_of` returns where its range begins. It returns what `room_cost_by` of `allocator()` would have
-    /// returned before: `None` where no run of blocks gives up enough, and then nothing changes. If `moved` panics,
-    /// the guarded allocator must not be used any more: drop it.
+    /// returned before: `None` where no run of blocks gives up enough, and then nothing changes. It makes as many
+    /// accesses as `make_room`. If `moved` panics, the guarded allocator must not be used any more: drop it.
     ///
     /// ```
     /// let hole = guarded.allocate(300).unwrap();
@@ -372,22 +301,9 @@ impl<T: Tables> GuardedOf<T> {
         requires alignment { 1 ≤ align }
         requires some { 1 ≤ step }
         requires callable { F.IsAlwaysCallable moved.old }
-        // It returns what `room_cost_by` of the allocator would have returned before.
-        ensures cost { IsLeastCostBy step (value (up (units_needed size align)))
-            (names_short (blocks_needed align) self.old.space) self.old.space.blocks result }
-        ensures sizes { KeepsSizes self.old self.new }
-        // The allocator can grant the request then.
-        ensures granted { IfSome result (λ c. CanGrant (blocks_needed align) (units_needed size align)
-            self.new.space) }
-        // A range keeps each alignment that divides `step`.
-        ensures divisors { KeepsDivisors step self.old self.new }
-        // The step of the allocator, with the moves. All serials stay.
-        ensures step { MakesRoomBy (IsCalledWith T.Index.NonMax.number (λ f range g. F.step f range tt g))
-            step (value (up (units_needed size align))) (names_short (blocks_needed align) self.old.space)
-            self.old.space moved.old result self.new.space moved.new }
-        ensures serials { self.new ≡ record self.old { space = self.new.space } }
-        ensures accesses_max { self.new.space.accesses
-            ≤ self.old.space.accesses + 7 * length self.old.space.blocks + 36 * ranges_of result + 60 }
+        // A range keeps each alignment that divides `step`. The allocator can grant the request then.
+        ensures { MakesRoomBy (IsCalledWith T.Index.NonMax.number (λ f range g. F.step f range tt g))
+            size align step moved.old self.old self.new moved.new result }
     {
         // Steps of the proof, which do nothing: no name is that of two blocks.
         is_well_formed(&self.space);
@@ -398,8 +314,8 @@ impl<T: Tables> GuardedOf<T> {
 
     /// Slides every live range to the front of the space, as `Allocator::compact` does: **a moved range keeps no
     /// alignment**, whatever was asked for; `compact` keeps all. Every ticket stays live, with its size;
-    /// `offset_of` returns where its range begins. If `moved` panics, the guarded allocator must not be used any
-    /// more: drop it.
+    /// `offset_of` returns where its range begins. It makes at most 384 accesses to the tables of the allocator, and 10
+    /// for each block. If `moved` panics, the guarded allocator must not be used any more: drop it.
     ///
     /// ```
     /// let hole = guarded.allocate(300).unwrap();
@@ -410,22 +326,18 @@ impl<T: Tables> GuardedOf<T> {
     /// ```
     pub fn compact_unaligned<F: FnMut(Move<T::Index>)>(&mut self, moved: &mut F)
         requires callable { F.IsAlwaysCallable moved.old }
-        ensures sizes { KeepsSizes self.old self.new }
         // The closure is called with the moves, in space order.
-        ensures moved { FoldsTo (IsCalledWith T.Index.NonMax.number (λ f range g. F.step f range tt g))
-            moved.old (moves 0 0 self.old.space.blocks) moved.new }
-        ensures step { Compacts self.old.space self.new.space }
-        ensures serials { self.new ≡ record self.old { space = self.new.space } }
-        ensures accesses_max { self.new.space.accesses
-            ≤ self.old.space.accesses + 10 * length self.old.space.blocks + 384 }
+        ensures { CompactsUnaligned (IsCalledWith T.Index.NonMax.number (λ f range g. F.step f range tt g))
+            moved.old self.old self.new moved.new }
     {
         self.space.compact(moved);
     }
 
     /// Makes room for a request of `size` units, where ranges have to move for it, as `Allocator::make_room`
     /// does. **A moved range keeps no alignment**, whatever was asked for; `make_room` keeps all. Every ticket
-    /// stays live, with its size; `offset_of` returns where its range begins. If `moved` panics, the guarded
-    /// allocator must not be used any more: drop it.
+    /// stays live, with its size; `offset_of` returns where its range begins. It makes at most 20 accesses to the tables
+    /// of the allocator, 6 for each block, and 40 for each range that moves. If `moved` panics, the guarded allocator
+    /// must not be used any more: drop it.
     ///
     /// ```
     /// let hole = guarded.allocate(300).unwrap();
@@ -441,17 +353,10 @@ impl<T: Tables> GuardedOf<T> {
         moved: &mut F,
     ) -> Option<RoomCost>
         requires callable { F.IsAlwaysCallable moved.old }
-        // It returns what `room_cost` of the allocator would have returned before.
-        ensures cost { IsLeastCost (value (up size)) self.old.space.blocks result }
-        ensures sizes { KeepsSizes self.old self.new }
-        // Where ranges had to move, the allocator can grant the request then.
-        ensures granted { IfSome result (λ c. 1 ≤ c.ranges → CanGrant 1 size self.new.space) }
-        // The step of the allocator, with the moves. All serials stay.
-        ensures step { MakesRoom (IsCalledWith T.Index.NonMax.number (λ f range g. F.step f range tt g))
-            (value (up size)) self.old.space moved.old result self.new.space moved.new }
-        ensures serials { self.new ≡ record self.old { space = self.new.space } }
-        ensures accesses_max { self.new.space.accesses
-            ≤ self.old.space.accesses + 6 * length self.old.space.blocks + 40 * ranges_of result + 20 }
+        // It returns what `room_cost` of the allocator would have returned before. Where ranges had to move, the allocator
+        // can grant the request then.
+        ensures { MakesRoomUnaligned (IsCalledWith T.Index.NonMax.number (λ f range g. F.step f range tt g))
+            size moved.old self.old self.new moved.new result }
     {
         self.space.make_room(size, moved)
     }

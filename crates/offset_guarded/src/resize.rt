@@ -1,10 +1,5 @@
 //! Ranges, and the space, that become smaller or larger in place. It changes the allocator, and no serial.
-ghost use Rattle.std.specs.Prelude.{◌≡◌, ◌↔◌, ◌+◌, ◌≤◌, None, Some, false, true, IsTrue, IsSome, IfSome};
-ghost use Rattle.offset_allocator.specs.Relations.{CanExtend, Extends};
-ghost use Rattle.offset_allocator.specs.Resizing.{CanGrow, CanShrink, Grows, Shrinks};
-ghost use Rattle.offset_allocator.specs.Moving.Retracting.{CanRetract, Retracts};
-ghost use Rattle.offset_guarded.specs.Guard.{HasUnits, IsLive, IsSame, KeepsAll, KeepsLive, KeepsOthers};
-ghost use Rattle.offset_guarded.specs.Guard.{CoversNodes, KeepsSerials};
+ghost use Rattle.offset_guarded.specs.Answers.{Extends, Grows, Retracts, Shrinks};
 
 use crate::GuardedOf;
 use crate::ticket::Ticket;
@@ -24,21 +19,9 @@ impl<T: Tables> GuardedOf<T> {
     /// assert_eq!(guarded.shrink(mesh, 100), None);
     /// ```
     pub fn shrink(&mut self, ticket: Ticket, size: u32) -> Option<bool>
-        ensures live { IsSome result ↔ IsLive ticket self.old }
-        ensures done { IfSome result (λ done. IsTrue done ↔ CanShrink ticket.name size self.old.space) }
-        // Then the range has `size` units, from its first one on. Every other ticket keeps its range.
-        ensures range { result ≡ Some true → HasUnits ticket size self.old self.new }
-        ensures others { KeepsOthers ticket self.old self.new }
-        ensures kept { KeepsLive self.old self.new }
-        // A refusal leaves all as it was, and a ticket that is not live changes nothing at all.
-        ensures same { result ≡ Some false → IsSame self.old self.new }
-        ensures not_live { result ≡ None → self.new ≡ self.old }
-        // The step of the allocator. All serials stay.
-        ensures step { IfSome result (Shrinks ticket.name size self.old.space self.new.space) }
-        ensures serials { KeepsSerials self.old self.new }
-        ensures table { IfSome result (λ _. CoversNodes self.old self.new) }
-        // It counts the accesses of the step, without those of the test whether the ticket is live, at most 8.
-        ensures accesses_max { self.new.space.accesses ≤ self.old.space.accesses + 128 }
+        // Then the range has `size` units, from its first one on. Every other ticket keeps its range. A refusal leaves all
+        // as it was.
+        ensures { Shrinks ticket size self.old self.new result }
     {
         match self.handle(ticket) {
             None => None,
@@ -62,21 +45,9 @@ impl<T: Tables> GuardedOf<T> {
     /// assert_eq!(guarded.grow_in_place(mesh, 1001), Some(false));
     /// ```
     pub fn grow_in_place(&mut self, ticket: Ticket, size: u32) -> Option<bool>
-        ensures live { IsSome result ↔ IsLive ticket self.old }
-        ensures done { IfSome result (λ done. IsTrue done ↔ CanGrow ticket.name size self.old.space) }
-        // Then the range has `size` units, from its first one on. Every other ticket keeps its range.
-        ensures range { result ≡ Some true → HasUnits ticket size self.old self.new }
-        ensures others { KeepsOthers ticket self.old self.new }
-        ensures kept { KeepsLive self.old self.new }
-        // A refusal leaves all as it was, and a ticket that is not live changes nothing at all.
-        ensures same { result ≡ Some false → IsSame self.old self.new }
-        ensures not_live { result ≡ None → self.new ≡ self.old }
-        // The step of the allocator. All serials stay.
-        ensures step { IfSome result (Grows ticket.name size self.old.space self.new.space) }
-        ensures serials { KeepsSerials self.old self.new }
-        ensures table { IfSome result (λ _. CoversNodes self.old self.new) }
-        // It counts the accesses of the step, without those of the test whether the ticket is live, at most 8.
-        ensures accesses_max { self.new.space.accesses ≤ self.old.space.accesses + 128 }
+        // Then the range has `size` units, from its first one on. Every other ticket keeps its range. A refusal leaves all
+        // as it was.
+        ensures { Grows ticket size self.old self.new result }
     {
         match self.handle(ticket) {
             None => None,
@@ -88,22 +59,16 @@ impl<T: Tables> GuardedOf<T> {
         }
     }
 
-    /// Adds `more` units at the end of the space, as `Allocator::extend` does, and returns whether it did.
+    /// Adds `more` units at the end of the space, as `Allocator::extend` does, and returns whether it did. It makes at
+    /// most 128 accesses to the tables of the allocator.
     ///
     /// ```
     /// assert!(guarded.extend(24));
     /// assert_eq!(guarded.allocator().size(), 1024);
     /// ```
     pub fn extend(&mut self, more: u32) -> bool
-        ensures done { IsTrue result ↔ (1 ≤ more → CanExtend more self.old.space) }
         // Every ticket keeps its range, and a refusal leaves all as it was.
-        ensures size { IsTrue result → self.new.space.size ≡ self.old.space.size + more }
-        ensures kept { KeepsAll self.old self.new }
-        ensures same { result ≡ false → IsSame self.old self.new }
-        ensures step { Extends more self.old.space self.new.space result }
-        ensures serials { KeepsSerials self.old self.new }
-        ensures table { CoversNodes self.old self.new }
-        ensures accesses_max { self.new.space.accesses ≤ self.old.space.accesses + 128 }
+        ensures { Extends more self.old self.new result }
     {
         let done = self.space.extend(more);
         self.serials.cover(self.space.node_count());
@@ -111,7 +76,7 @@ impl<T: Tables> GuardedOf<T> {
     }
 
     /// Takes `less` free units off the end of the space, as `Allocator::retract` does, and returns whether it
-    /// did.
+    /// did. It makes at most 64 accesses to the tables of the allocator.
     ///
     /// ```
     /// guarded.allocate(300);
@@ -119,14 +84,8 @@ impl<T: Tables> GuardedOf<T> {
     /// assert_eq!(guarded.allocator().size(), 300);
     /// ```
     pub fn retract(&mut self, less: u32) -> bool
-        ensures done { IsTrue result ↔ (1 ≤ less → CanRetract less self.old.space) }
         // Every ticket keeps its range, and a refusal leaves all as it was.
-        ensures size { IsTrue result → self.new.space.size + less ≡ self.old.space.size }
-        ensures kept { KeepsAll self.old self.new }
-        ensures same { result ≡ false → IsSame self.old self.new }
-        ensures step { Retracts less self.old.space self.new.space result }
-        ensures serials { self.new ≡ record self.old { space = self.new.space } }
-        ensures accesses_max { self.new.space.accesses ≤ self.old.space.accesses + 64 }
+        ensures { Retracts less self.old self.new result }
     {
         self.space.retract(less)
     }

@@ -2,6 +2,7 @@
 //! space, and no serial.
 ghost use Rattle.std.specs.Prelude.{ℕ, ◌≡◌, ◌↔◌, ◌*◌, ◌≤◌, IfSome, None};
 ghost use Rattle.std.specs.Int.{◌∣◌, IsGcd};
+ghost use Rattle.offset_guarded.specs.Answers.{RaisesStep};
 ghost use Rattle.offset_guarded.specs.Step.{IsJoined};
 
 use crate::GuardedOf;
@@ -92,8 +93,8 @@ impl<T: Tables> GuardedOf<T> {
     /// ```
     pub fn raise_step(&mut self, align: u32)
         requires alignment { 1 ≤ align }
-        ensures joined { IsJoined self.old.step align self.new.step }
-        ensures rest { self.new ≡ record self.old { step = self.new.step } }
+        // Nothing else changes.
+        ensures { RaisesStep align self.old self.new }
     {
         self.step = joined(self.step, align);
     }

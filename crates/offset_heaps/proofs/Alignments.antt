@@ -1,17 +1,16 @@
 -- Every alignment is kept: by each call, and by one call after the other.
-use Rattle.std.proofs.Common.{◌≡◌, ℕ, ◌+◌, ◌<◌, ◌≤◌, Bool, true, false, ◌&&◌, List, [], ◌∷◌, Option, Some, None, IfSome, IsSome, is_some, length, slice_set, nat_eq, option_map, if◌then◌else◌, refl, sym, ap, ap₂, subst, ◌∙◌, inl, inr, arith}
+use Rattle.std.proofs.Common.{◌≡◌, ℕ, ◌+◌, ◌<◌, ◌≤◌, Bool, true, false, List, [], ◌∷◌, Option, Some, None, IfSome, IsSome, is_some, length, slice_set, nat_eq, if◌then◌else◌, refl, sym, ap, subst, ◌∙◌, inl, inr, arith}
 use Rattle.std.proofs.Math.Nat.{dvd_refl, dvd_trans}
 use Rattle.std.proofs.lemmas.Bool.{cases_eq, cases_lt}
 use Rattle.std.specs.Int.{◌∣◌}
 use Rattle.std.specs.List.{AllByRecursion}
 use Rattle.offset_allocator.specs.Ranges.{Range}
 use Rattle.offset_allocator.specs.Requests.{blocks_needed}
-use Rattle.offset_allocator.specs.Ranges as named
 use Rattle.offset_guarded.specs.Guard.{Guard, Ticket, AreAlike, serial_of}
 use Rattle.offset_guarded.specs.Guard as guarded
 use Rattle.offset_guarded.proofs.Guards.{live_fits}
 use Rattle.offset_guarded.proofs.Offsets.{same_aligned}
-use Rattle.offset_heaps.proofs.StillRanges.{emptied, freed, granted}
+use Rattle.offset_guarded.proofs.Continued.{alike_range, emptied, freed, freed_live, granted, sized}
 use Rattle.offset_heaps.specs.declared.limits.Limits.{Limits}
 use Rattle.offset_heaps.specs.declared.place.Granted.{Granted}
 use Rattle.offset_heaps.specs.Changing.{Alters, CompactsAll, CompactsSlot}
@@ -21,10 +20,6 @@ use Rattle.offset_heaps.specs.Places.{Place, place_of, ticket_of}
 use Rattle.offset_heaps.specs.{Slots.ResetsIn, Tight.GrantsTight}
 use Rattle.offset_heaps.specs.State as state
 use Rattle.offset_heaps.proofs.{Numbers.slot_other, Numbers.slot_past, Numbers.slot_same, Numbers.slot_set, Numbers.slot_there, Raising.raised_range, Raising.raised_realm, Raising.raised_step}
-
--- tickets of one grant have one range
-alike_range : (t u : Ticket) (g : Guard) → AreAlike t u → guarded.range_of t g ≡ guarded.range_of u g
-alike_range t u g a = ap₂ (λ (x : ℕ) (b : Bool). if b then named.range_of x g.space else None) a.0 (ap₂ (λ (r : ℕ) (c : Bool). nat_eq r g.realm && c) a.2 (ap₂ nat_eq a.1 (ap (λ (x : ℕ). serial_of x g) a.0)))
 
 -- ---- what is kept in the heap of a number
 abbrev SlotKeeps : Option Guard → Option Guard → Type 0
@@ -221,11 +216,6 @@ tight_kept : (a : ℕ) (p : Place) (size align : ℕ) (hs ks : Heaps) (grant : G
 tight_kept a p size align hs ks grant g = put_after a p grant.place.heap hs ks g.was g.after g.heap (ap (λ (h : Heaps). h.slots) g.heaps) (omega (arith, ap (λ (h : Heaps). h.made) g.heaps))
     (λ was. kept_granted a p size g.before g.after (ticket_in grant) g.grants g.joined.first (kept_raised a p hs.limits grant.place.heap (blocks_needed align) g.was g.before g.raised was))
 
--- what is live once a range is freed was
-pub freed_live : (t u : Ticket) (g h : Guard) → guarded.KeepsOthers t g h → guarded.range_of t h ≡ None → guarded.IsLive u h → guarded.IsLive u g
-freed_live t u g h others gone live =
-    subst IsSome (others u (λ alike. absurd (let o : Option Range = None in let none : IsSome o = subst IsSome (alike_range u t h alike ∙ gone) live in cc))) live
-
 free_kept : (a : ℕ) (p q : Place) (hs ks : Heaps) → FreesIn q hs ks → IsKept a p hs → IsKept a p ks
 free_kept a p q hs ks f = put_after a p q.heap hs ks f.before f.after f.heap (ap (λ (h : Heaps). h.slots) f.heaps) (omega (arith, ap (λ (h : Heaps). h.made) f.heaps))
     (kept_in a p f.before f.after (ap (λ (g : Guard). g.realm) f.serials) (omega (arith, ap (λ (g : Guard). g.given) f.serials))
@@ -258,12 +248,6 @@ reset_kept a p hs ks all = each_kept a p hs ks (omega (arith, ap (λ (h : Heaps)
     go (Some g) new r kept = subst (KeptIn a p) (sym r.1)
         (kept_in a p g r.0 (ap (λ (h : Guard). h.realm) r.3) (omega (arith, ap (λ (h : Guard). h.given) r.3))
         (λ u early live. absurd (let o : Option Range = None in let none : IsSome o = subst IsSome (r.4 u) live in cc)) (emptied g r.0 r.4) kept)
-
--- what has as many units as before was live
-pub sized : (o q : Option Range) → option_map (λ (r : Range). r.size) o ≡ option_map (λ (r : Range). r.size) q → IsSome o → IsSome q
-sized None q e l = absurd (cc)
-sized (Some r) None e l = absurd (cc)
-sized (Some r) (Some s) e l = refl
 
 compact_kept : (a : ℕ) (p : Place) (hs ks : Heaps) → CompactsAll hs ks → IsKept a p hs → IsKept a p ks
 compact_kept a p hs ks all = each_kept a p hs ks (omega (arith, ap (λ (h : Heaps). h.made) all.rest)) (go (heap_at p.heap hs) (heap_at p.heap ks) (all.heaps p.heap))

@@ -1,5 +1,4 @@
 pub mod Alignments
-pub mod StillRanges
 pub mod Along
 pub mod Changes
 pub mod Compacted

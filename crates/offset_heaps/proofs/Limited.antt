@@ -217,4 +217,4 @@ module _ (max : ℕ) (slots : List (Option Guard)) (limits : Limits) (made : ℕ
   sound_shorter less false done step same = sound_changed (same_limited g h (same refl))
   sound_shorter less true done step same =
       let x = step refl in
-      sound_kind (ap (λ (z : Guard). z.realm) x.1) (shorter_kind limits k less g h (done.0 refl).0 (x.4 refl) (retracted less g.space h.space x.5))
+      sound_kind (ap (λ (z : Guard). z.realm) x.serials) (shorter_kind limits k less g h (done.0 refl).0 (x.size refl) (retracted less g.space h.space x.step))

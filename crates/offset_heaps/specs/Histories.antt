@@ -1,8 +1,7 @@
 -- Histories: what calls leave of many heaps, one after another, and the places of a heap that is gone.
 use Rattle.std.specs.Prelude.{◌≡◌, ◌≢◌, ℕ, ◌≤◌, ◌⊎◌, List, [], ◌∷◌, None, IfSome}
 use Rattle.std.specs.Int.{◌∣◌}
-use Rattle.offset_guarded.specs.Guard.{Guard, Ticket}
-use Rattle.offset_guarded.specs.Guard as guarded
+use Rattle.offset_guarded.specs.Calls.{Continues}
 use Rattle.offset_heaps.specs.declared.place.Granted.{Granted}
 use Rattle.offset_heaps.specs.Changing.{Alters, CompactsAll}
 use Rattle.offset_heaps.specs.Heaps.{Heaps, FreesIn, Grants, IsSame, Puts, heap_at, range_of}
@@ -15,17 +14,9 @@ pub record ResetsAll (hs ks : Heaps) : Type 0 where
   pub heaps : (k : ℕ) → ResetsIn (heap_at k hs) (heap_at k ks)
   pub rest : ks ≡ record hs { slots = ks.slots; accesses = ks.accesses }
 
--- a heap is changed in place: it keeps its realm, no ticket of an earlier grant becomes live, and each range keeps each
--- alignment that divides the step
-pub record KeepsIn (g h : Guard) : Type 0 where
-  pub realm : h.realm ≡ g.realm
-  pub given : g.given ≤ h.given
-  pub live : (t : Ticket) → t.serial ≤ g.given → guarded.IsLive t h → guarded.IsLive t g
-  pub aligned : guarded.KeepsAlignments g h
-
--- the same of the heap of a number
+-- the heap of a number is changed in place: what is left continues what there was
 abbrev pub Keeps : ℕ → Heaps → Heaps → Type 0
-Keeps k hs ks = Alters k KeepsIn hs ks
+Keeps k hs ks = Alters k Continues hs ks
 
 -- what one call leaves: all as it was, a grant, a range freed, a heap dropped, all reset, a heap changed in place, all
 -- compacted, or a tight grant

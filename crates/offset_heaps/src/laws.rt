@@ -188,10 +188,10 @@ pub fn alignments_are_kept()
         → GrantsTight size align hs ks grant → a ∣ align → a ∣ grant.offset → AreSteps ks later
         → AllByRecursion (BeginsAt a grant.place) (ks ∷ later) }
     // A call of tickets on the heap of a number leaves a step, and the ranges that it grants keep alignments too.
-    ensures on_heap { (k : ℕ) (c : tickets.Call) (r : Option Ticket) (hs ks : Heaps)
-        → Alters k (λ g h. tickets.Takes c g h r) hs ks → IsStep hs ks }
+    ensures on_heap { (k : ℕ) (e : tickets.Event) (hs ks : Heaps) → Alters k (tickets.Happens e) hs ks
+        → IsStep hs ks }
     ensures answered_on_heap { (k : ℕ) (c : answers.Call) (a : answers.Answer) (ms : List Move) (hs ks : Heaps)
-        → TakesOn k c hs ks a ms → ((g : Guard) → heap_at k hs ≡ Some g → answers.KeepsStep c g) → IsStep hs ks }
+        → TakesOn k c hs ks a ms → ((g : Guard) → heap_at k hs ≡ Some g → answers.GoesByTheStep c g) → IsStep hs ks }
     ensures lasts_on_heap { (k n align a : ℕ) (t : Ticket) (hs ks : Heaps) (later : List Heaps) → IsWellFormed hs
         → Alters k (λ g h. answers.Requests n g h (Some t) × answers.Aligns align g h (Some t)) hs ks → a ∣ align
         → AreSteps ks later → AllByRecursion (BeginsAt a (place_of k hs.realm t)) (ks ∷ later) }

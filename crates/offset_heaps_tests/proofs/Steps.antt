@@ -1,11 +1,11 @@
 -- What each call leaves is a step of a history.
-use Rattle.std.proofs.Common.{◌≡◌, ℕ, Bool, true, false, Result, Ok, Err, IfOk, Option, Some, None, IfSome, IsSome, is_some, option_map, ap, sym, subst, refl, inl, inr, arith, ◌≤◌, ◌∙◌}
+use Rattle.std.proofs.Common.{◌≡◌, ℕ, Bool, true, false, Result, Ok, Err, IfOk, Option, Some, None, IfSome, IsSome, is_some, ap, sym, subst, refl, inl, inr, arith, ◌≤◌, ◌∙◌}
 use Rattle.std.proofs.lemmas.Bool.{cases_Bool, cases_eq}
 use Rattle.std.proofs.Math.Nat.{dvd_refl, dvd_trans}
 use Rattle.std.specs.Int.{◌∣◌}
 use Rattle.std.specs.Prelude.{OnErr}
 use Rattle.std.specs.declared.alloc.AllocError.{AllocError}
-use Rattle.offset_guarded.proofs.Twins.{range_twin}
+use Rattle.offset_guarded.proofs.{Continued.slid, Continued.units, Twins.range_twin}
 use Rattle.offset_heaps.specs.declared.place.Granted.{Granted}
 use Rattle.offset_heaps.specs.declared.refusal.Refusal.{Refusal}
 use Rattle.offset_heaps.specs.Heaps.{Heaps, FreesIn, Grants, IsLive, IsSame, Puts, heap_at, range_of, step_at}
@@ -19,29 +19,17 @@ use Rattle.offset_guarded.specs.Guard as guarded
 use Rattle.offset_heaps.specs.declared.limits.Limits.{Limits}
 use Rattle.offset_heaps.specs.Changing.{Alters, CompactsHeap, MakesRoomAt, Resizes, ResizesAt, NewSize, units_wanted}
 use Rattle.offset_heaps.specs.Extending.{ExtendsHeap, ExtendsIf}
-use Rattle.offset_heaps.specs.Histories.{IsStep, KeepsIn}
+use Rattle.offset_heaps.specs.Histories.{IsStep}
+use Rattle.offset_guarded.specs.Calls.{Continues}
 use Rattle.offset_heaps.specs.Places.{Place, ticket_of}
 use Rattle.offset_heaps.specs.Tight.{GrantsTight}
-use Rattle.offset_heaps.proofs.{Changes.undone_twin, InPlace.units, Longer.range_longer, Longer.realm_longer}
+use Rattle.offset_heaps.proofs.{Changes.undone_twin, Longer.range_longer, Longer.realm_longer}
 
 -- what stays where it is
 stays_aligned : (g h : Guard) → (g.step ∣ h.step) → ((t : Ticket) (r q : Range) → guarded.range_of t g ≡ Some r → guarded.range_of t h ≡ Some q → q.offset ≡ r.offset) → guarded.KeepsAlignments g h
 stays_aligned g h divides same t r q a e f d p = (dvd_trans a d divides, subst (λ (n : ℕ). a ∣ n) (sym (same t r q e f)) p)
 
 -- ---- a heap that is changed in place
-sized : (o q : Option Range) → option_map (λ (r : Range). r.size) o ≡ option_map (λ (r : Range). r.size) q → IsSome o → IsSome q
-sized None q e l = absurd (cc)
-sized (Some r) None e l = absurd (cc)
-sized (Some r) (Some s) e l = refl
-
-slid : (g h : Guard) → h ≡ record g { space = h.space } → guarded.KeepsSizes g h → guarded.KeepsAlignments g h → KeepsIn g h
-slid g h serials sizes aligned = record {
-  realm = ap (λ (z : Guard). z.realm) serials;
-  given = omega (arith, ap (λ (z : Guard). z.given) serials);
-  live = λ t early live. sized (guarded.range_of t h) (guarded.range_of t g) (sizes t) live;
-  aligned = aligned;
-}
-
 -- each range begins where it did, and the step is as it was
 stayed : (g h : Guard) → h.step ≡ g.step → ((t : Ticket) (r q : Range) → guarded.range_of t g ≡ Some r → guarded.range_of t h ≡ Some q → q.offset ≡ r.offset) → guarded.KeepsAlignments g h
 stayed g h step same = stays_aligned g h (subst (λ (n : ℕ). g.step ∣ n) (sym step) (dvd_refl g.step)) same
@@ -49,7 +37,7 @@ stayed g h step same = stays_aligned g h (subst (λ (n : ℕ). g.step ∣ n) (sy
 one_range : (o q : Option Range) (r s : Range) → q ≡ o → o ≡ Some r → q ≡ Some s → s.offset ≡ r.offset
 one_range o q r s e f k = let same : Some s ≡ Some r = sym k ∙ e ∙ f in ap (λ (z : Range). z.offset) (let one : s ≡ r = cc in one)
 
-resized : (how : NewSize) (t : Ticket) (d : Bool) (g h : Guard) → Resizes how t d g h → KeepsIn g h
+resized : (how : NewSize) (t : Ticket) (d : Bool) (g h : Guard) → Resizes how t d g h → Continues g h
 resized how t true g h r = units t (units_wanted how) g h r.others r.kept r.serials (r.range refl)
 resized how t false g h r = record {
   realm = r.serials.realm;
@@ -58,7 +46,7 @@ resized how t false g h r = record {
   aligned = stayed g h r.serials.step (λ u p q e f. one_range (guarded.range_of u g) (guarded.range_of u h) p q (range_twin u g h (undone_twin how t g h r)) e f);
 }
 
-extended : (limits : Limits) (k more : ℕ) (d : Bool) (g h : Guard) → ExtendsIf limits k more d g h → KeepsIn g h
+extended : (limits : Limits) (k more : ℕ) (d : Bool) (g h : Guard) → ExtendsIf limits k more d g h → Continues g h
 extended limits k more d g h e = record {
   realm = realm_longer limits k more d g h e;
   given = omega (arith, (serials d e).given);
@@ -115,7 +103,7 @@ module _ (hs ks : Heaps) where
   slides : (k : ℕ) (P : Guard → Guard → Type 0) → (a : Alters k P hs ks) → a.after ≡ record a.before { space = a.after.space } → guarded.KeepsSizes a.before a.after
       → guarded.KeepsAlignments a.before a.after → IsStep hs ks
   slides k P a serials sizes aligned =
-      inr (inr (inr (inr (inr (inl (k, record { before = a.before; after = a.after; heap = a.heap; by = slid a.before a.after serials sizes aligned; heaps = a.heaps }))))))
+      inr (inr (inr (inr (inr (inl (k, record { before = a.before; after = a.after; heap = a.heap; by = slid a.before a.after sizes aligned serials; heaps = a.heaps }))))))
 
   pub compacts : (k : ℕ) → (heap_at k hs ≡ None → IsSame hs ks) → (IsSome (heap_at k hs) → CompactsHeap k hs ks) → IsStep hs ks
   compacts k none step = go (heap_at k hs) refl

@@ -15,5 +15,5 @@ pub returns : goal.returns
 returns g c k number =
     let live = c.is_live.ensures.0 c.if-not-is_live.false in
     relocate_aligned_serves c.args.player.now.space c.relocate_aligned-granted.new.self c.args.player.now.tickets.items c.keep.new.tickets.items c.in-Some.ticket c.relocate_aligned-granted.result _ k c.args.align
-    c.requires.alignment c.requires.all_tickets live (number ∙ ap (λ o. live_name o c.args.player.now.space) c.in-Some.is) c.relocate_aligned-granted.ensures.grants
-    c.relocate_aligned-granted.ensures.same c.relocate_aligned-granted.ensures.serials c.relocate_aligned-granted.ensures.joined (c.relocate_aligned-granted.ensures.step live c.requires.left) c.in_ok-keep.ensures
+    c.requires.alignment c.requires.all_tickets live (number ∙ ap (λ o. live_name o c.args.player.now.space) c.in-Some.is) c.relocate_aligned-granted.ensures.second.request.grants
+    c.relocate_aligned-granted.ensures.second.request.same c.relocate_aligned-granted.ensures.second.request.serials c.relocate_aligned-granted.ensures.aligns.joined (c.relocate_aligned-granted.ensures.step live c.requires.left) c.in_ok-keep.ensures

@@ -8,8 +8,8 @@ pub returns : goal.returns
 returns g c = if_ok c.keep.result
     (λ a k.
     let s = stored c.args.size c.args.player.now.space c.allocate-granted.new.self c.args.player.now.tickets.items c.keep.new.tickets.items c.allocate-granted.result _ c.requires.all_tickets
-    c.allocate-granted.ensures.grants c.allocate-granted.ensures.same k in
+    c.allocate-granted.ensures.request.grants c.allocate-granted.ensures.request.same k in
     let cells = stored_serials c.args.size (call.Command (command.Alloc c.args.size)) c.args.player.now.space c.allocate-granted.new.self c.args.player.now.tickets.items c.keep.new.tickets.items c.allocate-granted.result _ (λ _ cells. refl)
-    c.allocate-granted.ensures.grants c.allocate-granted.ensures.serials k in
+    c.allocate-granted.ensures.request.grants c.allocate-granted.ensures.request.serials k in
     record { takes = (_, (_, c.allocate-granted.ensures.step c.requires.left, s.0), refl); all_tickets = s.1; grown = s.2; serials = cells; realm = s.3; step = c.allocate-granted.ensures.same_step })
     c.keep.ensures

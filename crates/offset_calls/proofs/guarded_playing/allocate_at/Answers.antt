@@ -6,7 +6,7 @@ pub returns : goal.returns
 returns g c =
     let s = stored c.args.size c.args.player.now.space c.allocate_at-granted.new.self c.args.player.now.tickets.items c.keep.new.tickets.items c.allocate_at-granted.result _
     c.requires.all_tickets
-    c.allocate_at-granted.ensures.grants c.allocate_at-granted.ensures.same c.in_ok-keep.ensures in
+    c.allocate_at-granted.ensures.request.grants c.allocate_at-granted.ensures.request.same c.in_ok-keep.ensures in
     let cells = stored_serials c.args.size (call.AllocateAt c.args.offset c.args.size) c.args.player.now.space c.allocate_at-granted.new.self c.args.player.now.tickets.items c.keep.new.tickets.items c.allocate_at-granted.result _ (λ _ cells. refl)
-    c.allocate_at-granted.ensures.grants c.allocate_at-granted.ensures.serials c.in_ok-keep.ensures in
+    c.allocate_at-granted.ensures.request.grants c.allocate_at-granted.ensures.request.serials c.in_ok-keep.ensures in
     record { takes = (_, _, c.allocate_at-granted.ensures.step c.requires.left, s.0, refl); all_tickets = s.1; grown = s.2; serials = cells; realm = s.3; step = c.allocate_at-granted.ensures.same_step }

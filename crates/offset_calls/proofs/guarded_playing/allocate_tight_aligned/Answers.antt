@@ -6,7 +6,7 @@ pub returns : goal.returns
 returns g c =
     let s = stored c.args.size c.args.player.now.space c.allocate_tight_aligned-granted.new.self c.args.player.now.tickets.items c.keep.new.tickets.items c.allocate_tight_aligned-granted.result _
     c.requires.all_tickets
-    c.allocate_tight_aligned-granted.ensures.grants c.allocate_tight_aligned-granted.ensures.same c.in_ok-keep.ensures in
+    c.allocate_tight_aligned-granted.ensures.request.grants c.allocate_tight_aligned-granted.ensures.request.same c.in_ok-keep.ensures in
     let cells = stored_serials c.args.size (call.AllocateTightAligned c.args.size c.args.align) c.args.player.now.space c.allocate_tight_aligned-granted.new.self c.args.player.now.tickets.items c.keep.new.tickets.items c.allocate_tight_aligned-granted.result _ (λ _ cells. refl)
-    c.allocate_tight_aligned-granted.ensures.grants c.allocate_tight_aligned-granted.ensures.serials c.in_ok-keep.ensures in
-    record { takes = (_, _, c.allocate_tight_aligned-granted.ensures.step c.requires.left, s.0, refl); all_tickets = s.1; grown = s.2; serials = cells; realm = s.3; step = stored_step c.args.align c.args.player.now.space c.allocate_tight_aligned-granted.new.self c.args.player.now.tickets.items c.keep.new.tickets.items c.allocate_tight_aligned-granted.result _ c.allocate_tight_aligned-granted.ensures.joined c.allocate_tight_aligned-granted.ensures.serials c.in_ok-keep.ensures }
+    c.allocate_tight_aligned-granted.ensures.request.grants c.allocate_tight_aligned-granted.ensures.request.serials c.in_ok-keep.ensures in
+    record { takes = (_, _, c.allocate_tight_aligned-granted.ensures.step c.requires.left, s.0, refl); all_tickets = s.1; grown = s.2; serials = cells; realm = s.3; step = stored_step c.args.align c.args.player.now.space c.allocate_tight_aligned-granted.new.self c.args.player.now.tickets.items c.keep.new.tickets.items c.allocate_tight_aligned-granted.result _ c.allocate_tight_aligned-granted.ensures.aligns.joined c.allocate_tight_aligned-granted.ensures.request.serials c.in_ok-keep.ensures }

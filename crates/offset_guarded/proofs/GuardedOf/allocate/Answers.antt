@@ -1,7 +1,8 @@
-use Rattle.std.proofs.Common.{Some, refl, subst, sym}
+use Rattle.std.proofs.Common.{Some, refl, subst, sym, rules}
 use Rattle.offset_allocator.specs.Relations.{Allocates}
+use Rattle.offset_allocator.specs.Requests.{CanGrant}
 use Rattle.offset_guarded.specs.Guard.{Guard, Ticket, handle_in}
-use Rattle.offset_guarded.proofs.Guards.{can_grant, granted_as, issued, same_limit_plain}
+use Rattle.offset_guarded.proofs.Guards.{granted_as, issued, same_limit_plain, served}
 use Rattle.offset_guarded.proofs.GuardedOf.allocate.Goals as goal
 
 pub invariant_of-self-in-Some : goal.invariant_of-self-in-Some
@@ -9,15 +10,15 @@ invariant_of-self-in-Some g c =
     issued _ _ 0 _ _ _ _ _ c.self.invariant c.in-Some.ensures.grants c.ticket_for.ensures.cells c.ticket_for.ensures.given
     (same_limit_plain c.args.size _ _ _ c.in-Some.ensures.step) c.ticket_for.ensures.room
 
-pub returns-in-Some-clause-can_grant : goal.returns-in-Some-clause-can_grant
-returns-in-Some-clause-can_grant g c = can_grant 1 c.args.size _ _ c.self.view_is (c.is_spent.ensures.left c.if-is_spent.false) (c.in-Some.ensures.can_grant.0 refl)
-
-pub returns-in-Some-clause-grants : goal.returns-in-Some-clause-grants
-returns-in-Some-clause-grants g c =
-    granted_as g.T.Index.NodeIndex.MAX c.args.size c.self.inside.realm c.self.inside.space c.allocate.new.self c.self.inside.serials c.ticket_for.new.serials c.in-Some.handle
-    c.self.invariant c.in-Some.ensures.grants c.ticket_for.ensures.cells c.ticket_for.ensures.given c.ticket_for.ensures.table c.self.inside.step c.self.inside.step _ _ c.self.view_is c.ticket_for.ensures.ticket
-
-pub returns-in-Some-clause-step : goal.returns-in-Some-clause-step
-returns-in-Some-clause-step g c left =
-    subst (λ (t : Ticket). Allocates c.args.size c.args.self.now.space c.allocate.new.self (Some (handle_in t))) (sym c.ticket_for.ensures.ticket)
-    (subst (λ (k : Guard). Allocates c.args.size k.space c.allocate.new.self (Some c.in-Some.handle)) c.self.view_is c.in-Some.ensures.step)
+pub returns-in-Some : goal.returns-in-Some
+returns-in-Some g c = record {
+  request = granted_as g.T.Index.NodeIndex.MAX c.args.size c.self.inside.realm c.self.inside.space c.allocate.new.self c.self.inside.serials c.ticket_for.new.serials c.in-Some.handle
+      c.self.invariant c.in-Some.ensures.grants c.ticket_for.ensures.cells c.ticket_for.ensures.given c.ticket_for.ensures.table c.self.inside.step c.self.inside.step _ _ c.self.view_is c.ticket_for.ensures.ticket;
+  granted = search rules;
+  can_grant = served (CanGrant 1 c.args.size) _ _ c.self.view_is (c.is_spent.ensures.left c.if-is_spent.false) (c.in-Some.ensures.can_grant.0 refl);
+  step = λ left.
+      subst (λ (t : Ticket). Allocates c.args.size c.args.self.now.space c.allocate.new.self (Some (handle_in t))) (sym c.ticket_for.ensures.ticket)
+      (subst (λ (k : Guard). Allocates c.args.size k.space c.allocate.new.self (Some c.in-Some.handle)) c.self.view_is c.in-Some.ensures.step);
+  same_step = search rules;
+  accesses_max = search rules;
+}

@@ -16,10 +16,10 @@ returns g c =
       was = c.in-Some.is;
       is = refl;
       step = subst (λ (z : Guard). Aligns c.args.size 1 c.in-Some.heap.space z.space (Some (handle_in c.in-Some-allocate_aligned.ticket))) (sym rest) (is.step room.0);
-      grants = restepped c.args.size c.in-Some.heap c.allocate_aligned.new.self c.raise_step.new.self c.in-Some-allocate_aligned.ticket is.grants rest;
-      joined = joined_one c.in-Some.heap.step c.allocate_aligned.new.self.step c.args.align c.raise_step.new.self.step is.joined c.raise_step.ensures.joined;
+      grants = restepped c.args.size c.in-Some.heap c.allocate_aligned.new.self c.raise_step.new.self c.in-Some-allocate_aligned.ticket is.request.grants rest;
+      joined = joined_one c.in-Some.heap.step c.allocate_aligned.new.self.step c.args.align c.raise_step.new.self.step is.aligns.joined c.raise_step.ensures.joined;
       accesses = let same = ap (λ (z : Guard). z.space.accesses) rest in let few = is.accesses_max in omega (arith, same, few);
-      aligned = is.aligned;
+      aligned = is.aligns.aligned;
     }
 
 pub unreachable-requires : goal.unreachable-requires

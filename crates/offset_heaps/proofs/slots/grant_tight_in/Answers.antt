@@ -16,7 +16,7 @@ returns g c =
       was = c.in-Some.is;
       is = refl;
       step = subst (λ (z : Guard). AlignsTight c.args.size 1 c.in-Some.heap.space z.space (Some (handle_in c.in-Some-allocate_tight.ticket))) (sym rest) (is.step holds.0);
-      grants = restepped c.args.size c.in-Some.heap c.allocate_tight.new.self c.raise_step.new.self c.in-Some-allocate_tight.ticket is.grants rest;
+      grants = restepped c.args.size c.in-Some.heap c.allocate_tight.new.self c.raise_step.new.self c.in-Some-allocate_tight.ticket is.request.grants rest;
       joined = subst (λ (n : ℕ). IsJoined n c.args.align c.raise_step.new.self.step) is.same_step c.raise_step.ensures.joined;
       accesses = let same = ap (λ (z : Guard). z.space.accesses) rest in let few = is.accesses_max in omega (arith, same, few);
     }

@@ -1,4 +1,3 @@
-use Rattle.std.proofs.Common.{rules}
 use Rattle.offset_guarded.specs.Guard.{Guard}
 use Rattle.offset_heaps.proofs.Limited.{sound_changed, requested, tight}
 use Rattle.offset_heaps.proofs.heap_mut.HeapMut.allocate_tight_aligned.Goals as goal
@@ -7,17 +6,6 @@ pub invariant_of-heaps : goal.invariant_of-heaps
 invariant_of-heaps g c =
     let before : Guard = c.heap_mut.result.now in
     let after : Guard = c.allocate_tight_aligned-result.new.self in
-    let limited = requested c.args.size before after c.allocate_tight_aligned-result.result c.allocate_tight_aligned-result.ensures.same c.allocate_tight_aligned-result.ensures.grants (λ some. tight c.args.size c.args.align before.space after.space _ (c.allocate_tight_aligned-result.ensures.step (c.allocate_tight_aligned-result.ensures.can_hold.0 some).0)) in
+    let limited = requested c.args.size before after c.allocate_tight_aligned-result.result c.allocate_tight_aligned-result.ensures.request.same c.allocate_tight_aligned-result.ensures.request.grants (λ some. tight c.args.size c.args.align before.space after.space _ (c.allocate_tight_aligned-result.ensures.step (c.allocate_tight_aligned-result.ensures.can_hold.0 some).0)) in
     sound_changed g.T.Index.NodeIndex.MAX c.heaps.inside.slots c.heaps.inside.limits c.heaps.inside.made c.heaps.inside.index c.note.new.self c.args.self.now.number before after c.heaps.invariant
     c.heap_mut.ensures.heap limited c.note.ensures.wide c.note.ensures.here c.note.ensures.others c.note.ensures.levels
-
-pub returns-clause-change : goal.returns-clause-change
-returns-clause-change g c =
-    let e = c.allocate_tight_aligned-result.ensures in
-    record {
-      before = c.heap_mut.result.now;
-      after = c.allocate_tight_aligned-result.new.self;
-      heap = search rules;
-      by = (record { grants = e.grants; same = e.same; serials = e.serials }, record { aligned = e.aligned; joined = e.joined }, e.can_hold, e.step, e.accesses_max);
-      heaps = search rules;
-    }

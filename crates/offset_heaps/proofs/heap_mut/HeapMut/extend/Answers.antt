@@ -1,4 +1,3 @@
-use Rattle.std.proofs.Common.{rules}
 use Rattle.offset_guarded.specs.Guard.{Guard}
 use Rattle.offset_heaps.proofs.Limited.{sound_changed, extended}
 use Rattle.offset_heaps.proofs.heap_mut.HeapMut.extend.Goals as goal
@@ -10,14 +9,3 @@ invariant_of-heaps g c =
     let limited = extended c.args.more before after c.extend-result.result c.extend-result.ensures.serials c.extend-result.ensures.step in
     sound_changed g.T.Index.NodeIndex.MAX c.heaps.inside.slots c.heaps.inside.limits c.heaps.inside.made c.heaps.inside.index c.note.new.self c.args.self.now.number before after c.heaps.invariant
     c.heap_mut.ensures.heap limited c.note.ensures.wide c.note.ensures.here c.note.ensures.others c.note.ensures.levels
-
-pub returns-clause-change : goal.returns-clause-change
-returns-clause-change g c =
-    let e = c.extend-result.ensures in
-    record {
-      before = c.heap_mut.result.now;
-      after = c.extend-result.new.self;
-      heap = search rules;
-      by = (e.kept, e.serials, e.table, e.done, e.same, e.size, e.step, e.accesses_max);
-      heaps = search rules;
-    }

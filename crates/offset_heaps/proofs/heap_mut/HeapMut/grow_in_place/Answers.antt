@@ -1,4 +1,3 @@
-use Rattle.std.proofs.Common.{rules}
 use Rattle.offset_guarded.specs.Guard.{Guard}
 use Rattle.offset_heaps.proofs.Limited.{sound_changed, resized, grown}
 use Rattle.offset_heaps.proofs.heap_mut.HeapMut.grow_in_place.Goals as goal
@@ -10,14 +9,3 @@ invariant_of-heaps g c =
     let limited = resized before after c.grow_in_place-result.result c.grow_in_place-result.ensures.not_live c.grow_in_place-result.ensures.serials (grown c.args.ticket.name c.args.size before.space after.space c.grow_in_place-result.result c.grow_in_place-result.ensures.step) in
     sound_changed g.T.Index.NodeIndex.MAX c.heaps.inside.slots c.heaps.inside.limits c.heaps.inside.made c.heaps.inside.index c.note.new.self c.args.self.now.number before after c.heaps.invariant
     c.heap_mut.ensures.heap limited c.note.ensures.wide c.note.ensures.here c.note.ensures.others c.note.ensures.levels
-
-pub returns-clause-change : goal.returns-clause-change
-returns-clause-change g c =
-    let e = c.grow_in_place-result.ensures in
-    record {
-      before = c.heap_mut.result.now;
-      after = c.grow_in_place-result.new.self;
-      heap = search rules;
-      by = record { live = e.live; done = e.done; range = e.range; others = e.others; kept = e.kept; same = e.same; not_live = e.not_live; step = e.step; serials = e.serials; table = e.table; accesses = e.accesses_max };
-      heaps = search rules;
-    }

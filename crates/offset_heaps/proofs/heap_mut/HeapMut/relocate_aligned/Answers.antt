@@ -1,4 +1,3 @@
-use Rattle.std.proofs.Common.{rules}
 use Rattle.offset_allocator.specs.Ranges.{size_of}
 use Rattle.offset_guarded.specs.Guard.{Guard}
 use Rattle.offset_heaps.proofs.Limited.{sound_changed, requested, relocates}
@@ -8,17 +7,6 @@ pub invariant_of-heaps : goal.invariant_of-heaps
 invariant_of-heaps g c =
     let before : Guard = c.heap_mut.result.now in
     let after : Guard = c.relocate_aligned-result.new.self in
-    let limited = requested (size_of c.args.ticket.name before.space) before after c.relocate_aligned-result.result c.relocate_aligned-result.ensures.same c.relocate_aligned-result.ensures.grants (λ some. relocates c.args.ticket.name c.args.align before.space after.space _ (c.relocate_aligned-result.ensures.step (c.relocate_aligned-result.ensures.live some).0 (c.relocate_aligned-result.ensures.live some).1)) in
+    let limited = requested (size_of c.args.ticket.name before.space) before after c.relocate_aligned-result.result c.relocate_aligned-result.ensures.second.request.same c.relocate_aligned-result.ensures.second.request.grants (λ some. relocates c.args.ticket.name c.args.align before.space after.space _ (c.relocate_aligned-result.ensures.step (c.relocate_aligned-result.ensures.second.live some).0 (c.relocate_aligned-result.ensures.second.live some).1)) in
     sound_changed g.T.Index.NodeIndex.MAX c.heaps.inside.slots c.heaps.inside.limits c.heaps.inside.made c.heaps.inside.index c.note.new.self c.args.self.now.number before after c.heaps.invariant
     c.heap_mut.ensures.heap limited c.note.ensures.wide c.note.ensures.here c.note.ensures.others c.note.ensures.levels
-
-pub returns-clause-change : goal.returns-clause-change
-returns-clause-change g c =
-    let e = c.relocate_aligned-result.ensures in
-    record {
-      before = c.heap_mut.result.now;
-      after = c.relocate_aligned-result.new.self;
-      heap = search rules;
-      by = (record { live = e.live; request = record { grants = e.grants; same = e.same; serials = e.serials }; before = e.before; accesses = e.accesses_max }, record { aligned = e.aligned; joined = e.joined }, e.step);
-      heaps = search rules;
-    }
