@@ -27,8 +27,9 @@ impl Model for Serials {
 }
 
 // Adds a cell at the end of a table that has room for it. `push_reserved`, unlike `push`, promises that the
-// memory stays the same. It is out of line, since each cell is made once.
-#[inline(never)]
+// memory stays the same. It is inlined: out of line a step takes 1 to 2% more instructions by `lto`, though each
+// cell is made once.
+#[inline(always)]
 fn push_within(cells: &mut Vec<u64>, serial: u64)
     requires { vec_len cells.old < vec_capacity cells.old }
     ensures items { cells.new.items ≡ cells.old.items ++ serial ∷ [] }
