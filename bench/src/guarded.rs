@@ -14,18 +14,25 @@ impl<NI: NodeIndex> Space for Guarded<NI> {
 
     #[inline(always)]
     fn request(&mut self, slot: &mut Option<Ticket>, size: u32) -> u64 {
-        *slot = self.allocate(size);
-        match slot {
+        match self.allocate(size) {
             None => REFUSED,
-            Some(ticket) => ticket.offset.into(),
+            Some(ticket) => {
+                *slot = Some(ticket);
+                ticket.offset.into()
+            }
         }
     }
 
     #[inline(always)]
     fn release(&mut self, slot: &mut Option<Ticket>) -> bool {
-        let Some(ticket) = slot.take() else { return false };
-        assert!(self.free(ticket));
-        true
+        match *slot {
+            None => false,
+            Some(ticket) => {
+                *slot = None;
+                assert!(self.free(ticket));
+                true
+            }
+        }
     }
 
     #[inline(always)]
