@@ -2,10 +2,10 @@
 use Rattle.std.proofs.Common.{[], ◌∷◌, map, suc}
 use Rattle.std.proofs.Common.{◌≡◌, ℕ, ◌+◌, ◌<◌, ◌≤◌, Bool, true, false, List, Option, Some, None, MatchOption, Result, Ok, Err, IsSome, is_some, if◌then◌else◌, nat_eq, refl, sym, ap, ap₂, subst, subst₂, ◌∙◌, inl, inr, arith, IsTrue, ◌↔◌}
 use Rattle.std.proofs.lemmas.Bool.{cases_Bool, cases_eq, cases_lt}
-use Rattle.offset_allocator.specs.{Classes.up, Classes.value, Relations.SameState, Requests.blocks_needed, Requests.units_needed, View.IsWellFormed, View.View, View.count_used}
+use Rattle.offset_allocator.specs.{Requests.blocks_needed, Requests.units_needed, View.IsWellFormed, View.count_used}
 use Rattle.offset_allocator.specs.declared.moves.room.RoomCost.{RoomCost}
-use Rattle.offset_allocator.proofs.{DecidedChanges.extends_decided, DecidedChanges.grows_decided, DecidedChanges.shrinks_decided, Moving.DecidedRoomsBySteps.noted_by_decided, Moving.DecidedSteps.compacts_by_decided}
-use Rattle.offset_allocator.specs.{Moving.BySteps.CompactsBy, Moving.Compacting.Move, Moving.RoomBySteps.IsLeastCostBy, Moving.RoomBySteps.MakesRoomBy, Moving.RoomBySteps.names_short}
+use Rattle.offset_allocator.proofs.{DecidedChanges.extends_decided, Moving.DecidedSteps.compacts_by_decided}
+use Rattle.offset_allocator.specs.{Moving.BySteps.CompactsBy, Moving.Compacting.Move}
 use Rattle.std.specs.Int.{IsGcd}
 use Rattle.std.proofs.lemmas.Nat.Gcd.{same_from_IsGcd}
 use Rattle.offset_guarded.specs.Guard.{Guard, serial_of}
@@ -14,23 +14,27 @@ use Rattle.offset_guarded.specs.Answers as tickets
 use Rattle.offset_guarded.specs.Answers.{Notes}
 use Rattle.offset_guarded.specs.Twins.{IsTwin}
 use Rattle.offset_guarded.proofs.Decided.{answers_decided}
-use Rattle.offset_guarded.proofs.Twins.{as_twin, free_twins, kept_twins, slid_twins, twin_sym}
+use Rattle.offset_guarded.proofs.Twins.{as_twin, free_twins, kept_twins, same_twin, slid_twins, twin_sym, twin_trans}
 use Rattle.offset_heaps.specs.declared.limits.Limits.{Limits}
 use Rattle.offset_heaps.specs.declared.place.Granted.{Granted}
 use Rattle.offset_heaps.specs.declared.refusal.Refusal.{Refusal}
 use Rattle.offset_heaps.specs.declared.refusal.Refusal.TheVariants.{Memory}
-use Rattle.offset_heaps.specs.Changing.{CanResizeAt, CanResizeIn, ResizesAt, NewSize, Shrunk, Grown, Alters, CompactsAll, CompactsIn, CompactsSlot, IsCompactible, MakesRoomIn, Resizes, ResizesSpace, can_compact, can_compact_in}
+use Rattle.offset_heaps.specs.Changing.{Alters, CompactsAll, CompactsIn, CompactsSlot, IsCompactible, RetractsTo, can_compact}
 use Rattle.offset_heaps.specs.Extending.{CanExtendIn, ExtendsIf, MustExtend}
-use Rattle.offset_heaps.specs.Heaps.{Heaps, Grants, IsFirstFit, IsRaisedWhere, IsNext, IsWhy, NoneFits, Puts, heap_at, is_empty, empties, live_units_of, numbers, part, slot, step_at, step_of, AreTotals, free_of, largest_room}
+use Rattle.offset_heaps.specs.Heaps.{Heaps, Grants, IsFirstFit, IsRaisedWhere, IsNext, IsWhy, NoneFits, Puts, heap_at, is_empty, empties, least_units, live_units_of, numbers, part, slot, step_at, step_of, AreTotals, free_of, largest_room}
 use Rattle.offset_heaps.specs.{Heaps.range_of, Heaps.room_of, Heaps.total, Heaps.units_of_heap, Histories.ResetsAll, State.quiet, Twins.AreTwins, Twins.IsTwinIn}
 use Rattle.offset_heaps.specs.declared.totals.Totals.{Totals}
 use Rattle.offset_heaps.specs.Places.{Place, ticket_of}
 use Rattle.offset_heaps.specs.Relocating.{HasLive, IsEmptiest, NoneLive, TakesRange, live_units_at, units_in, size_of, IsOwnAlign, offset_in, offset_of}
 use Rattle.offset_heaps.specs.State as state
 use Rattle.offset_heaps.proofs.{States.slot_quiet, Empties.empty_there, Grants.memory_alone, Grants.none_found, Grants.one_reason, Numbers.slot_there}
-use Rattle.offset_heaps.specs.Calls.{Allocates, TakesAll, Call, Allocate, Allocate_tight, Free, Relocate, Drop_empty, Drop_heap, Give_up, Reset, Resize, Extend_heap, Compact_heap, Compact_all, Make_room, On_heap, Answered, Drops, DropsEmpty, Frees, GivesUp, IsStarved, ExtendsOne, Relocates, Reply, Requested, Second, Dropped, Was_done, Resized, Extended, Room_made, Takes, MakesRoomOne, TakesSize, CompactsOne, CompactsEach, RelocatesOwn, Relocate_aligned, TakesOn}
+use Rattle.offset_heaps.specs.Calls.{Allocates, TakesAll, Call, Allocate, Allocate_tight, Free, Relocate, Drop_empty, Drop_heap, Give_up, Reset, Shrink, Grow_in_place, Extend_heap, Compact_heap, Compact_all, Make_room, Retract_heap, On_heap, Answered, Drops, DropsEmpty, Frees, GivesUp, IsStarved, ExtendsOne, Relocates, Reply, Requested, Second, Dropped, Was_done, Resized, Extended, Room_made, Takes, TakesAt, TakesWhere, CompactsEach, RelocatesOwn, Relocate_aligned, TakesOn}
 use Rattle.offset_heaps.proofs.Decided.{first_twins, grants_decided, known, known_at, must_in_twins, next_twins, none_fit_twins, one_first, one_fit, one_next, puts_twins, same_twins, where_twins, why_twins}
+use Rattle.offset_heaps.proofs.Compacted.{compacts, done_is}
 use Rattle.offset_heaps.proofs.DecidedTight.{tights_decided}
+use Rattle.offset_allocator.specs.Moving.Retracting.{CanRetract}
+use Rattle.offset_heaps.proofs.Limited.{unretracted}
+use Rattle.offset_heaps.proofs.Longer.{range_longer, serials_longer}
 use Rattle.offset_heaps.proofs.Raising.{where_formed}
 use Rattle.offset_heaps.proofs.Twins.{none_twins, option_twin, range_twins, reset_twins, room_twins, some_twin, total_twins, twin_some, twins_sym, twins_trans}
 
@@ -107,38 +111,77 @@ alters_twins k P Q hs hs' ks ks' t a b twin =
 before_twins : (k : ℕ) (P Q : Guard → Guard → Type 0) (hs hs' ks ks' : Heaps) → AreTwins hs hs' → (a : Alters k P hs ks) → (b : Alters k Q hs' ks') → IsTwin a.before b.before
 before_twins k P Q hs hs' ks ks' t a b = some_twin a.before b.before (heap_at k hs) (heap_at k hs') a.heap b.heap (t.heaps k)
 
-space_decided : (how : NewSize) (x : ℕ) (v v' w w' : View) → IsWellFormed v → SameState v v' → (r : Bool) → ResizesSpace how x v w r → ResizesSpace how x v' w' r → SameState w w'
-space_decided (Shrunk n) x v v' w w' known same true s s' = (shrinks_decided x n v v' w w' known same true true s s').1
-space_decided (Grown n) x v v' w w' known same true s s' = (grows_decided x n v v' w w' known same true true s s').1
-space_decided how x v v' w w' known same false s s' =
-    s' ∙ ap (λ (z : View). record z { accesses = w'.accesses }) same ∙ ap (λ (z : View). record z { accesses = w'.accesses }) (sym s)
+-- ---- calls of tickets on one heap
+pub on_heap_decided : (k : ℕ) (c : tickets.Call) (hs hs' ks ks' : Heaps) → state.IsWellFormed hs → AreTwins hs hs' → (a a' : tickets.Answer) (ms ms' : List Move)
+    → TakesOn k c hs ks a ms → TakesOn k c hs' ks' a' ms' → (a ≡ a') × (ms ≡ ms') × AreTwins ks ks'
+on_heap_decided k c hs hs' ks ks' is t a a' ms ms' x y =
+    let P : Guard → Guard → Type 0 = λ g h. tickets.Answers c g h a ms in
+    let Q : Guard → Guard → Type 0 = λ g h. tickets.Answers c g h a' ms' in
+    let before = before_twins k P Q hs hs' ks ks' t x y in
+    let e = answers_decided c x.before y.before x.after y.after (known_at hs (known hs is) k x.before x.heap) before a a' ms ms' x.by y.by in
+    (e.0, e.1, alters_twins k P Q hs hs' ks ks' t x y e.2)
 
-can_at : (how : NewSize) (p : Place) (hs ks : Heaps) → AreTwins hs ks → CanResizeAt how p hs → CanResizeAt how p ks
-can_at how p hs ks t can = go how (heap_at p.heap hs) (heap_at p.heap ks) (t.heaps p.heap) can
+-- where the number has one
+where_decided : (k : ℕ) (c : tickets.Call) (without : tickets.Answer) (hs hs' ks ks' : Heaps) → state.IsWellFormed hs → AreTwins hs hs' → (a a' : tickets.Answer)
+    → TakesWhere k c without hs ks a → TakesWhere k c without hs' ks' a' → (a ≡ a') × AreTwins ks ks'
+where_decided k c without hs hs' ks ks' is t a a' x y = go (heap_at k hs) refl
   where
-    go : (how : NewSize) (o q : Option Guard) → IsTwinIn o q → CanResizeIn how p.name o → CanResizeIn how p.name q
-    go how None q u can = absurd can
-    go (Shrunk n) (Some g) q u can =
-        subst (CanResizeIn (Shrunk n) p.name) (sym u.1) (subst (λ (z : Guard). CanResizeIn (Shrunk n) p.name (Some z)) (sym (as_twin g u.0 u.2)) can)
-    go (Grown n) (Some g) q u can =
-        subst (CanResizeIn (Grown n) p.name) (sym u.1) (subst (λ (z : Guard). CanResizeIn (Grown n) p.name (Some z)) (sym (as_twin g u.0 u.2)) can)
+    go : (o : Option Guard) → heap_at k hs ≡ o → (a ≡ a') × AreTwins ks ks'
+    go None e =
+        let m = x.none e in
+        let n = y.none (none_twins hs hs' t k e) in
+        (m.1 ∙ sym n.1, same_twins hs hs' ks ks' t m.0 n.0)
+    go (Some g) e =
+        let m = x.step (ap is_some e) in
+        let n = y.step (some_twins hs hs' t k ∙ ap is_some e) in
+        let one = on_heap_decided k c hs hs' ks ks' is t a a' m.0 n.0 m.1 n.1 in
+        (one.0, one.2)
 
-size_same : (how : NewSize) (p : Place) (d : Bool) (hs hs' ks ks' : Heaps) → state.IsWellFormed hs → AreTwins hs hs' → ResizesAt how p hs ks d → ResizesAt how p hs' ks' d → AreTwins ks ks'
-size_same how p d hs hs' ks ks' is t a b =
-    let P = Resizes how (ticket_of p) d in
-    let before = before_twins p.heap P P hs hs' ks ks' t a b in
-    let one = space_decided how p.name a.before.space b.before.space a.after.space b.after.space (known_at hs (known hs is) p.heap a.before a.heap) before.space d a.by.step b.by.step in
-    alters_twins p.heap P P hs hs' ks ks' t a b (kept_twins a.before b.before a.after b.after before a.by.serials b.by.serials a.by.kept one)
+pub room_decided : (k size align : ℕ) (hs hs' ks ks' : Heaps) → state.IsWellFormed hs → AreTwins hs hs' → (r r' : Option RoomCost)
+    → TakesWhere k (tickets.Call.Make_room size align) (tickets.Answer.Room_made None) hs ks (tickets.Answer.Room_made r)
+    → TakesWhere k (tickets.Call.Make_room size align) (tickets.Answer.Room_made None) hs' ks' (tickets.Answer.Room_made r') → (r ≡ r') × AreTwins ks ks'
+room_decided k size align hs hs' ks ks' is t r r' x y =
+    let one = where_decided k (tickets.Call.Make_room size align) (tickets.Answer.Room_made None) hs hs' ks ks' is t (tickets.Answer.Room_made r) (tickets.Answer.Room_made r') x y in
+    let e = one.0 in
+    (cc, one.1)
 
-pub size_decided : (how : NewSize) (p : Place) (hs hs' ks ks' : Heaps) → state.IsWellFormed hs → AreTwins hs hs' → (r r' : Option Bool) → TakesSize how p hs ks r → TakesSize how p hs' ks' r' → (r ≡ r') × AreTwins ks ks'
-size_decided how p hs hs' ks ks' is t None None x y = (refl, same_twins hs hs' ks ks' t (x.not_live refl) (y.not_live refl))
-size_decided how p hs hs' ks ks' is t None (Some d) x y = absurd (let e : false ≡ true = x.live.1 (subst (λ o. is_some o ≡ true) (range_twins hs hs' t p) (y.live.0 refl)) in cc)
-size_decided how p hs hs' ks ks' is t (Some d) None x y = absurd (let e : false ≡ true = y.live.1 (subst (λ o. is_some o ≡ true) (sym (range_twins hs hs' t p)) (x.live.0 refl)) in cc)
-size_decided how p hs hs' ks ks' is t (Some true) (Some false) x y = absurd (let e : false ≡ true = y.done.1 (can_at how p hs hs' t (x.done.0 refl)) in cc)
-size_decided how p hs hs' ks ks' is t (Some false) (Some true) x y = absurd (let e : false ≡ true = x.done.1 (can_at how p hs' hs (twins_sym hs hs' t) (y.done.0 refl)) in cc)
-size_decided how p hs hs' ks ks' is t (Some true) (Some true) x y = (refl, size_same how p true hs hs' ks ks' is t x.step y.step)
-size_decided how p hs hs' ks ks' is t (Some false) (Some false) x y = (refl, size_same how p false hs hs' ks ks' is t x.step y.step)
+-- and where the range of a place is live
+pub size_decided : (p : Place) (c : tickets.Call) (hs hs' ks ks' : Heaps) → state.IsWellFormed hs → AreTwins hs hs' → (r r' : Option Bool) → TakesAt p c hs ks r → TakesAt p c hs' ks' r' → (r ≡ r') × AreTwins ks ks'
+size_decided p c hs hs' ks ks' is t None None x y = (refl, same_twins hs hs' ks ks' t (x.not_live refl) (y.not_live refl))
+size_decided p c hs hs' ks ks' is t None (Some d) x y = absurd (let e : false ≡ true = x.live.1 (subst (λ o. is_some o ≡ true) (range_twins hs hs' t p) (y.live.0 refl)) in cc)
+size_decided p c hs hs' ks ks' is t (Some d) None x y = absurd (let e : false ≡ true = y.live.1 (subst (λ o. is_some o ≡ true) (sym (range_twins hs hs' t p)) (x.live.0 refl)) in cc)
+size_decided p c hs hs' ks ks' is t (Some d) (Some d') x y =
+    let one = on_heap_decided p.heap c hs hs' ks ks' is t (tickets.Answer.Resized (Some d)) (tickets.Answer.Resized (Some d')) [] [] (x.step refl) (y.step refl) in
+    let e = one.0 in
+    (cc, one.2)
 
+-- ---- fewer units
+can_retract_twin : (limits : Limits) (k less : ℕ) (g h : Guard) → IsTwin g h → (least_units limits k + less ≤ g.space.size) × (1 ≤ less → CanRetract less g.space)
+    → (least_units limits k + less ≤ h.space.size) × (1 ≤ less → CanRetract less h.space)
+can_retract_twin limits k less g h t can = subst (λ (z : Guard). (least_units limits k + less ≤ z.space.size) × (1 ≤ less → CanRetract less z.space)) (sym (as_twin g h t)) can
+
+retracts_twins : (limits : Limits) (k less : ℕ) (r r' : Bool) (g g' h h' : Guard) → IsWellFormed g.space → IsTwin g g' → RetractsTo limits k less r g h → RetractsTo limits k less r' g' h' → (r ≡ r') × IsTwin h h'
+retracts_twins limits k less true false g g' h h' known t x y = absurd (let e : false ≡ true = y.done.1 (can_retract_twin limits k less g g' t (x.done.0 refl)) in cc)
+retracts_twins limits k less false true g g' h h' known t x y = absurd (let e : false ≡ true = x.done.1 (can_retract_twin limits k less g' g (twin_sym g g' t) (y.done.0 refl)) in cc)
+retracts_twins limits k less false false g g' h h' known t x y = (
+  refl,
+  twin_trans h g h' (twin_sym g h (same_twin g h (unretracted less g h (x.same refl)))) (twin_trans g g' h' t (same_twin g' h' (unretracted less g' h' (y.same refl)))),
+)
+retracts_twins limits k less true true g g' h h' known t x y =
+    let e = answers_decided (tickets.Call.Retract less) g g' h h' known t (tickets.Answer.Was_done true) (tickets.Answer.Was_done true) [] [] (true, refl, x.step refl, refl) (true, refl, y.step refl, refl) in
+    (refl, e.2)
+
+pub retracts_decided : (k less : ℕ) (hs hs' ks ks' : Heaps) → state.IsWellFormed hs → AreTwins hs hs' → (r r' : Bool) → Alters k (RetractsTo hs.limits k less r) hs ks → Alters k (RetractsTo hs'.limits k less r') hs' ks'
+    → (r ≡ r') × AreTwins ks ks'
+retracts_decided k less hs hs' ks ks' is t r r' x y =
+    let P : Guard → Guard → Type 0 = RetractsTo hs.limits k less r in
+    let Q : Guard → Guard → Type 0 = RetractsTo hs'.limits k less r' in
+    let before = before_twins k P Q hs hs' ks ks' t x y in
+    let by = subst (λ (l : Limits). RetractsTo l k less r' y.before y.after) t.limits y.by in
+    let e = retracts_twins hs.limits k less r r' x.before y.before x.after y.after (known_at hs (known hs is) k x.before x.heap) before x.by by in
+    (e.0, alters_twins k P Q hs hs' ks ks' t x y e.1)
+
+-- ---- more units
 can_extend_twins : (k more : ℕ) (hs ks : Heaps) → AreTwins hs ks → CanExtendIn hs.limits k more (heap_at k hs) → CanExtendIn ks.limits k more (heap_at k ks)
 can_extend_twins k more hs ks t can = subst (λ (l : Limits). CanExtendIn l k more (heap_at k ks)) (sym t.limits) (go (heap_at k hs) (heap_at k ks) (t.heaps k) can)
   where
@@ -172,8 +215,11 @@ lengthens_decided k more hs hs' ks ks' is t (Ok true) (Ok true) x y m n =
     let well = known_at hs (known hs is) k a.before a.heap in
     let between = where_twins (MustExtend hs.limits k more) hs.limits (must_extend_twin hs.limits k more) a.before b.before a.by.between b.by.between before (twin_sym a.before b.before before) a.by.raised
     (subst (λ (l : Limits). IsRaisedWhere (MustExtend l k more) l b.before b.by.between) t.limits b.by.raised) in
-    let one = extends_decided more a.by.between.space b.by.between.space a.after.space b.after.space (where_formed (MustExtend hs.limits k more) hs.limits k (λ g must. (must.2.0, must.2.1)) a.before a.by.between a.by.raised well) between.space true true a.by.step b.by.step in
-    (refl, alters_twins k P Q hs hs' ks ks' t a b (kept_twins a.before b.before a.after b.after before a.by.serials b.by.serials (λ u. ap is_some (a.by.kept u)) one.1))
+    let one = extends_decided more a.by.between.space b.by.between.space a.after.space b.after.space (where_formed (MustExtend hs.limits k more) hs.limits k (λ g must. (must.2.0, must.2.1)) a.before a.by.between a.by.raised well) between.space true true a.by.by.step b.by.by.step in (
+      refl,
+      alters_twins k P Q hs hs' ks ks' t a b (kept_twins a.before b.before a.after b.after before (serials_longer hs.limits k more true a.before a.after a.by)
+          (serials_longer hs'.limits k more true b.before b.after b.by) (λ u. ap is_some (range_longer hs.limits k more true a.before a.after a.by u)) one.1),
+    )
 
 -- what compacting leaves of two twins
 compact_twins : (g g' h h' : Guard) → IsTwin g g' → CompactsIn g h → CompactsIn g' h' → IsTwin h h'
@@ -188,17 +234,36 @@ compact_twins g g' h h' twin f f' = elim (cases_lt 0 g.step) [
 can_twin : (g h : Guard) → IsTwin g h → can_compact h ≡ can_compact g
 can_twin g h t = ap can_compact (as_twin g h t)
 
-pub compacts_one_decided : (k : ℕ) (hs hs' ks ks' : Heaps) → AreTwins hs hs' → (r r' : Bool) → CompactsOne k hs ks r → CompactsOne k hs' ks' r' → (r ≡ r') × AreTwins ks ks'
-compacts_one_decided k hs hs' ks ks' t r r' x y =
-    (x.done ∙ sym (option_twin can_compact_in (heap_at k hs) (heap_at k hs') can_twin (t.heaps k)) ∙ sym y.done, go (heap_at k hs) refl)
+slid_in : (g h : Guard) (r : Bool) (ms : List Move) → tickets.Answers tickets.Call.Compact g h (tickets.Answer.Was_done r) ms → CompactsIn g h × (r ≡ can_compact g)
+slid_in g h r ms a =
+    let e = a.1 in
+    let same : r ≡ a.0 = cc in
+    let x = a.2 in
+    let is : a.0 ≡ can_compact g = done_is g h a.0 x.step x.none in
+    (compacts g h a.0 is x.step x.none x.serials x.sizes x.aligned x.accesses_max, same ∙ is)
+
+pub compacts_one_decided : (k : ℕ) (hs hs' ks ks' : Heaps) → AreTwins hs hs' → (r r' : Bool)
+    → TakesWhere k tickets.Call.Compact (tickets.Answer.Was_done false) hs ks (tickets.Answer.Was_done r)
+    → TakesWhere k tickets.Call.Compact (tickets.Answer.Was_done false) hs' ks' (tickets.Answer.Was_done r') → (r ≡ r') × AreTwins ks ks'
+compacts_one_decided k hs hs' ks ks' t r r' x y = go (heap_at k hs) refl
   where
-    go : (o : Option Guard) → heap_at k hs ≡ o → AreTwins ks ks'
-    go None e = same_twins hs hs' ks ks' t (x.none e) (y.none (none_twins hs hs' t k e))
+    go : (o : Option Guard) → heap_at k hs ≡ o → (r ≡ r') × AreTwins ks ks'
+    go None e =
+        let m = x.none e in
+        let n = y.none (none_twins hs hs' t k e) in
+        let f = m.1 ∙ sym n.1 in
+        (cc, same_twins hs hs' ks ks' t m.0 n.0)
     go (Some g) e =
-        let a = x.step (ap is_some e) in
-        let b = y.step (some_twins hs hs' t k ∙ ap is_some e) in
-        let before = before_twins k CompactsIn CompactsIn hs hs' ks ks' t a b in
-        alters_twins k CompactsIn CompactsIn hs hs' ks ks' t a b (compact_twins a.before b.before a.after b.after before a.by b.by)
+        let m = x.step (ap is_some e) in
+        let n = y.step (some_twins hs hs' t k ∙ ap is_some e) in
+        let a = m.1 in
+        let b = n.1 in
+        let P : Guard → Guard → Type 0 = λ g h. tickets.Answers tickets.Call.Compact g h (tickets.Answer.Was_done r) m.0 in
+        let Q : Guard → Guard → Type 0 = λ g h. tickets.Answers tickets.Call.Compact g h (tickets.Answer.Was_done r') n.0 in
+        let before = before_twins k P Q hs hs' ks ks' t a b in
+        let c = slid_in a.before a.after r m.0 a.by in
+        let d = slid_in b.before b.after r' n.0 b.by in
+        (c.1 ∙ sym (can_twin a.before b.before before) ∙ sym d.1, alters_twins k P Q hs hs' ks ks' t a b (compact_twins a.before b.before a.after b.after before c.0 d.0))
 
 compacted_twins : (o o' p p' : Option Guard) → IsTwinIn o o' → CompactsSlot o p → CompactsSlot o' p' → IsTwinIn p p'
 compacted_twins None o' p p' twin f f' =
@@ -237,55 +302,6 @@ compacts_all_decided hs hs' ks ks' t r r' x y = (one r r' x.done y.done, compact
     one false false f k = refl
     one true false f k = absurd (let e : false ≡ true = k.1 (there (f.0 refl)) in cc)
     one false true f k = absurd (let e : false ≡ true = f.1 (back (k.0 refl)) in cc)
-
-pub room_decided : (k size align : ℕ) (hs hs' ks ks' : Heaps) → state.IsWellFormed hs → AreTwins hs hs' → (r r' : Option RoomCost) → MakesRoomOne k size align hs ks r → MakesRoomOne k size align hs' ks' r' → (r ≡ r') × AreTwins ks ks'
-room_decided k size align hs hs' ks ks' is t r r' x y = go (heap_at k hs) refl
-  where
-    want : ℕ
-    want = value (up (units_needed size align))
-
-    blocks : ℕ
-    blocks = blocks_needed align
-
-    made : (g g' h h' : Guard) (xs xs' : List Move) → IsWellFormed g.space → IsTwin g g' → MakesRoomIn Notes size align [] r xs g h → MakesRoomIn Notes size align [] r' xs' g' h' → (r ≡ r') × IsTwin h h'
-    made g g' h h' xs xs' known twin m n = elim (cases_lt 0 g.step) [
-      | inl some ↦
-          let some' : 1 ≤ g'.step = omega (arith, some, twin.step) in
-          let one = noted_by_decided g.step want blocks g.space g'.space h.space h'.space known twin.space r r' xs xs' (m.cost some)
-          (subst (λ s. IsLeastCostBy s want (names_short blocks g'.space) g'.space.blocks r') twin.step (n.cost some')) (m.step some)
-          (subst (λ s. MakesRoomBy Notes s want (names_short blocks g'.space) g'.space [] r' h'.space xs') twin.step (n.step some')) in
-          (one.0, slid_twins g g' h h' twin m.serials n.serials m.sizes one.2)
-      | inr lack ↦
-          let e = m.none (omega (arith, lack)) in
-          let f = n.none (omega (arith, lack, twin.step)) in
-          (e.0 ∙ sym f.0, subst₂ IsTwin (sym e.1) (sym f.1) twin)
-    ]
-
-    go : (o : Option Guard) → heap_at k hs ≡ o → (r ≡ r') × AreTwins ks ks'
-    go None e =
-        let a = x.none e in
-        let b = y.none (none_twins hs hs' t k e) in
-        (a.1 ∙ sym b.1, same_twins hs hs' ks ks' t a.0 b.0)
-    go (Some g) e =
-        let m = x.step (ap is_some e) in
-        let n = y.step (some_twins hs hs' t k ∙ ap is_some e) in
-        let P = MakesRoomIn Notes size align [] r m.0 in
-        let Q = MakesRoomIn Notes size align [] r' n.0 in
-        let a = m.1 in
-        let b = n.1 in
-        let before = before_twins k P Q hs hs' ks ks' t a b in
-        let one = made a.before b.before a.after b.after m.0 n.0 (known_at hs (known hs is) k a.before a.heap) before a.by b.by in
-        (one.0, alters_twins k P Q hs hs' ks ks' t a b one.1)
-
--- ---- calls of tickets on one heap
-pub on_heap_decided : (k : ℕ) (c : tickets.Call) (hs hs' ks ks' : Heaps) → state.IsWellFormed hs → AreTwins hs hs' → (a a' : tickets.Answer) (ms ms' : List Move)
-    → TakesOn k c hs ks a ms → TakesOn k c hs' ks' a' ms' → (a ≡ a') × (ms ≡ ms') × AreTwins ks ks'
-on_heap_decided k c hs hs' ks ks' is t a a' ms ms' x y =
-    let P : Guard → Guard → Type 0 = λ g h. tickets.Answers c g h a ms in
-    let Q : Guard → Guard → Type 0 = λ g h. tickets.Answers c g h a' ms' in
-    let before = before_twins k P Q hs hs' ks ks' t x y in
-    let e = answers_decided c x.before y.before x.after y.after (known_at hs (known hs is) k x.before x.heap) before a a' ms ms' x.by y.by in
-    (e.0, e.1, alters_twins k P Q hs hs' ks ks' t x y e.2)
 
 -- ---- second ranges
 module _ (p : Place) (hs ks : Heaps) (t : AreTwins hs ks) where
@@ -478,13 +494,15 @@ takes_decided (Drop_empty keep) hs hs' ks ks' is t r r' x y m n = let e = drops_
 takes_decided (Drop_heap k) hs hs' ks ks' is t r r' x y m n = let e = drops_decided k hs hs' ks ks' t x.0 y.0 x.2 y.2 in (x.1 ∙ ap Was_done e.0 ∙ sym y.1, e.1)
 takes_decided (Give_up k) hs hs' ks ks' is t r r' x y m n = let e = gives_up_decided k hs hs' ks ks' t x.0 y.0 x.2 y.2 in (x.1 ∙ ap Was_done e.0 ∙ sym y.1, e.1)
 takes_decided Reset hs hs' ks ks' is t r r' x y m n = (x.0 ∙ sym y.0, resets_decided hs hs' ks ks' is t x.1 y.1)
-takes_decided (Resize how p) hs hs' ks ks' is t r r' x y m n = let e = size_decided how p hs hs' ks ks' is t x.0 y.0 x.2 y.2 in (x.1 ∙ ap Resized e.0 ∙ sym y.1, e.1)
+takes_decided (Shrink p size) hs hs' ks ks' is t r r' x y m n = let e = size_decided p (tickets.Call.Shrink (ticket_of p) size) hs hs' ks ks' is t x.0 y.0 x.2 y.2 in (x.1 ∙ ap Resized e.0 ∙ sym y.1, e.1)
+takes_decided (Grow_in_place p size) hs hs' ks ks' is t r r' x y m n = let e = size_decided p (tickets.Call.Grow_in_place (ticket_of p) size) hs hs' ks ks' is t x.0 y.0 x.2 y.2 in (x.1 ∙ ap Resized e.0 ∙ sym y.1, e.1)
 takes_decided (Extend_heap k more) hs hs' ks ks' is t r r' x y m n =
     let e = lengthens_decided k more hs hs' ks ks' is t x.0 y.0 x.2 y.2 (λ e q. m (inr (e, x.1 ∙ ap Extended q))) (λ e q. n (inr (e, y.1 ∙ ap Extended q))) in
     (x.1 ∙ ap Extended e.0 ∙ sym y.1, e.1)
 takes_decided (Compact_heap k) hs hs' ks ks' is t r r' x y m n = let e = compacts_one_decided k hs hs' ks ks' t x.0 y.0 x.2 y.2 in (x.1 ∙ ap Was_done e.0 ∙ sym y.1, e.1)
 takes_decided Compact_all hs hs' ks ks' is t r r' x y m n = let e = compacts_all_decided hs hs' ks ks' t x.0 y.0 x.2 y.2 in (x.1 ∙ ap Was_done e.0 ∙ sym y.1, e.1)
 takes_decided (Make_room k size align) hs hs' ks ks' is t r r' x y m n = let e = room_decided k size align hs hs' ks ks' is t x.0 y.0 x.2 y.2 in (x.1 ∙ ap Room_made e.0 ∙ sym y.1, e.1)
+takes_decided (Retract_heap k less) hs hs' ks ks' is t r r' x y m n = let e = retracts_decided k less hs hs' ks ks' is t x.0 y.0 x.2 y.2 in (x.1 ∙ ap Was_done e.0 ∙ sym y.1, e.1)
 takes_decided (On_heap k c) hs hs' ks ks' is t r r' x y m n = let e = on_heap_decided k c hs hs' ks ks' is t x.0 y.0 x.1 y.1 x.3 y.3 in (x.2 ∙ ap₂ Answered e.0 e.1 ∙ sym y.2, e.2)
 
 pub taken_decided : (cs : List Call) (hs hs' ks ks' : Heaps) → state.IsWellFormed hs → AreTwins hs hs' → (rs rs' : List Reply) → TakesAll hs cs rs ks → TakesAll hs' cs rs' ks' → (rs ≡ rs') × AreTwins ks ks'

@@ -17,7 +17,6 @@ pub mod Foretold
 pub mod Grants
 pub mod Histories
 pub mod Holders
-pub mod InPlace
 pub mod Limited
 pub mod LivePlaces
 pub mod Longer
@@ -29,6 +28,7 @@ pub mod Refusals
 pub mod Rooms
 pub mod Shapes
 pub mod Sound
+pub mod Spaces
 pub mod Squares
 pub mod States
 pub mod Sums

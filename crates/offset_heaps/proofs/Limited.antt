@@ -1,6 +1,6 @@
 -- A heap that a call changes in place keeps its realm, its node limit and the least units of its number: so the index and the
 -- heaps stay right.
-use Rattle.std.proofs.Common.{◌≡◌, ◌↔◌, ℕ, ◌+◌, ◌≤◌, Bool, true, false, IsTrue, if◌then◌else◌, List, Option, Some, None, IfSome, IsSome, option_map, slice_set, is_some, refl, ap, ◌∙◌, inl, inr, arith}
+use Rattle.std.proofs.Common.{◌⊎◌, sym, subst, ◌≡◌, ◌↔◌, ℕ, ◌+◌, ◌≤◌, Bool, true, false, IsTrue, if◌then◌else◌, List, Option, Some, None, IfSome, IsSome, option_map, slice_set, is_some, refl, ap, ◌∙◌, inl, inr, arith}
 use Rattle.std.proofs.lemmas.Bool.{cases_eq, cases_lt, le-ltb, lt-ltb}
 use Rattle.std.specs.Int.{IsGcd}
 use Rattle.offset_allocator.specs.AtOffset.{AllocatesAt}
@@ -180,6 +180,11 @@ retracted less v w (inr c) = ap (λ (z : View). z.max_allocs) c.1.view
 same_limited : (g h : Guard) → guarded.IsSame g h → IsLimited g h
 same_limited g h s = record { realm = s.1.realm; space = stays g.space h.space s.0 }
 
+-- where units do not go, all is as it was
+pub unretracted : (less : ℕ) (g h : Guard) → (h ≡ g) ⊎ tickets.Retracts less g h false → guarded.IsSame g h
+unretracted less g h (inl e) = subst (guarded.IsSame g) (sym e) (refl, record { cells = λ x. refl; given = refl; realm = refl; step = refl })
+unretracted less g h (inr x) = x.same refl
+
 shorter_kind : (limits : Limits) (k less : ℕ) (g h : Guard) → least_units limits k + less ≤ g.space.size → h.space.size + less ≡ g.space.size → h.space.max_allocs ≡ g.space.max_allocs
     → IsOfKind limits k g → IsOfKind limits k h
 shorter_kind limits k less g h enough size limit (inl u) =
@@ -210,11 +215,11 @@ module _ (max : ℕ) (slots : List (Option Guard)) (limits : Limits) (made : ℕ
 
   -- units at the end went, and it has those of its kind
   pub sound_shorter : (less : ℕ) (r : Bool) → IsTrue r ↔ ((least_units limits k + less ≤ g.space.size) × (1 ≤ less → CanRetract less g.space)) → (r ≡ true → tickets.Retracts less g h true)
-      → (r ≡ false → guarded.IsSame g h)
+      → (r ≡ false → (h ≡ g) ⊎ tickets.Retracts less g h false)
       → IsWide (slice_set slots k (Some h)) new → IsNoted limits (slice_set slots k (Some h)) new k
       → ((j : ℕ) → (j ≡ k → ⊥) → IsNoted limits (slice_set slots k (Some h)) old j → IsNoted limits (slice_set slots k (Some h)) new j)
       → new.one.height ≡ old.one.height → IsSound max (slice_set slots k (Some h)) limits made new
-  sound_shorter less false done step same = sound_changed (same_limited g h (same refl))
+  sound_shorter less false done step same = sound_changed (same_limited g h (unretracted less g h (same refl)))
   sound_shorter less true done step same =
       let x = step refl in
       sound_kind (ap (λ (z : Guard). z.realm) x.serials) (shorter_kind limits k less g h (done.0 refl).0 (x.size refl) (retracted less g.space h.space x.step))

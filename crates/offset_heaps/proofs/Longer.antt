@@ -1,10 +1,11 @@
 -- Heaps whose space becomes larger in place.
-use Rattle.std.proofs.Common.{◌≡◌, ◌↔◌, ℕ, suc, ◌+◌, ◌<◌, ◌≤◌, ◌⊎◌, Bool, true, false, List, [], ◌∷◌, ◌++◌, Option, Some, None, IfSome, IsTrue, length, length-append, reverse, if◌then◌else◌, refl, sym, ap, subst, ◌∙◌, inl, inr, arith}
+use Rattle.std.proofs.Common.{◌≡◌, ◌↔◌, ℕ, suc, ◌+◌, ◌<◌, ◌≤◌, ◌⊎◌, Bool, true, false, List, [], ◌∷◌, ◌++◌, Option, Some, None, IfSome, length, length-append, reverse, if◌then◌else◌, refl, sym, ap, subst, ◌∙◌, inl, inr, arith}
 use Rattle.std.proofs.lemmas.Bool.{cases_Bool}
 use Rattle.offset_allocator.specs.{Relations.CanExtend, Relations.Extends, Reporting.Listing.Placed, Reporting.Listing.listing, Reporting.Listing.placed, Reporting.Listing.placed_at, Requests.AdmitsBlocks, View.Block, View.Handle, View.IsWellFormed, View.View, View.units}
 use Rattle.offset_allocator.proofs.Reporting.Nearby.{back}
 use Rattle.offset_guarded.specs.Guard.{Guard}
 use Rattle.offset_guarded.specs.Guard as guarded
+use Rattle.offset_guarded.specs.Answers as tickets
 use Rattle.offset_guarded.proofs.Twins.{range_twin, same_twin}
 use Rattle.offset_heaps.specs.declared.limits.Limits.{Limits}
 use Rattle.offset_heaps.specs.Extending.{CanExtendIn, EndsFree, ExtendsIf, ExtendsIn, MustExtend}
@@ -109,33 +110,34 @@ longer_same : {A : Type 0} (limits : Limits) (k more : ℕ) (f : Guard → A) �
 longer_same limits k more f same g h raised = where_same (MustExtend limits k more) limits k (may limits k more) f same g h raised
 
 pub extends_if : (limits : Limits) (k more : ℕ) (done : Bool) (g b h : Guard) → IsWellFormed g.space → IsOfKind limits k g → g.space.size + more ≤ 4294967295
-    → IsRaisedWhere (MustExtend limits k more) limits g b → IsTrue done ↔ (1 ≤ more → CanExtend more b.space) → (IsTrue done → h.space.size ≡ b.space.size + more) → guarded.KeepsAll b h
-    → (done ≡ false → guarded.IsSame b h) → Extends more b.space h.space done → guarded.KeepsSerials b h → h.space.accesses ≤ b.space.accesses + 128 → ExtendsIf limits k more done g h
-extends_if limits k more true g b h known kind fits raised can size kept same step serials few =
+    → IsRaisedWhere (MustExtend limits k more) limits g b → tickets.Extends more b h done → ExtendsIf limits k more done g h
+extends_if limits k more true g b h known kind fits raised x = record { between = b; raised = raised; by = x }
+extends_if limits k more false g b h known kind fits (inl up) x =
+    absurd (let e : false ≡ true = x.done.1 ((can_extend limits k more g b known kind fits (inl up)).1 (can_raised limits k more g known up.0 fits)) in cc)
+extends_if limits k more false g b h known kind fits (inr stays) x = inr (subst (λ (z : Guard). tickets.Extends more z h false) stays.1 x)
+
+-- where it is refused, or not asked, all is as it was
+pub refused_same : (limits : Limits) (k more : ℕ) (g h : Guard) → ExtendsIf limits k more false g h → guarded.IsSame g h
+refused_same limits k more g h (inl e) = subst (guarded.IsSame g) (sym e) (refl, record { cells = λ x. refl; given = refl; realm = refl; step = refl })
+refused_same limits k more g h (inr x) = x.same refl
+
+pub serials_longer : (limits : Limits) (k more : ℕ) (done : Bool) (g h : Guard) → ExtendsIf limits k more done g h → guarded.KeepsSerials g h
+serials_longer limits k more true g h e =
+    let s = e.by.serials in
     record {
-      between = b;
-      raised = raised;
-      step = step;
-      size = size refl ∙ ap (λ n. n + more) (longer_same limits k more (λ (z : Guard). z.space.size) (λ limit g. refl) g b raised);
-      serials = record {
-        cells = λ x. serials.cells x ∙ longer_same limits k more (guarded.serial_of x) (λ limit g. refl) g b raised;
-        given = serials.given ∙ longer_same limits k more (λ (z : Guard). z.given) (λ limit g. refl) g b raised;
-        realm = serials.realm ∙ longer_same limits k more (λ (z : Guard). z.realm) (λ limit g. refl) g b raised;
-        step = serials.step ∙ longer_same limits k more (λ (z : Guard). z.step) (λ limit g. refl) g b raised;
-      };
-      kept = λ t. kept t ∙ longer_same limits k more (guarded.range_of t) (λ limit g. refl) g b raised;
-      accesses = few;
+      cells = λ x. s.cells x ∙ longer_same limits k more (guarded.serial_of x) (λ limit g. refl) g e.between e.raised;
+      given = s.given ∙ longer_same limits k more (λ (z : Guard). z.given) (λ limit g. refl) g e.between e.raised;
+      realm = s.realm ∙ longer_same limits k more (λ (z : Guard). z.realm) (λ limit g. refl) g e.between e.raised;
+      step = s.step ∙ longer_same limits k more (λ (z : Guard). z.step) (λ limit g. refl) g e.between e.raised;
     }
-extends_if limits k more false g b h known kind fits (inl up) can size kept same step serials few =
-    absurd (let e : false ≡ true = can.1 ((can_extend limits k more g b known kind fits (inl up)).1 (can_raised limits k more g known up.0 fits)) in cc)
-extends_if limits k more false g b h known kind fits (inr stays) can size kept same step serials few = subst (λ (z : Guard). guarded.IsSame z h) stays.1 (same refl)
+serials_longer limits k more false g h e = (refused_same limits k more g h e).1
 
 -- ---- the heap is of its kind, and keeps its realm
 extended_kind : (limits : Limits) (k more : ℕ) (g h : Guard) → ExtendsIn limits k more g h → IsOfKind limits k g → IsOfKind limits k h
 extended_kind limits k more g h e kind =
-    let limit = extended_limit more e.between.space h.space e.step in
+    let limit = extended_limit more e.between.space h.space e.by.step in
     let between = where_kind (MustExtend limits k more) limits k (may limits k more) g e.between e.raised kind in
-    let size = e.size in
+    let size : h.space.size ≡ g.space.size + more = e.by.size refl ∙ ap (λ n. n + more) (longer_same limits k more (λ (z : Guard). z.space.size) (λ limit g. refl) g e.between e.raised) in
     elim between [
       | inl u ↦ elim kind [
         | inl v ↦ inl (u.0, omega (arith, size, v.1), (omega (arith, limit, u.2.0), omega (arith, limit, u.2.1)))
@@ -153,17 +155,19 @@ kind_longer limits k more done old new before after was is e kind = rw is (go do
   where
     go : (done : Bool) → ExtendsIf limits k more done before after → IsOfKind limits k before → IsOfKind limits k after
     go true e kind = extended_kind limits k more before after e kind
-    go false e (inl u) =
-        let size = ap (λ (z : View). z.size) e.0 in
-        let limit = ap (λ (z : View). z.max_allocs) e.0 in
-        inl (u.0, omega (arith, size, u.1), (omega (arith, limit, u.2.0), omega (arith, limit, u.2.1)))
-    go false e (inr l) = inr (l.0, omega (arith, ap (λ (z : View). z.size) e.0, l.1), ap (λ (z : View). z.max_allocs) e.0 ∙ l.2)
+    go false e kind =
+        let same = (refused_same limits k more before after e).0 in
+        let size = ap (λ (z : View). z.size) same in
+        let limit = ap (λ (z : View). z.max_allocs) same in
+        elim kind [
+          | inl u ↦ inl (u.0, omega (arith, size, u.1), (omega (arith, limit, u.2.0), omega (arith, limit, u.2.1)))
+          | inr l ↦ inr (l.0, omega (arith, size, l.1), limit ∙ l.2)
+        ]
 
 pub realm_longer : (limits : Limits) (k more : ℕ) (done : Bool) (g h : Guard) → ExtendsIf limits k more done g h → h.realm ≡ g.realm
-realm_longer limits k more true g h e = e.serials.realm
-realm_longer limits k more false g h e = e.1.realm
+realm_longer limits k more done g h e = (serials_longer limits k more done g h e).realm
 
 -- every ticket keeps its range, and where it is not done, every later call returns the same for both heaps
 pub range_longer : (limits : Limits) (k more : ℕ) (done : Bool) (g h : Guard) → ExtendsIf limits k more done g h → guarded.KeepsAll g h
-range_longer limits k more true g h e = e.kept
-range_longer limits k more false g h e = λ t. range_twin t g h (same_twin g h e)
+range_longer limits k more true g h e = λ t. e.by.kept t ∙ longer_same limits k more (guarded.range_of t) (λ limit g. refl) g e.between e.raised
+range_longer limits k more false g h e = λ t. range_twin t g h (same_twin g h (refused_same limits k more g h e))

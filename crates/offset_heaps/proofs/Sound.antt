@@ -177,9 +177,9 @@ noted_changed P limits slots now n old new change noted here others k = elim (ca
 -- what is reset has its realm
 pub realm_reset : (made : ℕ) (old new : Option Guard) → ResetsIn old new → IfSome old (λ g. g.realm ≤ made) → IfSome new (λ g. g.realm ≤ made)
 realm_reset made None new e h = rw e tt
-realm_reset made (Some before) new r h = rw r.1 (let same : r.0.realm ≡ before.realm = ap (λ (g : Guard). g.realm) r.3 in omega (arith, same, h))
+realm_reset made (Some before) new r h = rw r.1 (let same : r.0.realm ≡ before.realm = ap (λ (g : Guard). g.realm) r.2.serials in omega (arith, same, h))
 
 pub kind_reset : (limits : Limits) (k : ℕ) (old new : Option Guard) → ResetsIn old new → IfSome old (IsOfKind limits k) → IfSome new (IsOfKind limits k)
 kind_reset limits k None new e h = rw e tt
 kind_reset limits k (Some before) new r h =
-    kind_kept limits k (Some before) new before r.0 refl r.1 (ap (λ (v : View). v.size) r.2.view) (ap (λ (v : View). v.max_allocs) r.2.view) h
+    kind_kept limits k (Some before) new before r.0 refl r.1 (ap (λ (v : View). v.size) r.2.step.view) (ap (λ (v : View). v.max_allocs) r.2.step.view) h

@@ -27,7 +27,7 @@ reset_twins None o' p p' known twin f f' =
     subst (λ p. IsTwinIn p p') (sym f) none
 reset_twins (Some g) o' p p' known twin f f' =
     let k : ResetsIn (Some twin.0) p' = subst (λ o. ResetsIn o p') twin.1 f' in
-    twin_some f.0 k.0 p p' f.1 k.1 (one.reset_twins g twin.0 f.0 k.0 known twin.2 f.2 k.2 f.3 k.3 f.4)
+    twin_some f.0 k.0 p p' f.1 k.1 (one.reset_twins g twin.0 f.0 k.0 known twin.2 f.2.step k.2.step f.2.serials k.2.serials f.2.gone)
 
 -- ---- the heap of a number
 pub option_twin : {A : Type 0} (f : Option Guard → A) (o p : Option Guard) → ((g h : Guard) → IsTwin g h → f (Some h) ≡ f (Some g)) → IsTwinIn o p → f p ≡ f o

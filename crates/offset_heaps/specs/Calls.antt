@@ -5,14 +5,14 @@ use Rattle.offset_allocator.specs.Moving.Compacting.{Move}
 use Rattle.offset_allocator.specs.Requests.{blocks_needed, units_needed}
 use Rattle.offset_allocator.specs.declared.moves.room.RoomCost.{RoomCost}
 use Rattle.offset_guarded.specs.Answers as tickets
-use Rattle.offset_heaps.specs.Changing.{Alters, CanResizeAt, CompactsAll, CompactsHeap, IsCompactible, MakesRoomAt, ResizesAt, NewSize, can_compact_in}
+use Rattle.offset_heaps.specs.Changing.{Alters, CompactsAll, IsCompactible, RetractsTo}
 use Rattle.offset_heaps.specs.Extending.{CanExtendIn, ExtendsHeap}
 use Rattle.offset_heaps.specs.declared.place.Granted.{Granted}
 use Rattle.offset_heaps.specs.declared.refusal.Refusal.{Refusal}
 use Rattle.offset_heaps.specs.declared.refusal.Refusal.TheVariants.{Empty, Memory}
 use Rattle.offset_heaps.specs.Heaps.{Heaps, FreesIn, Grants, IsFirstFit, IsLive, IsNext, IsSame, IsWhy, NoneFits, Puts, empties, heap_at, is_empty, step_at}
 use Rattle.offset_heaps.specs.Histories.{ResetsAll}
-use Rattle.offset_heaps.specs.Places.{Place}
+use Rattle.offset_heaps.specs.Places.{Place, ticket_of}
 use Rattle.offset_heaps.specs.Relocating.{IsOwnAlign, IsTaker, NoneTakes, size_of}
 use Rattle.offset_heaps.specs.State.{IsWellFormed}
 use Rattle.offset_heaps.specs.Tight.{GrantsTight, IsFirstHolding, IsWhyTight, NoneHolds}
@@ -93,13 +93,6 @@ pub record GivesUp (k : ℕ) (hs ks : Heaps) (r : Bool) : Type 0 where
   pub same : r ≡ false → IsSame hs ks
   pub heaps : r ≡ true → Puts k None hs ks
 
--- `shrink` and `grow_in_place`
-pub record TakesSize (how : NewSize) (p : Place) (hs ks : Heaps) (r : Option Bool) : Type 0 where
-  pub live : IsSome r ↔ IsLive p hs
-  pub done : IfSome r (λ d. IsTrue d ↔ CanResizeAt how p hs)
-  pub not_live : r ≡ None → IsSame hs ks
-  pub step : IfSome r (ResizesAt how p hs ks)
-
 -- `extend_heap`
 pub record ExtendsOne (k more : ℕ) (hs ks : Heaps) (r : Result Bool AllocError) : Type 0 where
   pub done : IfOk r (λ d. IsTrue d ↔ CanExtendIn hs.limits k more (heap_at k hs))
@@ -108,26 +101,26 @@ pub record ExtendsOne (k more : ℕ) (hs ks : Heaps) (r : Result Bool AllocError
   pub same : OnErr r (IsSame hs ks)
   pub step : IfOk r (λ d. IsSome (heap_at k hs) → ExtendsHeap k more d hs ks)
 
--- `compact_heap`
-pub record CompactsOne (k : ℕ) (hs ks : Heaps) (r : Bool) : Type 0 where
-  pub done : r ≡ can_compact_in (heap_at k hs)
-  pub none : heap_at k hs ≡ None → IsSame hs ks
-  pub refused : r ≡ false → AreTwins hs ks
-  pub step : IsSome (heap_at k hs) → CompactsHeap k hs ks
-
 -- `compact`
 pub record CompactsEach (hs ks : Heaps) (r : Bool) : Type 0 where
   pub done : IsTrue r ↔ ((k : ℕ) → IsCompactible (heap_at k hs))
   pub step : CompactsAll hs ks
 
--- `make_room_aligned`, and with the alignment 1 `make_room`, by the moves of some ranges
-pub record MakesRoomOne (k size align : ℕ) (hs ks : Heaps) (r : Option RoomCost) : Type 0 where
-  pub none : heap_at k hs ≡ None → IsSame hs ks × (r ≡ None)
-  pub step : IsSome (heap_at k hs) → (xs : List Move) × MakesRoomAt tickets.Notes k size align hs [] r ks xs
-
 -- a call of tickets on the heap of a number: its answer, and its moves
 abbrev pub TakesOn : ℕ → tickets.Call → Heaps → Heaps → tickets.Answer → List Move → Type 0
 TakesOn k c hs ks a ms = Alters k (λ g h. tickets.Answers c g h a ms) hs ks
+
+-- the same where the number has a heap; else nothing changes, and the answer is `without`: `compact_heap`,
+-- `make_room_aligned`, and with the alignment 1 `make_room`
+pub record TakesWhere (k : ℕ) (c : tickets.Call) (without : tickets.Answer) (hs ks : Heaps) (a : tickets.Answer) : Type 0 where
+  pub none : heap_at k hs ≡ None → IsSame hs ks × (a ≡ without)
+  pub step : IsSome (heap_at k hs) → (ms : List Move) × TakesOn k c hs ks a ms
+
+-- a call of tickets that resizes the range of a place, where that is live: `shrink` and `grow_in_place`
+pub record TakesAt (p : Place) (c : tickets.Call) (hs ks : Heaps) (r : Option Bool) : Type 0 where
+  pub live : IsSome r ↔ IsLive p hs
+  pub not_live : r ≡ None → IsSame hs ks
+  pub step : IsSome r → TakesOn p.heap c hs ks (tickets.Answer.Resized r) []
 
 -- a call that may change heaps
 pub data Call : Type 0 where
@@ -141,13 +134,17 @@ pub data Call : Type 0 where
   Drop_heap : ℕ → Call
   Give_up : ℕ → Call
   Reset : Call
-  Resize : NewSize → Place → Call
+  -- the range of a place gets so many units
+  Shrink : Place → ℕ → Call
+  Grow_in_place : Place → ℕ → Call
   -- so many units more for the heap of a number
   Extend_heap : ℕ → ℕ → Call
   Compact_heap : ℕ → Call
   Compact_all : Call
   -- room for a request, by its size and alignment, in the heap of a number
   Make_room : ℕ → ℕ → ℕ → Call
+  -- so many units fewer, down to the units of its kind
+  Retract_heap : ℕ → ℕ → Call
   -- a call of tickets on the heap of a number
   On_heap : ℕ → tickets.Call → Call
 
@@ -175,11 +172,15 @@ Takes (Drop_empty keep) hs ks reply = (r : Option ℕ) × (reply ≡ Dropped r) 
 Takes (Drop_heap k) hs ks reply = (r : Bool) × (reply ≡ Was_done r) × Drops k hs ks r
 Takes (Give_up k) hs ks reply = (r : Bool) × (reply ≡ Was_done r) × GivesUp k hs ks r
 Takes Reset hs ks reply = (reply ≡ Nothing) × ResetsAll hs ks
-Takes (Resize how p) hs ks reply = (r : Option Bool) × (reply ≡ Resized r) × TakesSize how p hs ks r
+Takes (Shrink p n) hs ks reply = (r : Option Bool) × (reply ≡ Resized r) × TakesAt p (tickets.Call.Shrink (ticket_of p) n) hs ks r
+Takes (Grow_in_place p n) hs ks reply = (r : Option Bool) × (reply ≡ Resized r) × TakesAt p (tickets.Call.Grow_in_place (ticket_of p) n) hs ks r
 Takes (Extend_heap k more) hs ks reply = (r : Result Bool AllocError) × (reply ≡ Extended r) × ExtendsOne k more hs ks r
-Takes (Compact_heap k) hs ks reply = (r : Bool) × (reply ≡ Was_done r) × CompactsOne k hs ks r
+Takes (Compact_heap k) hs ks reply = (r : Bool) × (reply ≡ Was_done r)
+    × TakesWhere k tickets.Call.Compact (tickets.Answer.Was_done false) hs ks (tickets.Answer.Was_done r)
 Takes Compact_all hs ks reply = (r : Bool) × (reply ≡ Was_done r) × CompactsEach hs ks r
-Takes (Make_room k size align) hs ks reply = (r : Option RoomCost) × (reply ≡ Room_made r) × MakesRoomOne k size align hs ks r
+Takes (Make_room k size align) hs ks reply = (r : Option RoomCost) × (reply ≡ Room_made r)
+    × TakesWhere k (tickets.Call.Make_room size align) (tickets.Answer.Room_made None) hs ks (tickets.Answer.Room_made r)
+Takes (Retract_heap k less) hs ks reply = (r : Bool) × (reply ≡ Was_done r) × Alters k (RetractsTo hs.limits k less r) hs ks
 Takes (On_heap k c) hs ks reply = (a : tickets.Answer) × (ms : List Move) × (reply ≡ Answered a ms) × TakesOn k c hs ks a ms
 
 -- a request, or more units for a heap, were refused for want of memory

@@ -1,9 +1,8 @@
 -- Heaps whose space becomes larger in place.
 use Rattle.std.specs.Prelude.{◌≡◌, ℕ, ◌+◌, ◌<◌, ◌≤◌, ◌⊎◌, Bool, true, false, List, [], ◌∷◌, ◌++◌, Option, None, Some, length}
-use Rattle.offset_allocator.specs.Relations.{Extends}
 use Rattle.offset_allocator.specs.View.{Block, View, max_size}
 use Rattle.offset_guarded.specs.Guard.{Guard}
-use Rattle.offset_guarded.specs.Guard as guarded
+use Rattle.offset_guarded.specs.Answers as tickets
 use Rattle.offset_heaps.specs.declared.limits.Limits.{Limits}
 use Rattle.offset_heaps.specs.Changing.{Alters}
 use Rattle.offset_heaps.specs.Heaps.{Heaps, IsRaisedWhere, MustRaise, top_limit}
@@ -26,21 +25,16 @@ abbrev pub MustExtendIn : Limits → ℕ → ℕ → Option Guard → Type 0
 MustExtendIn limits k more None = ⊥
 MustExtendIn limits k more (Some g) = MustExtend limits k more g
 
--- the heap is extended by `more` units at its end, and every ticket keeps its range; its node limit is first raised, where
--- they need that
+-- the heap is extended by `more` units at its end; its node limit is first raised, where they need that
 pub record ExtendsIn (limits : Limits) (k more : ℕ) (g h : Guard) : Type 0 where
   pub between : Guard
   pub raised : IsRaisedWhere (MustExtend limits k more) limits g between
-  pub step : Extends more between.space h.space true
-  pub size : h.space.size ≡ g.space.size + more
-  pub serials : guarded.KeepsSerials g h
-  pub kept : guarded.KeepsAll g h
-  pub accesses : h.space.accesses ≤ between.space.accesses + 128
+  pub by : tickets.Extends more between h true
 
--- or it stays as it is, where that can't be done
+-- or it is refused, or not asked, where that can't be done
 abbrev pub ExtendsIf : Limits → ℕ → ℕ → Bool → Guard → Guard → Type 0
 ExtendsIf limits k more true g h = ExtendsIn limits k more g h
-ExtendsIf limits k more false g h = guarded.IsSame g h
+ExtendsIf limits k more false g h = (h ≡ g) ⊎ tickets.Extends more g h false
 
 abbrev pub ExtendsHeap : ℕ → ℕ → Bool → Heaps → Heaps → Type 0
 ExtendsHeap k more done hs ks = Alters k (ExtendsIf hs.limits k more done) hs ks

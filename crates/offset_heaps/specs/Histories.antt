@@ -1,34 +1,29 @@
 -- Histories: what calls leave of many heaps, one after another, and the places of a heap that is gone.
-use Rattle.std.specs.Prelude.{◌≡◌, ◌≢◌, ℕ, ◌≤◌, ◌⊎◌, List, [], ◌∷◌, None, IfSome}
+use Rattle.std.specs.Prelude.{◌≡◌, ◌≢◌, ℕ, ◌<◌, ◌≤◌, List, [], ◌∷◌, Option, None, Some, IfSome}
 use Rattle.std.specs.Int.{◌∣◌}
 use Rattle.offset_guarded.specs.Calls.{Continues}
-use Rattle.offset_heaps.specs.declared.place.Granted.{Granted}
-use Rattle.offset_heaps.specs.Changing.{Alters, CompactsAll}
-use Rattle.offset_heaps.specs.Heaps.{Heaps, FreesIn, Grants, IsSame, Puts, heap_at, range_of}
+use Rattle.offset_guarded.specs.Guard.{Guard}
+use Rattle.offset_heaps.specs.Heaps.{Heaps, heap_at, range_of}
 use Rattle.offset_heaps.specs.Places.{Place}
 use Rattle.offset_heaps.specs.Slots.{ResetsIn}
-use Rattle.offset_heaps.specs.Tight.{GrantsTight}
 
 -- each heap is reset
 pub record ResetsAll (hs ks : Heaps) : Type 0 where
   pub heaps : (k : ℕ) → ResetsIn (heap_at k hs) (heap_at k ks)
   pub rest : ks ≡ record hs { slots = ks.slots; accesses = ks.accesses }
 
--- the heap of a number is changed in place: what is left continues what there was
-abbrev pub Keeps : ℕ → Heaps → Heaps → Type 0
-Keeps k hs ks = Alters k Continues hs ks
+-- what a call leaves of the heap of a number, where the heaps so far have realms up to `made`: none; one that continues what
+-- there was; or, where there was none, one of a later realm
+abbrev pub ContinuesIn : ℕ → Option Guard → Option Guard → Type 0
+ContinuesIn made old None = Unit {0}
+ContinuesIn made None (Some h) = made < h.realm
+ContinuesIn made (Some g) (Some h) = Continues g h
 
--- what one call leaves: all as it was, a grant, a range freed, a heap dropped, all reset, a heap changed in place, all
--- compacted, or a tight grant
-abbrev pub IsStep : Heaps → Heaps → Type 0
-IsStep hs ks = IsSame hs ks
-    ⊎ ((size align : ℕ) × (grant : Granted) × Grants size align hs ks grant)
-    ⊎ ((p : Place) × FreesIn p hs ks)
-    ⊎ ((k : ℕ) × Puts k None hs ks)
-    ⊎ ResetsAll hs ks
-    ⊎ ((k : ℕ) × Keeps k hs ks)
-    ⊎ CompactsAll hs ks
-    ⊎ ((size align : ℕ) × (grant : Granted) × GrantsTight size align hs ks grant)
+-- what one call leaves
+pub record IsStep (hs ks : Heaps) : Type 0 where
+  pub realm : ks.realm ≡ hs.realm
+  pub made : hs.made ≤ ks.made
+  pub heaps : (k : ℕ) → ContinuesIn hs.made (heap_at k hs) (heap_at k ks)
 
 -- what some calls leave, one after another
 abbrev pub AreSteps : Heaps → List Heaps → Type 0

@@ -13,6 +13,7 @@ pub mod Relocating
 pub mod Resting
 pub mod Slots
 pub mod Soundness
+pub mod Spaces
 pub mod State
 pub mod StateFaults
 pub mod Tight

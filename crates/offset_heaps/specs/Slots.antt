@@ -1,13 +1,14 @@
 -- What a call leaves of the heap of one number.
 use Rattle.std.specs.Prelude.{◌≡◌, ℕ, ◌+◌, ◌*◌, ◌%◌, ◌<◌, ◌≤◌, ◌⊎◌, List, Option, Some, None, length, nat_lt, slice_set, if◌then◌else◌}
 use Rattle.offset_allocator.specs.Classes.{down}
-use Rattle.offset_allocator.specs.Relations.{Aligns, Frees, Resets}
+use Rattle.offset_allocator.specs.Relations.{Aligns, Frees}
 use Rattle.offset_allocator.specs.Reporting.FreeSizes.{largest}
 use Rattle.offset_allocator.specs.Requests.{AdmitsBlocks, blocks_needed}
 use Rattle.offset_allocator.specs.Tight.{AlignsTight, CanHold, HasBlockFor, listed_from}
 use Rattle.offset_allocator.specs.View.{bin_at, free_sizes}
 use Rattle.offset_guarded.specs.Guard.{Guard, HasSerialLeft, Ticket, handle_in}
 use Rattle.offset_guarded.specs.Guard as guarded
+use Rattle.offset_guarded.specs.Answers as tickets
 use Rattle.offset_guarded.specs.Step.{IsJoined}
 use Rattle.offset_heaps.specs.declared.limits.Limits.{Limits}
 use Rattle.offset_heaps.specs.Heaps.{IsRaisedAsNeeded, slot, range_in, top_limit}
@@ -87,8 +88,7 @@ pub record FreesSlot (t : Ticket) (old new : Option Guard) : Type 0 where
 -- the space is one free block again, and the step is 1
 abbrev pub ResetsIn : Option Guard → Option Guard → Type 0
 ResetsIn None new = new ≡ None
-ResetsIn (Some before) new = (after : Guard) × (new ≡ Some after) × Resets before.space after.space
-    × (after ≡ record before { space = after.space; step = 1 }) × ((t : Ticket) → guarded.range_of t after ≡ None)
+ResetsIn (Some before) new = (after : Guard) × (new ≡ Some after) × tickets.Resets before after
 
 -- the heap of one number is changed
 pub record Changes (k : ℕ) (P : Option Guard → Option Guard → Type 0) (old new : List (Option Guard)) : Type 0 where

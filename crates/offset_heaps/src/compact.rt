@@ -1,12 +1,12 @@
-//! Ranges that slide to the front of their heap by its step, all or to make room. It changes one slot, or all, and
-//! notes it in the index.
+//! Ranges that slide to the front of their heap by its step, all or to make room, by the calls of tickets. It changes one
+//! slot, or all, and notes it in the index.
 ghost use Rattle.std.specs.Prelude.{ℕ, ◌≡◌, ◌↔◌, ◌+◌, ◌*◌, ◌^◌, ◌<◌, ◌≤◌, None, IsSome, IsTrue, false};
 ghost use Rattle.std.specs.Prelude.{Some, length};
 ghost use Rattle.std.specs.List.{FoldsTo};
 ghost use Rattle.offset_allocator.specs.Moving.Compacting.{IsCalledWith};
-ghost use Rattle.offset_heaps.specs.Changing.{CompactsAll, CompactsHeap, CompactsIn, IsCalledAt, KeepsSizes};
-ghost use Rattle.offset_heaps.specs.Changing.{CompactsSlot, IsCompactible, MakesRoomAt, can_compact, can_compact_in};
-ghost use Rattle.offset_heaps.specs.Changing.{moves_from, moves_in, numbered};
+ghost use Rattle.offset_guarded.specs.Answers as tickets;
+ghost use Rattle.offset_heaps.specs.Changing.{Alters, CompactsAll, CompactsIn, CompactsSlot, IsCalledAt, IsCompactible};
+ghost use Rattle.offset_heaps.specs.Changing.{KeepsSizes, can_compact, moves_from, moves_in, numbered};
 ghost use Rattle.offset_heaps.specs.Heaps.{slot};
 ghost use Rattle.offset_heaps.specs.Soundness.{IsNoted, IsWide};
 ghost use Rattle.offset_heaps.specs.Twins.{AreTwins};
@@ -15,39 +15,7 @@ use crate::HeapsOf;
 use crate::index::Index;
 use crate::limits::Limits;
 use crate::slots::Slots;
-use offset_allocator::{Accesses, Move, NodeIndex, RoomCost, Tables};
-use offset_guarded::GuardedOf;
-
-// Slides live ranges of a heap to the front of its space by its step, and returns whether it was done.
-pub(crate) fn compact_one<NI: NodeIndex, T: Tables<Index = NI>, F: FnMut(Move<NI>)>(
-    heap: &mut GuardedOf<T>,
-    moved: &mut F,
-) -> bool
-    requires callable { F.IsAlwaysCallable moved.old }
-    ensures done { result ≡ can_compact heap.old }
-    ensures change { CompactsIn heap.old heap.new }
-    ensures moved { FoldsTo (IsCalledWith NI.NonMax.number (λ f range g. F.step f range tt g))
-        moved.old (moves_in (Some heap.old)) moved.new }
-{
-    heap.compact(moved)
-}
-
-// The same, and calls the closure with the number of the heap too. The index type is a parameter too, which keeps the
-// proof short.
-pub(crate) fn compact_numbered<NI: NodeIndex, T: Tables<Index = NI>, F: FnMut(u32, Move<NI>)>(
-    heap: &mut GuardedOf<T>,
-    number: u32,
-    moved: &mut F,
-) -> bool
-    requires callable { F.IsAlwaysCallable moved.old }
-    ensures callable { F.IsAlwaysCallable moved.new }
-    ensures done { result ≡ can_compact heap.old }
-    ensures change { CompactsIn heap.old heap.new }
-    ensures moved { FoldsTo (IsCalledAt NI.NonMax.number (λ f k range g. F.step f k range tt g)) moved.old
-        (numbered number (moves_in (Some heap.old))) moved.new }
-{
-    compact_one(heap, &mut |range: Move<NI>| moved(number, range))
-}
+use offset_allocator::{Accesses, Move, RoomCost, Tables};
 
 // Whether both hold.
 fn both(first: bool, second: bool) -> bool
@@ -109,29 +77,30 @@ impl<T: Tables> HeapsOf<T> {
     /// ```
     pub fn compact_heap<F: FnMut(Move<T::Index>)>(&mut self, number: u32, moved: &mut F) -> bool
         requires callable { F.IsAlwaysCallable moved.old }
-        // It is done exactly where the number has a heap that has a step, and whose space does it.
-        ensures done { result ≡ can_compact_in (heap_at number self.old) }
         ensures sizes { KeepsSizes self.old self.new }
         // Every range keeps each alignment that divides the step of its heap.
         ensures aligned { KeepsAlignments self.old self.new }
         ensures others { KeepsOtherHeaps number self.old self.new }
-        // The closure is called with the moves, in space order.
-        ensures moved { FoldsTo (IsCalledWith T.Index.NonMax.number (λ f range g. F.step f range tt g))
-            moved.old (moves_in (heap_at number self.old)) moved.new }
-        ensures none { heap_at number self.old ≡ None → IsSame self.old self.new }
+        ensures none { heap_at number self.old ≡ None → IsSame self.old self.new × (moved.new ≡ moved.old)
+            × (result ≡ false) }
         // Where it is not done, every later call returns the same as if this one had not been made.
         ensures refused { result ≡ false → AreTwins self.old self.new }
-        // The step of its heap. All other heaps are as they were.
-        ensures step { IsSome (heap_at number self.old) → CompactsHeap number self.old self.new }
+        // The step of its heap, with the moves. All other heaps are as they were.
+        ensures step { IsSome (heap_at number self.old) → Alters number
+            (λ g h. tickets.Compacts (IsCalledWith T.Index.NonMax.number (λ f range g. F.step f range tt g))
+            moved.old g h moved.new result) self.old self.new }
         ensures accesses { TakesFewAccesses self.old self.new }
     {
         if !self.slots.has(number, &mut self.accesses) {
             return false;
         }
-        let done = self.slots.compact(number, moved, &mut self.accesses);
+        let result = self
+            .slots
+            .heap_mut(number, &mut self.accesses)
+            .compact(moved);
         self.index
             .note(&self.slots, number, self.limits, &mut self.accesses);
-        done
+        result
     }
 
     /// Slides live ranges of each heap to the front of its space by its step, as `compact_heap` of each number that
@@ -196,8 +165,9 @@ impl<T: Tables> HeapsOf<T> {
         ensures none { heap_at number self.old ≡ None → IsSame self.old self.new × (moved.new ≡ moved.old)
             × (result ≡ None) }
         ensures step { IsSome (heap_at number self.old)
-            → MakesRoomAt (IsCalledWith T.Index.NonMax.number (λ f range g. F.step f range tt g)) number size 1
-            self.old moved.old result self.new moved.new }
+            → Alters number (λ g h. tickets.MakesRoom
+            (IsCalledWith T.Index.NonMax.number (λ f range g. F.step f range tt g)) size 1 moved.old g h moved.new result)
+            self.old self.new }
         ensures accesses { TakesFewAccesses self.old self.new }
     {
         self.make_room_aligned(number, size, 1, moved)
@@ -237,18 +207,20 @@ impl<T: Tables> HeapsOf<T> {
             × (result ≡ None) }
         // The step of its heap, with the moves. All other heaps are as they were.
         ensures step { IsSome (heap_at number self.old)
-            → MakesRoomAt (IsCalledWith T.Index.NonMax.number (λ f range g. F.step f range tt g)) number size align
-            self.old moved.old result self.new moved.new }
+            → Alters number (λ g h. tickets.MakesRoom
+            (IsCalledWith T.Index.NonMax.number (λ f range g. F.step f range tt g)) size align moved.old g h moved.new result)
+            self.old self.new }
         ensures accesses { TakesFewAccesses self.old self.new }
     {
         if !self.slots.has(number, &mut self.accesses) {
             return None;
         }
-        let cost = self
+        let result = self
             .slots
-            .make_room(number, size, align, moved, &mut self.accesses);
+            .heap_mut(number, &mut self.accesses)
+            .make_room_aligned(size, align, moved);
         self.index
             .note(&self.slots, number, self.limits, &mut self.accesses);
-        cost
+        result
     }
 }

@@ -5,8 +5,8 @@ ghost use Rattle.offset_guarded.specs.Guard.{Guard};
 ghost use Rattle.offset_heaps.specs.Heaps.{IsNew, larger_limit, usual_room, usual_size};
 ghost use Rattle.offset_heaps.specs.Slots.{GrantsIn, GrantsTightIn};
 
+use crate::heap;
 use crate::limits::{Limits, usual_size};
-use crate::slots;
 use offset_allocator::Tables;
 use offset_guarded::{GuardedOf, Ticket};
 use std::alloc::{AllocError, Global};
@@ -38,7 +38,7 @@ pub(crate) fn usual<T: Tables>(
         limits.first_allocs,
         realm,
     )?);
-    let ticket = slots::grant_first_in(&mut slot, size, align);
+    let ticket = heap::grant_first_in(&mut slot, size, align);
     Ok((slot, ticket))
 }
 
@@ -56,6 +56,6 @@ pub(crate) fn larger<T: Tables>(
     ensures start { IfOk result (λ r. r.1.offset ≡ 0) }
 {
     let mut slot = Some(GuardedOf::with_realm(alloc, size, LARGER_LIMIT, realm)?);
-    let ticket = slots::grant_tight_in(&mut slot, size, align);
+    let ticket = heap::grant_tight_in(&mut slot, size, align);
     Ok((slot, ticket))
 }

@@ -1,11 +1,10 @@
 //! One heap of many, changed by the calls of one space with tickets. Each call changes one slot, and notes it in the
 //! index.
-ghost use Rattle.std.specs.Prelude.{◌≡◌, ◌↔◌, ◌+◌, ◌≤◌, Some, IfSome, IsSome, IsTrue, false, true};
+ghost use Rattle.std.specs.Prelude.{◌≡◌, ◌↔◌, ◌+◌, ◌≤◌, ◌⊎◌, Some, IfSome, IsSome, IsTrue, false, true};
 ghost use Rattle.std.specs.Borrow.{sem};
 ghost use Rattle.offset_allocator.specs.Moving.Compacting.{IsCalledWith};
 ghost use Rattle.offset_allocator.specs.Moving.Retracting.{CanRetract};
 ghost use Rattle.offset_guarded.specs.Answers as tickets;
-ghost use Rattle.offset_guarded.specs.Guard.{IsSame};
 ghost use Rattle.offset_heaps.specs.Changing.{Alters, RetractsTo};
 ghost use Rattle.offset_heaps.specs.Heaps.{TakesFewAccesses, heap_at};
 ghost use Rattle.offset_heaps.specs.Places.{place_of};
@@ -97,7 +96,7 @@ fn retract_to<T: Tables>(heap: &mut GuardedOf<T>, least: u32, less: u32) -> bool
     ensures done { IsTrue result
         ↔ ((least + less ≤ heap.old.space.size) × (1 ≤ less → CanRetract less heap.old.space)) }
     ensures step { result ≡ true → tickets.Retracts less heap.old heap.new true }
-    ensures same { result ≡ false → IsSame heap.old heap.new }
+    ensures same { result ≡ false → (heap.new ≡ heap.old) ⊎ tickets.Retracts less heap.old heap.new false }
     ensures serials { heap.new ≡ record heap.old { space = heap.new.space } }
     ensures accesses { heap.new.space.accesses ≤ heap.old.space.accesses + 64 }
 {

@@ -8,11 +8,11 @@ ghost use Rattle.offset_heaps.specs.Heaps.{is_empty, room_of, top_limit};
 ghost use Rattle.offset_heaps.specs.Soundness.{spare_of};
 ghost use Rattle.offset_heaps.specs.Maxima.{IsFirst};
 
+use crate::heap::{is_empty_heap, rooms};
 use crate::limits::{Limits, usual_room};
 use crate::marks::Marks;
 use crate::maxima::{Maxima, levels_for};
 use crate::slots::Slots;
-use offset_allocator::laws::unused_nodes;
 use offset_allocator::{Accesses, Tables};
 use offset_guarded::GuardedOf;
 use std::alloc::{AllocError, Global};
@@ -26,53 +26,6 @@ pub(crate) struct Index {
     pub(crate) two: Maxima,
     pub(crate) spare: Maxima,
     pub(crate) empty: Marks,
-}
-
-/// Whether a serial is left for one more grant.
-pub(crate) fn has_serial_left<T: Tables>(heap: &GuardedOf<T>) -> bool
-    ensures { IsTrue result ↔ HasSerialLeft heap.now }
-{
-    !heap.is_spent()
-}
-
-/// One more than the number of blocks that may still be added to the heap of a number, under its largest node
-/// limit.
-pub(crate) fn nodes_left<T: Tables>(heap: &GuardedOf<T>, number: u32, limits: Limits) -> u32
-    ensures { result ≡ top_limit limits number heap.now - length heap.now.space.blocks }
-{
-    let space = heap.allocator();
-    let own = space.max_allocs();
-    let blocks = own - unused_nodes(space);
-    let top = if number < limits.most {
-        limits.max_allocs
-    } else {
-        own
-    };
-    if top < blocks { 0 } else { top - blocks }
-}
-
-/// The largest requests that the heap of a number grants where it may add one block, and two, or 0.
-pub(crate) fn rooms<T: Tables>(
-    heap: Option<&GuardedOf<T>>,
-    number: u32,
-    limits: Limits,
-) -> (u32, u32)
-    ensures one { result.0 ≡ room_of limits number 1 (option_copied heap.entry) }
-    ensures two { result.1 ≡ room_of limits number 2 (option_copied heap.entry) }
-{
-    let Some(heap) = heap else { return (0, 0) };
-    let left = nodes_left(heap, number, limits);
-    if !has_serial_left(heap) || left <= 1 {
-        return (0, 0);
-    }
-    let largest = offset_allocator::laws::largest_region_counted(
-        heap.allocator(),
-        &mut Accesses::new(),
-    );
-    if left == 2 {
-        return (largest, 0);
-    }
-    (largest, largest)
 }
 
 /// The key of a number for a larger heap that has none: no heap grants that much.
@@ -90,16 +43,6 @@ fn spare<T: Tables>(heap: Option<&GuardedOf<T>>, number: u32, limits: Limits) ->
         LARGER_KEY
     } else {
         0
-    }
-}
-
-/// Whether there is a heap, and it has no live range.
-pub(crate) fn is_empty_heap<T: Tables>(heap: Option<&GuardedOf<T>>) -> bool
-    ensures { result ≡ is_empty (option_copied heap.entry) }
-{
-    match heap {
-        None => false,
-        Some(heap) => heap.allocator().is_empty(),
     }
 }
 

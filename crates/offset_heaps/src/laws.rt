@@ -1,7 +1,7 @@
 //! Laws: what holds of all heaps. Its functions do nothing, but that two look at each slot. With them are the calls
 //! that leave all heaps as they are, with a count of their accesses.
 ghost use Rattle.std.specs.Prelude.{ℕ, List, ◌≡◌, ◌↔◌, ◌+◌, ◌-◌, ◌*◌, ◌^◌, ◌<◌, ◌≤◌, ◌∷◌, None, Some, IfSome};
-ghost use Rattle.std.specs.Prelude.{Bool, Err, IfErr, MatchOption, Option, Result, length, min, option_map, true};
+ghost use Rattle.std.specs.Prelude.{Bool, Err, IfErr, MatchOption, Option, Result, false, length, min, option_map, true};
 ghost use Rattle.std.specs.Int.{◌∣◌};
 ghost use Rattle.std.specs.List.{AllByRecursion};
 ghost use Rattle.std.specs.declared.alloc.AllocError.{AllocError};
@@ -20,16 +20,17 @@ ghost use Rattle.offset_heaps.specs.Heaps.{IsFirstSize, total, units_of_heap, us
 ghost use Rattle.offset_heaps.specs.Histories.{AreSteps, BeginsAt, IsGone, IsStep, ResetsAll};
 ghost use Rattle.offset_heaps.specs.Numbering.{AreOfLive, MeetsPlaces, first_from, live_places, next_place};
 ghost use Rattle.offset_heaps.specs.Places.{Place, place_of, ticket_of};
+ghost use Rattle.offset_heaps.specs.Spaces.{GoesByTheSteps, GoesOn, IsSpace, IsValid};
 ghost use Rattle.offset_heaps.specs.State.{IsCopy, IsStateOf, IsWellFormed, SameHeaps};
 ghost use Rattle.offset_heaps.specs.Relocating.{IsEmptiest, IsOwnAlign, NoneLive, offset_of, last_live_in, live_before_in};
 ghost use Rattle.offset_heaps.specs.Relocating.{live_units_at, most_ranks, ranks, squares, size_of};
 ghost use Rattle.offset_heaps.specs.Tight.{GrantsTight, IsRefusedForTight, IsServedTight, IsWhyTight};
 ghost use Rattle.offset_heaps.specs.Twins.{AreTwins};
-ghost use Rattle.offset_heaps.specs.Calls.{Allocates, AllocatesTight, TakesAll, Call, Drops, DropsEmpty, Frees, GivesUp};
-ghost use Rattle.offset_heaps.specs.Calls.{CompactsEach, CompactsOne, RelocatesOwn, TakesOn};
-ghost use Rattle.offset_heaps.specs.Calls.{GoAll, Goes, ExtendsOne, Relocates, Reply, MakesRoomOne, TakesSize};
+ghost use Rattle.offset_heaps.specs.Calls.{Allocates, AllocatesTight, Takes, TakesAll, Call, Drops, DropsEmpty, Frees, GivesUp};
+ghost use Rattle.offset_heaps.specs.Calls.{CompactsEach, RelocatesOwn, TakesAt, TakesOn, TakesWhere};
+ghost use Rattle.offset_heaps.specs.Calls.{GoAll, Goes, ExtendsOne, Relocates, Reply};
 ghost use Rattle.offset_heaps.specs.Asking.{IsRefusedFor, IsServed};
-ghost use Rattle.offset_heaps.specs.Changing.{Alters, NewSize};
+ghost use Rattle.offset_heaps.specs.Changing.{Alters, RetractsTo};
 ghost use Rattle.offset_allocator.specs.declared.moves.room.RoomCost.{RoomCost};
 ghost use Rattle.offset_heaps.specs.declared.limits.Limits.{Limits};
 ghost use Rattle.offset_heaps.specs.declared.place.Granted.{Granted};
@@ -177,9 +178,10 @@ pub fn dropped_heaps_stay_dropped<T: Tables>(heaps: &HeapsOf<T>)
 /// whatever calls follow. So does the second range that `relocate` grants, at what divides the step of the heap and the
 /// offset of the first one.
 ///
-/// A step is what one call leaves: that each call of heaps is one is proved in `offset_heaps_tests`. Calls of `HeapMut` are,
-/// except those whose names say that they keep no alignment, and those by a step that is no multiple of that of the heap.
+/// A step is what one call leaves. Each call of heaps is one, and each of `HeapMut`, except those whose names say that they keep
+/// no alignment, and those by a step that is no multiple of that of the heap.
 pub fn alignments_are_kept()
+    ensures call { (c : Call) (hs ks : Heaps) (r : Reply) → IsValid c → GoesByTheSteps c hs → Takes c hs ks r → IsStep hs ks }
     ensures step { (hs ks : Heaps) → IsStep hs ks → KeepsAlignments hs ks }
     ensures lasts { (size align a : ℕ) (grant : Granted) (hs ks : Heaps) (later : List Heaps) → IsWellFormed hs
         → Grants size align hs ks grant → a ∣ align → a ∣ grant.offset → AreSteps ks later
@@ -289,19 +291,28 @@ pub fn a_state_decides_each_step()
         → GivesUp k hs ks r → GivesUp k hs' ks' r' → (r ≡ r') × AreTwins ks ks' }
     ensures reset { (hs hs' ks ks' : Heaps) → IsWellFormed hs → AreTwins hs hs' → ResetsAll hs ks
         → ResetsAll hs' ks' → AreTwins ks ks' }
-    ensures resize { (how : NewSize) (p : Place) (hs hs' ks ks' : Heaps) → IsWellFormed hs → AreTwins hs hs'
-        → (r r' : Option Bool) → TakesSize how p hs ks r → TakesSize how p hs' ks' r'
+    ensures shrink { (p : Place) (n : ℕ) (hs hs' ks ks' : Heaps) → IsWellFormed hs → AreTwins hs hs' → (r r' : Option Bool)
+        → TakesAt p (answers.Call.Shrink (ticket_of p) n) hs ks r → TakesAt p (answers.Call.Shrink (ticket_of p) n) hs' ks' r'
         → (r ≡ r') × AreTwins ks ks' }
+    ensures grow_in_place { (p : Place) (n : ℕ) (hs hs' ks ks' : Heaps) → IsWellFormed hs → AreTwins hs hs'
+        → (r r' : Option Bool) → TakesAt p (answers.Call.Grow_in_place (ticket_of p) n) hs ks r
+        → TakesAt p (answers.Call.Grow_in_place (ticket_of p) n) hs' ks' r' → (r ≡ r') × AreTwins ks ks' }
     ensures extend_heap { (k more : ℕ) (hs hs' ks ks' : Heaps) → IsWellFormed hs → AreTwins hs hs'
         → (r r' : Result Bool AllocError) → ExtendsOne k more hs ks r → ExtendsOne k more hs' ks' r'
         → ((e : AllocError) → r ≡ Err e → ⊥) → ((e : AllocError) → r' ≡ Err e → ⊥)
         → (r ≡ r') × AreTwins ks ks' }
     ensures compact_heap { (k : ℕ) (hs hs' ks ks' : Heaps) → AreTwins hs hs' → (r r' : Bool)
-        → CompactsOne k hs ks r → CompactsOne k hs' ks' r' → (r ≡ r') × AreTwins ks ks' }
+        → TakesWhere k answers.Call.Compact (answers.Answer.Was_done false) hs ks (answers.Answer.Was_done r)
+        → TakesWhere k answers.Call.Compact (answers.Answer.Was_done false) hs' ks' (answers.Answer.Was_done r')
+        → (r ≡ r') × AreTwins ks ks' }
     ensures compact { (hs hs' ks ks' : Heaps) → AreTwins hs hs' → (r r' : Bool)
         → CompactsEach hs ks r → CompactsEach hs' ks' r' → (r ≡ r') × AreTwins ks ks' }
-    ensures make_room { (k size align : ℕ) (hs hs' ks ks' : Heaps) → IsWellFormed hs → AreTwins hs hs'
-        → (r r' : Option RoomCost) → MakesRoomOne k size align hs ks r → MakesRoomOne k size align hs' ks' r'
+    ensures make_room { (k size align : ℕ) (hs hs' ks ks' : Heaps) → IsWellFormed hs → AreTwins hs hs' → (r r' : Option RoomCost)
+        → TakesWhere k (answers.Call.Make_room size align) (answers.Answer.Room_made None) hs ks (answers.Answer.Room_made r)
+        → TakesWhere k (answers.Call.Make_room size align) (answers.Answer.Room_made None) hs' ks'
+        (answers.Answer.Room_made r') → (r ≡ r') × AreTwins ks ks' }
+    ensures retract { (k less : ℕ) (hs hs' ks ks' : Heaps) → IsWellFormed hs → AreTwins hs hs' → (r r' : Bool)
+        → Alters k (RetractsTo hs.limits k less r) hs ks → Alters k (RetractsTo hs'.limits k less r') hs' ks'
         → (r ≡ r') × AreTwins ks ks' }
     // a call of tickets on the heap of a number, and its moves
     ensures on_heap { (k : ℕ) (c : answers.Call) (hs hs' ks ks' : Heaps) → IsWellFormed hs → AreTwins hs hs'
@@ -318,6 +329,17 @@ pub fn a_state_decides_each_step()
     ensures live_before { (p : Place) (hs hs' : Heaps) → IsWellFormed hs → AreTwins hs hs' → IsLive p hs
         → live_before_in p.heap hs'.realm (ticket_of p) (heap_at p.heap hs')
         ≡ live_before_in p.heap hs.realm (ticket_of p) (heap_at p.heap hs) }
+{}
+
+/// Each heap is a space with tickets. Whatever call of heaps is made, each number has the heap that it had, after some calls of
+/// tickets, or none; or, where it had none, a new one: a fresh space, after some calls of tickets. So after any list of calls
+/// each heap is what a list of calls of tickets makes of a fresh space, and what is proved of every such list holds of it.
+/// Beside calls of tickets a node limit may be raised, as `GuardedOf::raised` does.
+pub fn each_heap_is_a_space()
+    ensures call { (c : Call) (hs ks : Heaps) (r : Reply) → IsValid c → Takes c hs ks r
+        → (k : ℕ) → GoesOn (heap_at k hs) (heap_at k ks) }
+    ensures calls { (cs : List Call) (rs : List Reply) (hs ks : Heaps) → AllByRecursion IsValid cs
+        → ((k : ℕ) → IfSome (heap_at k hs) IsSpace) → TakesAll hs cs rs ks → (k : ℕ) → IfSome (heap_at k ks) IsSpace }
 {}
 
 /// A copy and the heaps that it was made of answer each list of calls alike, and so do heaps that differ in

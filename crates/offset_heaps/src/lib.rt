@@ -36,6 +36,7 @@ mod dumping;
 mod extend;
 mod foretell;
 mod fresh;
+mod heap;
 mod heap_mut;
 mod heap_numbers;
 mod index;

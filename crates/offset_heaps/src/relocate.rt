@@ -7,8 +7,8 @@ ghost use Rattle.offset_heaps.specs.Heaps.{numbers};
 ghost use Rattle.offset_heaps.specs.Relocating.{IsEmptiest, NoneLive, TakesUnits};
 
 use crate::HeapsOf;
+use crate::heap::units_for;
 use crate::place::{Granted, Place};
-use crate::slots::units_for;
 use offset_allocator::{Accesses, Tables};
 
 /// As `emptiest` of `Heaps`. The count grows by the number of numbers, one for each slot.

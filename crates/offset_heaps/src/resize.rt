@@ -1,45 +1,29 @@
-//! Ranges that become smaller or larger in place. It changes one slot, and notes it in the index.
-ghost use Rattle.std.specs.Prelude.{◌≡◌, ◌↔◌, None, Some, IfSome, IsSome, IsTrue, false, true};
-ghost use Rattle.offset_heaps.specs.Changing.{CanResizeAt, HasUnits, KeepsLive, Shrunk, Grown, ResizesAt};
-ghost use Rattle.offset_heaps.specs.Changing.{units_wanted, new_size};
+//! Ranges that become smaller or larger in place, by the calls of tickets. It changes one slot, and notes it in the index.
+ghost use Rattle.std.specs.Prelude.{◌≡◌, ◌↔◌, None, Some, IfSome, IsSome, false, true};
+ghost use Rattle.offset_guarded.specs.Answers as tickets;
+ghost use Rattle.offset_heaps.specs.Changing.{Alters, HasUnits, KeepsLive};
+ghost use Rattle.offset_heaps.specs.Places.{ticket_of};
 ghost use Rattle.offset_heaps.specs.Twins.{AreTwins};
 
 use crate::HeapsOf;
 use crate::place::Place;
 use offset_allocator::Tables;
-
-/// What the size of a range is to become: that many units, at most as many as it has, or at least.
-#[derive(Clone, Copy)]
-pub(crate) enum Resize {
-    /// At most as many.
-    Shrink(u32),
-    /// At least as many.
-    Grow(u32),
-}
+use offset_guarded::Ticket;
 
 impl<T: Tables> HeapsOf<T> {
     ghost use Rattle.offset_heaps.specs.Heaps.{IsLive, IsSame, KeepsOthers, TakesFewAccesses};
 
-    // Makes the range of a place smaller or larger in place.
-    fn resize(&mut self, place: Place, how: Resize) -> Option<bool>
-        ensures live { IsSome result ↔ IsLive place self.old }
-        ensures done { IfSome result (λ done. IsTrue done ↔ CanResizeAt (new_size how) place self.old) }
-        ensures range { result ≡ Some true → HasUnits place (units_wanted (new_size how)) self.old self.new }
-        ensures others { KeepsOthers place self.old self.new }
-        ensures kept { KeepsLive self.old self.new }
-        ensures refused { result ≡ Some false → AreTwins self.old self.new }
-        ensures not_live { result ≡ None → IsSame self.old self.new }
-        ensures step { IfSome result (ResizesAt (new_size how) place self.old self.new) }
-        ensures accesses { TakesFewAccesses self.old self.new }
+    // The number of the heap of a place, and its ticket there, where the place is of these heaps.
+    fn ticket_of(&self, place: Place) -> Option<(u32, Ticket)>
+        ensures own { IsSome result ↔ (place.realm ≡ self.now.realm) }
+        ensures heap { IfSome result (λ r. r.0 ≡ place.heap) }
+        ensures ticket { IfSome result (λ r. r.1 ≡ ticket_of place) }
     {
         let (number, realm, ticket) = place.split();
         if realm != self.realm {
             return None;
         }
-        let done = self.slots.resize(number, ticket, how, &mut self.accesses)?;
-        self.index
-            .note(&self.slots, number, self.limits, &mut self.accesses);
-        Some(done)
+        Some((number, ticket))
     }
 
     /// Makes the range of a place smaller in place, as `GuardedOf::shrink` does in its heap, and returns
@@ -55,7 +39,6 @@ impl<T: Tables> HeapsOf<T> {
     /// ```
     pub fn shrink(&mut self, place: Place, size: u32) -> Option<bool>
         ensures live { IsSome result ↔ IsLive place self.old }
-        ensures done { IfSome result (λ done. IsTrue done ↔ CanResizeAt (Shrunk size) place self.old) }
         // Then the range has `size` units, from its first one on. Every other place keeps its range.
         ensures range { result ≡ Some true → HasUnits place size self.old self.new }
         ensures others { KeepsOthers place self.old self.new }
@@ -64,10 +47,21 @@ impl<T: Tables> HeapsOf<T> {
         ensures refused { result ≡ Some false → AreTwins self.old self.new }
         ensures not_live { result ≡ None → IsSame self.old self.new }
         // The step of its heap. All other heaps are as they were.
-        ensures step { IfSome result (ResizesAt (Shrunk size) place self.old self.new) }
+        ensures step { IsSome result
+            → Alters place.heap (λ g h. tickets.Shrinks (ticket_of place) size g h result) self.old self.new }
         ensures accesses { TakesFewAccesses self.old self.new }
     {
-        self.resize(place, Resize::Shrink(size))
+        let (number, ticket) = self.ticket_of(place)?;
+        if !self.slots.has(number, &mut self.accesses) {
+            return None;
+        }
+        let result = self
+            .slots
+            .heap_mut(number, &mut self.accesses)
+            .shrink(ticket, size);
+        self.index
+            .note(&self.slots, number, self.limits, &mut self.accesses);
+        result
     }
 
     /// Makes the range of a place larger in place, as `GuardedOf::grow_in_place` does in its heap, and
@@ -82,7 +76,6 @@ impl<T: Tables> HeapsOf<T> {
     /// ```
     pub fn grow_in_place(&mut self, place: Place, size: u32) -> Option<bool>
         ensures live { IsSome result ↔ IsLive place self.old }
-        ensures done { IfSome result (λ done. IsTrue done ↔ CanResizeAt (Grown size) place self.old) }
         // Then the range has `size` units, from its first one on. Every other place keeps its range.
         ensures range { result ≡ Some true → HasUnits place size self.old self.new }
         ensures others { KeepsOthers place self.old self.new }
@@ -91,9 +84,20 @@ impl<T: Tables> HeapsOf<T> {
         ensures refused { result ≡ Some false → AreTwins self.old self.new }
         ensures not_live { result ≡ None → IsSame self.old self.new }
         // The step of its heap. All other heaps are as they were.
-        ensures step { IfSome result (ResizesAt (Grown size) place self.old self.new) }
+        ensures step { IsSome result
+            → Alters place.heap (λ g h. tickets.Grows (ticket_of place) size g h result) self.old self.new }
         ensures accesses { TakesFewAccesses self.old self.new }
     {
-        self.resize(place, Resize::Grow(size))
+        let (number, ticket) = self.ticket_of(place)?;
+        if !self.slots.has(number, &mut self.accesses) {
+            return None;
+        }
+        let result = self
+            .slots
+            .heap_mut(number, &mut self.accesses)
+            .grow_in_place(ticket, size);
+        self.index
+            .note(&self.slots, number, self.limits, &mut self.accesses);
+        result
     }
 }

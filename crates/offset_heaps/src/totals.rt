@@ -3,7 +3,7 @@ ghost use Rattle.std.specs.Prelude.{◌≡◌, ◌+◌, ◌^◌, ◌<◌, ◌≤
 ghost use Rattle.offset_heaps.specs.Heaps.{free_of, live_units_of, part, room_of, units_of_heap};
 
 use crate::HeapsOf;
-use crate::index::rooms;
+use crate::heap::rooms;
 use crate::limits::Limits;
 use offset_allocator::laws::sizes_add_up;
 use offset_allocator::{Accesses, Tables};

@@ -4,8 +4,8 @@
 ghost use Rattle.offset_heaps.specs.Heaps.{IsLive};
 ghost use Rattle.offset_heaps.specs.Histories.{IsGone, IsStep};
 
-use offset_allocator::Move;
-use offset_heaps::laws::dropped_heaps_stay_dropped;
+use crate::taking;
+use offset_heaps::laws::{alignments_are_kept, dropped_heaps_stay_dropped};
 use offset_heaps::{Heaps, Place};
 
 /// A call that changes many heaps.
@@ -34,109 +34,127 @@ pub enum Change {
 fn allocate(heaps: &mut Heaps, size: u32)
     ensures { IsStep heaps.old heaps.new }
 {
-    let _ = heaps.allocate(size);
+    alignments_are_kept();
+    let _ = taking::allocate(heaps, size);
 }
 
 fn allocate_aligned(heaps: &mut Heaps, size: u32)
     ensures { IsStep heaps.old heaps.new }
 {
-    let _ = heaps.allocate_aligned(size, 256);
+    alignments_are_kept();
+    let _ = taking::allocate_aligned(heaps, size, 256);
 }
 
 fn allocate_tight(heaps: &mut Heaps, size: u32)
     ensures { IsStep heaps.old heaps.new }
 {
-    let _ = heaps.allocate_tight(size);
+    alignments_are_kept();
+    let _ = taking::allocate_tight(heaps, size);
 }
 
 fn allocate_tight_aligned(heaps: &mut Heaps, size: u32)
     ensures { IsStep heaps.old heaps.new }
 {
-    let _ = heaps.allocate_tight_aligned(size, 256);
+    alignments_are_kept();
+    let _ = taking::allocate_tight_aligned(heaps, size, 256);
 }
 
 fn relocate(heaps: &mut Heaps, place: Place)
     ensures { IsStep heaps.old heaps.new }
 {
-    let _ = heaps.relocate(place);
+    alignments_are_kept();
+    let _ = taking::relocate(heaps, place);
 }
 
 fn relocate_aligned(heaps: &mut Heaps, place: Place)
     ensures { IsStep heaps.old heaps.new }
 {
-    let _ = heaps.relocate_aligned(place, 256);
+    alignments_are_kept();
+    let _ = taking::relocate_aligned(heaps, place, 256);
 }
 
 fn free(heaps: &mut Heaps, place: Place)
     ensures { IsStep heaps.old heaps.new }
 {
-    let _ = heaps.free(place);
+    alignments_are_kept();
+    let _ = taking::free(heaps, place);
 }
 
 fn drop_empty(heaps: &mut Heaps, keep: u32)
     ensures { IsStep heaps.old heaps.new }
 {
-    let _ = heaps.drop_empty(keep);
+    alignments_are_kept();
+    let _ = taking::drop_empty(heaps, keep);
 }
 
 fn drop_heap(heaps: &mut Heaps, number: u32)
     ensures { IsStep heaps.old heaps.new }
 {
-    let _ = heaps.drop_heap(number);
+    alignments_are_kept();
+    let _ = taking::drop_heap(heaps, number);
 }
 
 fn give_up(heaps: &mut Heaps, number: u32)
     ensures { IsStep heaps.old heaps.new }
 {
-    let _ = heaps.give_up(number);
+    alignments_are_kept();
+    let _ = taking::give_up(heaps, number);
 }
 
 fn reset(heaps: &mut Heaps)
     ensures { IsStep heaps.old heaps.new }
 {
-    heaps.reset();
+    alignments_are_kept();
+    taking::reset(heaps);
 }
 
 fn shrink(heaps: &mut Heaps, place: Place, size: u32)
     ensures { IsStep heaps.old heaps.new }
 {
-    let _ = heaps.shrink(place, size);
+    alignments_are_kept();
+    let _ = taking::shrink(heaps, place, size);
 }
 
 fn grow_in_place(heaps: &mut Heaps, place: Place, size: u32)
     ensures { IsStep heaps.old heaps.new }
 {
-    let _ = heaps.grow_in_place(place, size);
+    alignments_are_kept();
+    let _ = taking::grow_in_place(heaps, place, size);
 }
 
 fn extend_heap(heaps: &mut Heaps, number: u32, more: u32)
     ensures { IsStep heaps.old heaps.new }
 {
-    let _ = heaps.extend_heap(number, more);
+    alignments_are_kept();
+    let _ = taking::extend_heap(heaps, number, more);
 }
 
 fn compact(heaps: &mut Heaps)
     ensures { IsStep heaps.old heaps.new }
 {
-    let _ = heaps.compact(&mut |_number: u32, _range: Move<u32>| ());
+    alignments_are_kept();
+    let _ = taking::compact(heaps);
 }
 
 fn compact_heap(heaps: &mut Heaps, number: u32)
     ensures { IsStep heaps.old heaps.new }
 {
-    let _ = heaps.compact_heap(number, &mut |_range: Move<u32>| ());
+    alignments_are_kept();
+    let _ = taking::compact_heap(heaps, number);
 }
 
 fn make_room(heaps: &mut Heaps, number: u32, size: u32)
     ensures { IsStep heaps.old heaps.new }
 {
-    let _ = heaps.make_room(number, size, &mut |_range: Move<u32>| ());
+    alignments_are_kept();
+    let _ = taking::make_room(heaps, number, size);
 }
 
 fn make_room_aligned(heaps: &mut Heaps, number: u32, size: u32)
     ensures { IsStep heaps.old heaps.new }
 {
-    let _ = heaps.make_room_aligned(number, size, 256, &mut |_range: Move<u32>| ());
+    alignments_are_kept();
+    let _ = taking::make_room_aligned(heaps, number, size, 256);
 }
 
 /// Makes a call.

@@ -1,11 +1,11 @@
-//! Each call on one heap of many but `retract` is a call of tickets, as the laws speak of it: so in the same state it has the
-//! same answer and the same moves. Where it goes by the step of the heap, or moves nothing, it is a step of a history too: so
+//! Each call on one heap of many is a call of tickets, or a call of its own, as the laws speak of it: so in the same state it has
+//! the same answer and the same moves. Where it goes by the step of the heap, or moves nothing, it is a step of a history too: so
 //! every alignment is kept, and no place of a heap that is gone is live after it. Nothing calls these functions: they are proved.
 
 ghost use Rattle.std.specs.Prelude.{◌≤◌, [], List};
 ghost use Rattle.offset_allocator.specs.Moving.Compacting.{Move};
 ghost use Rattle.offset_guarded.specs.Answers as tickets;
-ghost use Rattle.offset_heaps.specs.Calls.{TakesOn};
+ghost use Rattle.offset_heaps.specs.Calls.{Retract_heap, Takes, TakesOn, Was_done};
 ghost use Rattle.offset_heaps.specs.Histories.{IsStep};
 
 use offset_allocator::{ByNode, Move as Moved, Progress, RoomCost};
@@ -134,6 +134,15 @@ pub fn extend(heap: &mut HeapMut<'_, ByNode<u32>>, more: u32) -> bool
 {
     alignments_are_kept();
     heap.extend(more)
+}
+
+/// Fewer units: a call of lists of its own, since a heap keeps the units of its kind.
+pub fn retract(heap: &mut HeapMut<'_, ByNode<u32>>, less: u32) -> bool
+    ensures call { Takes (Retract_heap heap.old.number less) heap.old.heaps.now heap.new.heaps.now (Was_done result) }
+    ensures step { IsStep heap.old.heaps.now heap.new.heaps.now }
+{
+    alignments_are_kept();
+    heap.retract(less)
 }
 
 /// A larger step.

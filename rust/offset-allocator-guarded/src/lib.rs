@@ -266,6 +266,8 @@ mod more_calls {
         /// Makes the whole space one free block again, as `Allocator::reset` does. No earlier ticket is ever live
         /// again. The step is 1.
         ///
+        /// It makes at most 2 accesses to the tables of the allocator, and 130 for each live range, or 270 where that is less.
+        ///
         /// ```
         /// # use offset_allocator_guarded::*;
         /// # let alloc = Global;

@@ -12,7 +12,7 @@ impl<T: Tables> GuardedOf<T> {
     /// where its range begins. If `moved` panics, the guarded allocator must not be used any more: drop it.
     ///
     /// `false` is returned, and nothing changes, where the space has no step, or `Allocator::compact_by` returns
-    /// `false`.
+    /// `false`. It makes at most 40 accesses to the tables of the allocator, and 21 for each block.
     ///
     /// ```
     /// # use offset_allocator_guarded::*;
@@ -39,7 +39,8 @@ impl<T: Tables> GuardedOf<T> {
     /// be used any more: drop it.
     ///
     /// `None` is returned, and nothing changes, where the space has no step, or `Allocator::compact_within` returns
-    /// `None`.
+    /// `None`. It makes at most 60 accesses to the tables of the allocator, and 26 for each block; and at most 60, 5 for
+    /// each block, and 42 for each range of the budget, or for one.
     ///
     /// ```
     /// # use offset_allocator_guarded::*;
@@ -73,7 +74,8 @@ impl<T: Tables> GuardedOf<T> {
     /// returns where its range begins. If `moved` panics, the guarded allocator must not be used any more: drop it.
     ///
     /// It returns what [`room_cost`](Self::room_cost) would have returned before: `None` where no run of blocks gives up enough, or the
-    /// space has no step, and then nothing changes.
+    /// space has no step, and then nothing changes. It makes at most 60 accesses to the tables of the allocator, 7 for each
+    /// block, and 36 for each range that moves.
     ///
     /// ```
     /// # use offset_allocator_guarded::*;
@@ -200,8 +202,8 @@ impl<T: Tables> GuardedOf<T> {
 
     /// Slides live ranges to the front of the space by whole steps, as `Allocator::compact_by` does: each keeps
     /// its alignment where that divides `step`. Every ticket stays live, with its size; [`offset_of`](Self::offset_of) returns
-    /// where its range begins. `false` is returned, and nothing changes, where that call returns `false`. If
-    /// `moved` panics, the guarded allocator must not be used any more: drop it.
+    /// where its range begins. `false` is returned, and nothing changes, where that call returns `false`. It makes as
+    /// many accesses as [`compact`](Self::compact). If `moved` panics, the guarded allocator must not be used any more: drop it.
     ///
     /// # Panics
     ///
@@ -228,8 +230,8 @@ impl<T: Tables> GuardedOf<T> {
     /// Slides live ranges to the front by whole steps, from the offset `from` on and within a budget, as
     /// `Allocator::compact_within` does: so a compaction can be done over several frames. Every ticket stays
     /// live, with its size; [`offset_of`](Self::offset_of) returns where its range begins. The result says what moved, and where
-    /// the next call goes on; `None` is returned, and nothing changes, where that call returns `None`. If `moved`
-    /// panics, the guarded allocator must not be used any more: drop it.
+    /// the next call goes on; `None` is returned, and nothing changes, where that call returns `None`. It makes as
+    /// many accesses as [`compact_within`](Self::compact_within). If `moved` panics, the guarded allocator must not be used any more: drop it.
     ///
     /// # Panics
     ///
@@ -267,8 +269,8 @@ impl<T: Tables> GuardedOf<T> {
     /// Makes room for `allocate_aligned(size, align)` by whole steps, as `Allocator::make_room_by` does: each
     /// range that moves keeps its alignment where that divides `step`. Every ticket stays live, with its size;
     /// [`offset_of`](Self::offset_of) returns where its range begins. It returns what `room_cost_by` of `allocator()` would have
-    /// returned before: `None` where no run of blocks gives up enough, and then nothing changes. If `moved` panics,
-    /// the guarded allocator must not be used any more: drop it.
+    /// returned before: `None` where no run of blocks gives up enough, and then nothing changes. It makes as many
+    /// accesses as [`make_room`](Self::make_room). If `moved` panics, the guarded allocator must not be used any more: drop it.
     ///
     /// # Panics
     ///
@@ -302,8 +304,8 @@ impl<T: Tables> GuardedOf<T> {
 
     /// Slides every live range to the front of the space, as `Allocator::compact` does: **a moved range keeps no
     /// alignment**, whatever was asked for; [`compact`](Self::compact) keeps all. Every ticket stays live, with its size;
-    /// [`offset_of`](Self::offset_of) returns where its range begins. If `moved` panics, the guarded allocator must not be used any
-    /// more: drop it.
+    /// [`offset_of`](Self::offset_of) returns where its range begins. It makes at most 384 accesses to the tables of the allocator, and 10
+    /// for each block. If `moved` panics, the guarded allocator must not be used any more: drop it.
     ///
     /// ```
     /// # use offset_allocator_guarded::*;
@@ -322,8 +324,9 @@ impl<T: Tables> GuardedOf<T> {
 
     /// Makes room for a request of `size` units, where ranges have to move for it, as `Allocator::make_room`
     /// does. **A moved range keeps no alignment**, whatever was asked for; [`make_room`](Self::make_room) keeps all. Every ticket
-    /// stays live, with its size; [`offset_of`](Self::offset_of) returns where its range begins. If `moved` panics, the guarded
-    /// allocator must not be used any more: drop it.
+    /// stays live, with its size; [`offset_of`](Self::offset_of) returns where its range begins. It makes at most 20 accesses to the tables
+    /// of the allocator, 6 for each block, and 40 for each range that moves. If `moved` panics, the guarded allocator
+    /// must not be used any more: drop it.
     ///
     /// ```
     /// # use offset_allocator_guarded::*;

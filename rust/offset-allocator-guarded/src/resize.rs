@@ -60,7 +60,8 @@ impl<T: Tables> GuardedOf<T> {
         }
     }
 
-    /// Adds `more` units at the end of the space, as `Allocator::extend` does, and returns whether it did.
+    /// Adds `more` units at the end of the space, as `Allocator::extend` does, and returns whether it did. It makes at
+    /// most 128 accesses to the tables of the allocator.
     ///
     /// ```
     /// # use offset_allocator_guarded::*;
@@ -77,7 +78,7 @@ impl<T: Tables> GuardedOf<T> {
     }
 
     /// Takes `less` free units off the end of the space, as `Allocator::retract` does, and returns whether it
-    /// did.
+    /// did. It makes at most 64 accesses to the tables of the allocator.
     ///
     /// ```
     /// # use offset_allocator_guarded::*;

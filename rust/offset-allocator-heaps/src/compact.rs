@@ -1,32 +1,13 @@
 // Printed by rust/erase from crates/offset_heaps/src/compact.rt: change it there.
 
-//! Ranges that slide to the front of their heap by its step, all or to make room. It changes one slot, or all, and
-//! notes it in the index.
+//! Ranges that slide to the front of their heap by its step, all or to make room, by the calls of tickets. It changes one
+//! slot, or all, and notes it in the index.
 
 use crate::HeapsOf;
 use crate::index::Index;
 use crate::limits::Limits;
 use crate::slots::Slots;
-use offset_allocator::{Accesses, Move, NodeIndex, RoomCost, Tables};
-use offset_guarded::GuardedOf;
-
-// Slides live ranges of a heap to the front of its space by its step, and returns whether it was done.
-pub(crate) fn compact_one<NI: NodeIndex, T: Tables<Index = NI>, F: FnMut(Move<NI>)>(
-    heap: &mut GuardedOf<T>,
-    moved: &mut F,
-) -> bool {
-    heap.compact(moved)
-}
-
-// The same, and calls the closure with the number of the heap too. The index type is a parameter too, which keeps the
-// proof short.
-pub(crate) fn compact_numbered<NI: NodeIndex, T: Tables<Index = NI>, F: FnMut(u32, Move<NI>)>(
-    heap: &mut GuardedOf<T>,
-    number: u32,
-    moved: &mut F,
-) -> bool {
-    compact_one(heap, &mut |range: Move<NI>| moved(number, range))
-}
+use offset_allocator::{Accesses, Move, RoomCost, Tables};
 
 // Whether both hold.
 fn both(first: bool, second: bool) -> bool {
@@ -75,10 +56,13 @@ impl<T: Tables> HeapsOf<T> {
         if !self.slots.has(number, &mut self.accesses) {
             return false;
         }
-        let done = self.slots.compact(number, &mut moved, &mut self.accesses);
+        let result = self
+            .slots
+            .heap_mut(number, &mut self.accesses)
+            .compact(&mut moved);
         self.index
             .note(&self.slots, number, self.limits, &mut self.accesses);
-        done
+        result
     }
 
     /// Slides live ranges of each heap to the front of its space by its step, as [`compact_heap`](Self::compact_heap) of each number that
@@ -171,11 +155,12 @@ impl<T: Tables> HeapsOf<T> {
         if !self.slots.has(number, &mut self.accesses) {
             return None;
         }
-        let cost = self
+        let result = self
             .slots
-            .make_room(number, size, align, &mut moved, &mut self.accesses);
+            .heap_mut(number, &mut self.accesses)
+            .make_room_aligned(size, align, &mut moved);
         self.index
             .note(&self.slots, number, self.limits, &mut self.accesses);
-        cost
+        result
     }
 }

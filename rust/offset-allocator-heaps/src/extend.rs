@@ -3,71 +3,8 @@
 //! Heaps whose space becomes larger in place. It changes one slot, and notes it in the index.
 
 use crate::HeapsOf;
-use crate::limits::Limits;
-use crate::slots::{double_limit, must_raise};
-use offset_allocator::{Accesses, Tables};
-use offset_guarded::GuardedOf;
-use crate::memory::{AllocError, Global};
-
-// Whether the last block of a heap is free.
-fn ends_free<T: Tables>(heap: &GuardedOf<T>) -> bool {
-    let mut blocks = heap.allocator().blocks();
-    match offset_allocator::laws::next_block_counted(&mut blocks, &mut Accesses::new()) {
-        None => false,
-        Some(block) => match block.allocation {
-            None => true,
-            Some(_) => false,
-        },
-    }
-}
-
-// Whether the node limit of the heap of a number has to be raised for `more` units.
-fn must_extend<T: Tables>(heap: &GuardedOf<T>, number: u32, limits: Limits, more: u32) -> bool {
-    more > 0 && must_raise(heap, number, limits, 1) && !ends_free(heap)
-}
-
-// Doubles the node limit of the heap of a number, where it has to be raised for `more` units.
-fn raise_for<T: Tables>(
-    alloc: Global,
-    heap: &mut GuardedOf<T>,
-    number: u32,
-    limits: Limits,
-    more: u32,
-) -> Result<(), AllocError> {
-    if must_extend(heap, number, limits, more) {
-        double_limit(alloc, heap, limits)?;
-    }
-    Ok(())
-}
-
-// Adds units at the end of a heap, whose node limit is raised first where they need that.
-fn extend_heap<T: Tables>(
-    alloc: Global,
-    heap: &mut GuardedOf<T>,
-    number: u32,
-    limits: Limits,
-    more: u32,
-) -> Result<bool, AllocError> {
-    if more > u32::MAX - heap.allocator().size() {
-        return Ok(false);
-    }
-    raise_for(alloc, heap, number, limits, more)?;
-    Ok(heap.extend(more))
-}
-
-/// Adds units at the end of the heap of a number, as the function before.
-pub(crate) fn extend_in<T: Tables>(
-    alloc: Global,
-    slot: &mut Option<GuardedOf<T>>,
-    number: u32,
-    limits: Limits,
-    more: u32,
-) -> Result<bool, AllocError> {
-    match slot {
-        Some(heap) => extend_heap(alloc, heap, number, limits, more),
-        None => unreachable!(),
-    }
-}
+use offset_allocator::Tables;
+use crate::memory::AllocError;
 
 impl<T: Tables> HeapsOf<T> {
     /// Adds `more` units at the end of the heap of a number, as `GuardedOf::extend` does, and returns whether it

@@ -3,8 +3,8 @@
 //! Heaps that are made for a request, which they grant at once, and whose alignment their step takes in. It touches
 //! nothing else.
 
+use crate::heap;
 use crate::limits::{Limits, usual_size};
-use crate::slots;
 use offset_allocator::Tables;
 use offset_guarded::{GuardedOf, Ticket};
 use crate::memory::{AllocError, Global};
@@ -27,7 +27,7 @@ pub(crate) fn usual<T: Tables>(
         limits.first_allocs,
         realm,
     )?);
-    let ticket = slots::grant_first_in(&mut slot, size, align);
+    let ticket = heap::grant_first_in(&mut slot, size, align);
     Ok((slot, ticket))
 }
 
@@ -39,6 +39,6 @@ pub(crate) fn larger<T: Tables>(
     align: u32,
 ) -> Result<(Option<GuardedOf<T>>, Ticket), AllocError> {
     let mut slot = Some(GuardedOf::with_realm(alloc, size, LARGER_LIMIT, realm)?);
-    let ticket = slots::grant_tight_in(&mut slot, size, align);
+    let ticket = heap::grant_tight_in(&mut slot, size, align);
     Ok((slot, ticket))
 }

@@ -233,6 +233,7 @@ mod restore;
 mod copy;
 mod dumping;
 mod fresh;
+mod heap;
 mod heap_mut;
 mod index;
 #[doc(hidden)]

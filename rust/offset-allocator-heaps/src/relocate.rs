@@ -4,8 +4,8 @@
 //! slot by a grant, and notes it in the index.
 
 use crate::HeapsOf;
+use crate::heap::units_for;
 use crate::place::{Granted, Place};
-use crate::slots::units_for;
 use offset_allocator::{Accesses, Tables};
 
 /// As `emptiest` of [`Heaps`](crate::Heaps). The count grows by the number of numbers, one for each slot.

@@ -1,31 +1,20 @@
 // Printed by rust/erase from crates/offset_heaps/src/resize.rt: change it there.
 
-//! Ranges that become smaller or larger in place. It changes one slot, and notes it in the index.
+//! Ranges that become smaller or larger in place, by the calls of tickets. It changes one slot, and notes it in the index.
 
 use crate::HeapsOf;
 use crate::place::Place;
 use offset_allocator::Tables;
-
-/// What the size of a range is to become: that many units, at most as many as it has, or at least.
-#[derive(Clone, Copy)]
-pub(crate) enum Resize {
-    /// At most as many.
-    Shrink(u32),
-    /// At least as many.
-    Grow(u32),
-}
+use offset_guarded::Ticket;
 
 impl<T: Tables> HeapsOf<T> {
-    // Makes the range of a place smaller or larger in place.
-    fn resize(&mut self, place: Place, how: Resize) -> Option<bool> {
+    // The number of the heap of a place, and its ticket there, where the place is of these heaps.
+    fn ticket_of(&self, place: Place) -> Option<(u32, Ticket)> {
         let (number, realm, ticket) = place.split();
         if realm != self.realm {
             return None;
         }
-        let done = self.slots.resize(number, ticket, how, &mut self.accesses)?;
-        self.index
-            .note(&self.slots, number, self.limits, &mut self.accesses);
-        Some(done)
+        Some((number, ticket))
     }
 
     /// Makes the range of a place smaller in place, as `GuardedOf::shrink` does in its heap, and returns
@@ -45,7 +34,17 @@ impl<T: Tables> HeapsOf<T> {
     /// # Ok::<(), AllocError>(())
     /// ```
     pub fn shrink(&mut self, place: Place, size: u32) -> Option<bool> {
-        self.resize(place, Resize::Shrink(size))
+        let (number, ticket) = self.ticket_of(place)?;
+        if !self.slots.has(number, &mut self.accesses) {
+            return None;
+        }
+        let result = self
+            .slots
+            .heap_mut(number, &mut self.accesses)
+            .shrink(ticket, size);
+        self.index
+            .note(&self.slots, number, self.limits, &mut self.accesses);
+        result
     }
 
     /// Makes the range of a place larger in place, as `GuardedOf::grow_in_place` does in its heap, and
@@ -64,6 +63,16 @@ impl<T: Tables> HeapsOf<T> {
     /// # Ok::<(), AllocError>(())
     /// ```
     pub fn grow_in_place(&mut self, place: Place, size: u32) -> Option<bool> {
-        self.resize(place, Resize::Grow(size))
+        let (number, ticket) = self.ticket_of(place)?;
+        if !self.slots.has(number, &mut self.accesses) {
+            return None;
+        }
+        let result = self
+            .slots
+            .heap_mut(number, &mut self.accesses)
+            .grow_in_place(ticket, size);
+        self.index
+            .note(&self.slots, number, self.limits, &mut self.accesses);
+        result
     }
 }

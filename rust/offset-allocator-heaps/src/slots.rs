@@ -3,13 +3,12 @@
 //! The heaps by their numbers: no other module reads or writes them. Each function counts the slots that it
 //! touches.
 
-use crate::compact::{compact_numbered, compact_one};
-use crate::extend::extend_in;
-use crate::index::{has_serial_left, is_empty_heap, nodes_left, rooms};
+use crate::heap::{
+    alignment_in, compact_numbered_in, extend_in, free_in, grant_in, grant_tight_aligned_in, holds,
+    is_empty_heap, is_fuller, must_raise, raise_in, reset_in, room_at, units_for,
+};
 use crate::limits::Limits;
-use crate::resize::Resize;
-use offset_allocator::laws::unused_nodes;
-use offset_allocator::{Accesses, Move, RoomCost, Tables};
+use offset_allocator::{Accesses, Move, Tables};
 use offset_guarded::{GuardedOf, Ticket};
 use crate::memory::Vec;
 use crate::memory::{AllocError, Global};
@@ -19,254 +18,12 @@ pub(crate) struct Slots<T: Tables> {
     heaps: Vec<Option<GuardedOf<T>>>,
 }
 
-// The largest request at a multiple of `align` that the heap of a number grants, or 0.
-fn room_at<T: Tables>(heap: &GuardedOf<T>, number: u32, limits: Limits, align: u32) -> u32 {
-    let (one, two) = rooms(Some(heap), number, limits);
-    if align == 1 { one } else { two }
-}
-
 // The heap of a slot that has one, to be changed.
 fn heap_in<H>(slot: &mut Option<H>) -> &mut H {
     match slot {
         Some(heap) => heap,
         None => unreachable!(),
     }
-}
-
-/// Whether the node limit of the heap of a number has to be raised for a call that may add `blocks` blocks.
-pub(crate) fn must_raise<T: Tables>(
-    heap: &GuardedOf<T>,
-    number: u32,
-    limits: Limits,
-    blocks: u32,
-) -> bool {
-    let space = heap.allocator();
-    number < limits.most && space.max_allocs() < limits.max_allocs && unused_nodes(space) <= blocks
-}
-
-/// Doubles the node limit of a heap, up to the largest one.
-pub(crate) fn double_limit<T: Tables>(
-    alloc: Global,
-    heap: &mut GuardedOf<T>,
-    limits: Limits,
-) -> Result<(), AllocError> {
-    let limit = heap.allocator().max_allocs();
-    let most = limits.max_allocs;
-    let twice = if most - limit < limit {
-        most
-    } else {
-        2 * limit
-    };
-    *heap = heap.raised(alloc, twice)?;
-    Ok(())
-}
-
-// Doubles the node limit of the heap of a number, where it has to be raised for `blocks` more blocks.
-fn raise_heap<T: Tables>(
-    alloc: Global,
-    heap: &mut GuardedOf<T>,
-    number: u32,
-    limits: Limits,
-    blocks: u32,
-) -> Result<(), AllocError> {
-    if must_raise(heap, number, limits, blocks) {
-        double_limit(alloc, heap, limits)?;
-    }
-    Ok(())
-}
-
-// The same, where the number has a heap.
-fn raise_in<T: Tables>(
-    alloc: Global,
-    slot: &mut Option<GuardedOf<T>>,
-    number: u32,
-    limits: Limits,
-    blocks: u32,
-) -> Result<(), AllocError> {
-    match slot {
-        Some(heap) => raise_heap(alloc, heap, number, limits, blocks),
-        None => Ok(()),
-    }
-}
-
-/// Grants a request in a heap that has room for it, and for one unit.
-pub(crate) fn grant_in<T: Tables>(slot: &mut Option<GuardedOf<T>>, size: u32, align: u32) -> Ticket {
-    match slot {
-        Some(heap) => {
-            match heap.allocate_aligned(size, align) {
-                Some(ticket) => ticket,
-                None => unreachable!(),
-            }
-        }
-        None => unreachable!(),
-    }
-}
-
-/// Grants the first request of a heap, which has room for it, where it begins at 0: a multiple of `align`, which the
-/// step takes in.
-pub(crate) fn grant_first_in<T: Tables>(
-    slot: &mut Option<GuardedOf<T>>,
-    size: u32,
-    align: u32,
-) -> Ticket {
-    match slot {
-        Some(heap) => {
-            match heap.allocate_aligned(size, 1) {
-                Some(ticket) => {
-                    heap.raise_step(align);
-                    ticket
-                }
-                None => unreachable!(),
-            }
-        }
-        None => unreachable!(),
-    }
-}
-
-/// The same of a heap that has a free block for it.
-pub(crate) fn grant_tight_in<T: Tables>(
-    slot: &mut Option<GuardedOf<T>>,
-    size: u32,
-    align: u32,
-) -> Ticket {
-    match slot {
-        Some(heap) => match heap.allocate_tight(size) {
-            Some(ticket) => {
-                heap.raise_step(align);
-                ticket
-            }
-            None => unreachable!(),
-        },
-        None => unreachable!(),
-    }
-}
-
-// Grants a request in a heap, a free block of which holds it.
-fn grant_tight_aligned_in<T: Tables>(
-    slot: &mut Option<GuardedOf<T>>,
-    size: u32,
-    align: u32,
-) -> Ticket {
-    match slot {
-        Some(heap) => match heap.allocate_tight_aligned(size, align) {
-            Some(ticket) => ticket,
-            None => unreachable!(),
-        },
-        None => unreachable!(),
-    }
-}
-
-// Whether a free block of the heap of a number holds a request. Where none does, the heap has no room for it either.
-fn holds<T: Tables>(heap: &GuardedOf<T>, number: u32, limits: Limits, size: u32, align: u32) -> bool {
-    let space = heap.allocator();
-    if !has_serial_left(heap) || nodes_left(heap, number, limits) <= align.min(2) {
-        return false;
-    }
-    offset_allocator::laws::has_block_for_counted(space, size, align, &mut Accesses::new())
-}
-
-// Frees the range of a ticket, where it is live.
-fn free_in<T: Tables>(slot: &mut Option<GuardedOf<T>>, ticket: Ticket) -> bool {
-    match slot {
-        Some(heap) => heap.free(ticket),
-        None => false,
-    }
-}
-
-// Makes the range of a ticket smaller or larger in place, where it is live.
-fn resize_heap<T: Tables>(heap: &mut GuardedOf<T>, ticket: Ticket, how: Resize) -> Option<bool> {
-    match how {
-        Resize::Shrink(size) => heap.shrink(ticket, size),
-        Resize::Grow(size) => heap.grow_in_place(ticket, size),
-    }
-}
-
-// The same, where the number has a heap.
-fn resize_in<T: Tables>(
-    slot: &mut Option<GuardedOf<T>>,
-    ticket: Ticket,
-    how: Resize,
-) -> Option<bool> {
-    match slot {
-        None => None,
-        Some(heap) => resize_heap(heap, ticket, how),
-    }
-}
-
-// Slides live ranges of a heap to the front of its space by its step, and returns whether it was done.
-fn compact_in<T: Tables, F: FnMut(Move<T::Index>)>(
-    slot: &mut Option<GuardedOf<T>>,
-    moved: &mut F,
-) -> bool {
-    match slot {
-        Some(heap) => compact_one(heap, moved),
-        None => unreachable!(),
-    }
-}
-
-// The same where there is one, and calls the closure with its number too.
-fn compact_numbered_in<T: Tables, F: FnMut(u32, Move<T::Index>)>(
-    slot: &mut Option<GuardedOf<T>>,
-    number: u32,
-    moved: &mut F,
-) -> bool {
-    match slot {
-        Some(heap) => compact_numbered(heap, number, moved),
-        None => true,
-    }
-}
-
-// Makes room for a request in a heap by its step.
-fn make_room_in<T: Tables, F: FnMut(Move<T::Index>)>(
-    slot: &mut Option<GuardedOf<T>>,
-    size: u32,
-    align: u32,
-    moved: &mut F,
-) -> Option<RoomCost> {
-    match slot {
-        Some(heap) => heap.make_room_aligned(size, align, moved),
-        None => unreachable!(),
-    }
-}
-
-// Makes the space of a heap one free block again.
-fn reset_in<T: Tables>(slot: &mut Option<GuardedOf<T>>) {
-    match slot {
-        Some(heap) => heap.reset(),
-        None => {}
-    }
-}
-
-/// The units of room that a heap needs for a range of `size` units from a multiple of `align` on: one at least, also
-/// where the range has none.
-pub(crate) fn units_for(size: u32, align: u32) -> u64 {
-    let units = size as u64 + align as u64 - 1;
-    if units == 0 { 1 } else { units }
-}
-
-// The greatest common divisor, by Euclid.
-fn common_divisor(first: u32, second: u32) -> u32 {
-    let mut divisor = first;
-    let mut rest = second;
-    while rest != 0 {
-        let next = divisor % rest;
-        divisor = rest;
-        rest = next;
-    }
-    divisor
-}
-
-// What the offset of the range of a ticket, where it is live, and the step of its heap have in common, or `None` where
-// the heap has no step.
-fn alignment_in<T: Tables>(heap: &GuardedOf<T>, ticket: Ticket) -> Option<u32> {
-    let step = heap.step()?;
-    let offset = heap.offset_of(ticket)?;
-    Some(common_divisor(offset, step))
-}
-
-// Whether a heap with `full` live units may take a range of `size` units of the heap `own`, which has `live`.
-fn is_fuller(size: u32, own: u32, live: u32, number: u32, full: u32) -> bool {
-    live < full || (live == full && (size > 0 || number < own))
 }
 
 // The emptiest heap so far, and its live units, with those of one more heap.
@@ -408,22 +165,6 @@ impl<T: Tables> Slots<T> {
         free_in(&mut self.heaps[number as usize], ticket)
     }
 
-    /// Makes the range of a ticket smaller or larger in place in the heap of a number, where it is live, and
-    /// returns whether it did.
-    pub(crate) fn resize(
-        &mut self,
-        number: u32,
-        ticket: Ticket,
-        how: Resize,
-        count: &mut Accesses,
-    ) -> Option<bool> {
-        count.tick();
-        if number as usize >= self.heaps.len() {
-            return None;
-        }
-        resize_in(&mut self.heaps[number as usize], ticket, how)
-    }
-
     /// Adds units at the end of the heap of a number, whose node limit is raised first where they need that, and
     /// returns whether it did.
     pub(crate) fn extend(
@@ -444,19 +185,8 @@ impl<T: Tables> Slots<T> {
         )
     }
 
-    /// Slides live ranges of the heap of a number to the front of its space by its step, and returns whether it was
-    /// done.
-    pub(crate) fn compact<F: FnMut(Move<T::Index>)>(
-        &mut self,
-        number: u32,
-        moved: &mut F,
-        count: &mut Accesses,
-    ) -> bool {
-        count.tick();
-        compact_in(&mut self.heaps[number as usize], moved)
-    }
-
-    /// The same where it has one, and calls the closure with the number too. It is done where there is no heap.
+    /// Slides live ranges of the heap of a number to the front of its space by its step, where there is one, and returns
+    /// whether it was done, as where there is none. It calls the closure with the number too.
     pub(crate) fn compact_numbered<F: FnMut(u32, Move<T::Index>)>(
         &mut self,
         number: u32,
@@ -465,19 +195,6 @@ impl<T: Tables> Slots<T> {
     ) -> bool {
         count.tick();
         compact_numbered_in(&mut self.heaps[number as usize], number, moved)
-    }
-
-    /// Makes room for a request in the heap of a number by its step.
-    pub(crate) fn make_room<F: FnMut(Move<T::Index>)>(
-        &mut self,
-        number: u32,
-        size: u32,
-        align: u32,
-        moved: &mut F,
-        count: &mut Accesses,
-    ) -> Option<RoomCost> {
-        count.tick();
-        make_room_in(&mut self.heaps[number as usize], size, align, moved)
     }
 
     /// Makes the space of the heap of a number one free block again.

@@ -3,7 +3,7 @@
 //! What is live and what is free in all heaps together. It reads each slot once, and changes nothing.
 
 use crate::HeapsOf;
-use crate::index::rooms;
+use crate::heap::rooms;
 use crate::limits::Limits;
 use offset_allocator::{Accesses, Tables};
 use offset_guarded::GuardedOf;

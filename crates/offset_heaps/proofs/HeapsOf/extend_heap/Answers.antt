@@ -2,7 +2,7 @@ use Rattle.std.proofs.Common.{◌≡◌, Bool, false, arith, refl, subst}
 use Rattle.offset_guarded.proofs.Twins.{same_twin}
 use Rattle.offset_heaps.specs.Extending.{ExtendsIf}
 use Rattle.offset_heaps.proofs.Changes.{alike, altered, kept_of_places}
-use Rattle.offset_heaps.proofs.{Longer.kind_longer, Longer.range_longer, Longer.realm_longer, Places.shown, Sound.realm_kept, Sound.sound_put}
+use Rattle.offset_heaps.proofs.{Longer.kind_longer, Longer.range_longer, Longer.realm_longer, Longer.refused_same, Places.shown, Sound.realm_kept, Sound.sound_put}
 use Rattle.offset_heaps.proofs.HeapsOf.extend_heap.Goals as goal
 
 pub invariant_of-self-2 : goal.invariant_of-self-2
@@ -36,7 +36,8 @@ returns-clause-refused g c e =
     let a = altered c.args.number P old new c.in_ok-done.ensures.change refl in
     let undone : c.in_ok-done.done ≡ false = cc in
     rw (← c.self.view_is) (alike c.args.number P old new there a
-    (same_twin a.before a.after (subst (λ (b : Bool). ExtendsIf c.self.inside.limits c.args.number c.args.more b a.before a.after) undone a.by)))
+    (same_twin a.before a.after (refused_same c.self.inside.limits c.args.number c.args.more a.before a.after
+    (subst (λ (b : Bool). ExtendsIf c.self.inside.limits c.args.number c.args.more b a.before a.after) undone a.by))))
 
 pub returns-clause-step : goal.returns-clause-step
 returns-clause-step g c =

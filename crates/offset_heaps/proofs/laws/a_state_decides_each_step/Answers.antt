@@ -1,4 +1,6 @@
-use Rattle.offset_heaps.proofs.DecidedCalls.{allocates_decided, compacts_all_decided, compacts_one_decided, drops_decided, drops_empty_decided, emptiest_decided, free_decided, gives_up_decided, lengthens_decided, on_heap_decided, relocates_decided, relocates_own_decided, resets_decided, room_decided, size_decided, totals_decided}
+use Rattle.offset_guarded.specs.Answers as answers
+use Rattle.offset_heaps.specs.Places.{ticket_of}
+use Rattle.offset_heaps.proofs.DecidedCalls.{allocates_decided, compacts_all_decided, compacts_one_decided, drops_decided, drops_empty_decided, emptiest_decided, free_decided, gives_up_decided, lengthens_decided, on_heap_decided, relocates_decided, relocates_own_decided, resets_decided, retracts_decided, room_decided, size_decided, totals_decided}
 use Rattle.offset_heaps.proofs.{DecidedTight.tights_decided, DecidedWalks.before_decided, DecidedWalks.last_decided, Twins.range_twins}
 use Rattle.offset_heaps.proofs.laws.a_state_decides_each_step.Goals as goal
 
@@ -41,8 +43,11 @@ returns-clause-last_live c = last_decided
 pub returns-clause-live_before : goal.returns-clause-live_before
 returns-clause-live_before c = before_decided
 
-pub returns-clause-resize : goal.returns-clause-resize
-returns-clause-resize c = size_decided
+pub returns-clause-shrink : goal.returns-clause-shrink
+returns-clause-shrink c p n = size_decided p (answers.Call.Shrink (ticket_of p) n)
+
+pub returns-clause-grow_in_place : goal.returns-clause-grow_in_place
+returns-clause-grow_in_place c p n = size_decided p (answers.Call.Grow_in_place (ticket_of p) n)
 
 pub returns-clause-compact_heap : goal.returns-clause-compact_heap
 returns-clause-compact_heap c = compacts_one_decided
@@ -61,3 +66,6 @@ returns-clause-allocate_tight c = tights_decided
 
 pub returns-clause-on_heap : goal.returns-clause-on_heap
 returns-clause-on_heap c = on_heap_decided
+
+pub returns-clause-retract : goal.returns-clause-retract
+returns-clause-retract c = retracts_decided

@@ -1,5 +1,6 @@
-use Rattle.offset_heaps_tests.proofs.Steps.{fills}
+use Rattle.std.proofs.Common.{arith, refl}
+use Rattle.offset_heaps.specs.Calls.{Allocate_tight, Requested}
 use Rattle.offset_heaps_tests.proofs.histories.allocate_tight.Goals as goal
 
 pub returns : goal.returns
-returns c = fills c.args.heaps.now c.allocate_tight.new.self c.args.size 1 c.allocate_tight.result c.allocate_tight.ensures.same c.allocate_tight.ensures.fills c.allocate_tight.ensures.grants
+returns c = c.alignments_are_kept.ensures.call (Allocate_tight c.args.size 1) c.args.heaps.now c.allocate_tight.new.heaps (Requested c.allocate_tight.result) (omega arith) tt (c.allocate_tight.result, refl, omega arith, c.allocate_tight.ensures)

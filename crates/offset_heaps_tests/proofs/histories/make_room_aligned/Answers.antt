@@ -1,5 +1,6 @@
-use Rattle.offset_heaps_tests.proofs.Steps.{rooms}
+use Rattle.std.proofs.Common.{refl}
+use Rattle.offset_heaps.specs.Calls.{Make_room, Room_made}
 use Rattle.offset_heaps_tests.proofs.histories.make_room_aligned.Goals as goal
 
 pub returns : goal.returns
-returns c = rooms c.args.heaps.now c.make_room_aligned.new.self _ c.args.number c.args.size 256 _ c.make_room_aligned.result _ (λ e. (c.make_room_aligned.ensures.none e).0) c.make_room_aligned.ensures.step
+returns c = c.alignments_are_kept.ensures.call (Make_room c.args.number c.args.size 256) c.args.heaps.now c.make_room_aligned.new.heaps (Room_made c.make_room_aligned.result) tt tt (c.make_room_aligned.result, refl, c.make_room_aligned.ensures)

@@ -1,5 +1,6 @@
-use Rattle.offset_heaps_tests.proofs.Steps.{relocates_own}
+use Rattle.std.proofs.Common.{refl}
+use Rattle.offset_heaps.specs.Calls.{Relocate, Second}
 use Rattle.offset_heaps_tests.proofs.histories.relocate.Goals as goal
 
 pub returns : goal.returns
-returns c = relocates_own c.args.heaps.now c.relocate.new.self c.args.place c.relocate.result c.relocate.ensures.not_live c.relocate.ensures.none c.relocate.ensures.same c.relocate.ensures.step
+returns c = c.alignments_are_kept.ensures.call (Relocate c.args.place) c.args.heaps.now c.relocate.new.heaps (Second c.relocate.result) tt tt (c.relocate.result, refl, c.relocate.ensures)

@@ -1,5 +1,6 @@
-use Rattle.std.proofs.Common.{inl, inr}
+use Rattle.std.proofs.Common.{refl}
+use Rattle.offset_heaps.specs.Calls.{Nothing, Reset}
 use Rattle.offset_heaps_tests.proofs.histories.reset.Goals as goal
 
 pub returns : goal.returns
-returns c = inr (inr (inr (inr (inl (record { heaps = c.reset.ensures.heaps; rest = c.reset.ensures.rest })))))
+returns c = c.alignments_are_kept.ensures.call Reset c.args.heaps.now c.reset.new.heaps Nothing tt tt (refl, c.reset.ensures)

@@ -1,0 +1,535 @@
+-- What each call leaves of a heap is what calls of tickets make of it.
+use Rattle.std.proofs.Common.{◌≡◌, ℕ, ◌+◌, ◌*◌, ◌%◌, ◌<◌, ◌≤◌, ◌⊎◌, Bool, true, false, List, [], ◌∷◌, ◌++◌, Option, Some, None, IfSome, IsSome, is_some, Result, Ok, Err, length, nat_eq, slice_set, if◌then◌else◌, refl, sym, ap, subst, ◌∙◌, inl, inr, arith}
+use Rattle.std.proofs.Math.Nat.{dvd_refl, one-dvd}
+use Rattle.std.proofs.lemmas.Bool.{cases_Bool, cases_eq, cases_lt}
+use Rattle.std.specs.List.{AllByRecursion}
+use Rattle.std.specs.declared.alloc.AllocError.{AllocError}
+use Rattle.offset_allocator.specs.{Classes.down, Moving.BySteps.moves_by, Moving.Compacting.Move, Relations.Aligns, Requests.blocks_needed, Requests.units_needed, Tight.AlignsTight, Tight.CanHold, Tight.listed_from, View.Handle, View.View, View.bin_at, View.units}
+use Rattle.offset_allocator.proofs.{Moving.Begins.aligned_can, Padding.reaches, Served.multiple}
+use Rattle.offset_guarded.specs.Answers as tickets
+use Rattle.offset_guarded.specs.Answers.{GoesByTheStep, Notes}
+use Rattle.offset_guarded.specs.Calls.{Continues, Event, Happens}
+use Rattle.offset_guarded.specs.Calls.Event.{Called, Raised}
+use Rattle.offset_guarded.specs.Guard.{Guard, HasSerialLeft, Ticket, handle_in}
+use Rattle.offset_guarded.specs.Guard as guarded
+use Rattle.offset_guarded.specs.Step.{IsJoined}
+use Rattle.offset_guarded.proofs.{Continued.happened, Divisors.divisor_of_some, Noted.notes_all, Offsets.same_aligned}
+use Rattle.offset_heaps.specs.declared.limits.Limits.{Limits}
+use Rattle.offset_heaps.specs.declared.place.Granted.{Granted}
+use Rattle.offset_heaps.specs.declared.refusal.Refusal.{Refusal}
+use Rattle.offset_heaps.specs.Calls as calls
+use Rattle.offset_heaps.specs.Calls.{Call, Reply, Allocate, Allocate_tight, Free, Relocate, Relocate_aligned, Drop_empty, Drop_heap, Give_up, Reset, Shrink, Grow_in_place, Extend_heap, Compact_heap, Compact_all, Make_room, Retract_heap, On_heap, TakesOn, TakesWhere, TakesAt, TakesAll, Takes}
+use Rattle.offset_heaps.specs.Changing.{Alters, CompactsSlot, RetractsTo, can_compact}
+use Rattle.offset_heaps.specs.Extending.{ExtendsHeap, ExtendsIf, MustExtend}
+use Rattle.offset_heaps.specs.Heaps.{Heaps, FreesIn, Grants, IsBefore, IsLive, IsNew, IsRaisedWhere, IsSame, IsUsual, MustRaise, Puts, heap_at, larger_limit, range_in, range_of, raised_limit, room_of, slot, step_at, ticket_in, usual_size}
+use Rattle.offset_heaps.specs.Histories.{ContinuesIn, IsStep}
+use Rattle.offset_heaps.specs.Places.{Place, ticket_of}
+use Rattle.offset_heaps.specs.Slots.{CanHoldIn, ResetsIn}
+use Rattle.offset_heaps.specs.Spaces.{DoesAll, GoesByTheSteps, GoesOn, IsSpace, IsValid}
+use Rattle.offset_heaps.specs.Tight.{GrantsTight}
+use Rattle.offset_heaps.proofs.{Grants.restepped, Numbers.slot_other, Numbers.slot_past, Numbers.slot_same, Numbers.slot_set, Numbers.slot_there, Rooms.new_holds, Rooms.room_left}
+
+-- ---- what becomes of one heap
+-- calls of tickets, or a raised limit, that go by the step: what they leave continues what there was
+abbrev Turns : Guard → Guard → Type 0
+Turns g h = Continues g h × ((es : List Event) × DoesAll g es h)
+
+turn : (c : tickets.Call) (a : tickets.Answer) (ms : List Move) (g h : Guard) → GoesByTheStep c g → tickets.Answers c g h a ms → Turns g h
+turn c a ms g h goes by = (happened (Called c a ms) g h (goes, by), (Called c a ms ∷ [], (h, by, refl)))
+
+stays : (g h : Guard) → h ≡ g → Turns g h
+stays g h e = subst (Turns g) (sym e) (record { realm = refl; given = omega arith; live = λ t early live. live; aligned = same_aligned g }, ([], refl))
+
+-- limits that are raised first
+raised_first : (limit : ℕ) (g b h : Guard) → guarded.IsRaised limit g b → Continues b h → Continues g h
+raised_first limit g b h e c =
+    let d : Continues (record g { space = record g.space { max_allocs = limit; accesses = 0 } }) h = subst (λ (z : Guard). Continues z h) e c in
+    record { realm = d.realm; given = d.given; live = d.live; aligned = d.aligned }
+
+after_raise : (Must : Guard → Type 0) (limits : Limits) (g b h : Guard) → IsRaisedWhere Must limits g b → Turns b h → Turns g h
+after_raise Must limits g b h (inl up) t = (raised_first (raised_limit limits g) g b h up.1 t.0, (Raised (raised_limit limits g) ∷ t.1.0, (b, up.1, t.1.1)))
+after_raise Must limits g b h (inr kept) t = subst (λ (z : Guard). Turns z h) kept.1 t
+
+left_raised : (Must : Guard → Type 0) (limits : Limits) (g b : Guard) → IsRaisedWhere Must limits g b → HasSerialLeft g → HasSerialLeft b
+left_raised Must limits g b (inl up) left = omega (arith, ap (λ (z : Guard). z.given) up.1, left)
+left_raised Must limits g b (inr kept) left = omega (arith, ap (λ (z : Guard). z.given) kept.1, left)
+
+-- ---- and of the heap of a number
+abbrev Evolves : ℕ → Option Guard → Option Guard → Type 0
+Evolves made old None = Unit {0}
+Evolves made None (Some h) = IsSpace h × (made < h.realm)
+Evolves made (Some g) (Some h) = Turns g h
+
+turned : (made k : ℕ) (hs : Heaps) (g h : Guard) → heap_at k hs ≡ Some g → Turns g h → Evolves made (heap_at k hs) (Some h)
+turned made k hs g h at t = subst (λ o. Evolves made o (Some h)) (sym at) t
+
+same_evolves : (made : ℕ) (o : Option Guard) → Evolves made o o
+same_evolves made None = tt
+same_evolves made (Some g) = stays g g refl
+
+record Evolve (hs ks : Heaps) : Type 0 where
+  realm : ks.realm ≡ hs.realm
+  made : hs.made ≤ ks.made
+  heaps : (k : ℕ) → Evolves hs.made (heap_at k hs) (heap_at k ks)
+
+-- ---- a request that is granted
+requested : (n : ℕ) (g h : Guard) (t : Ticket) → guarded.Grants n g h t → tickets.Requests n g h (Some t)
+requested n g h t grants = record { grants = grants; same = λ e. absurd (cc); serials = λ e. absurd (cc) }
+
+aligned_act : (n align : ℕ) (g h : Guard) (t : Ticket) → HasSerialLeft g → 1 ≤ align → guarded.Grants n g h t → IsJoined g.step align h.step → Aligns n align g.space h.space (Some (handle_in t))
+    → h.space.accesses ≤ g.space.accesses + 128 → tickets.Answers (tickets.Call.Allocate_aligned n align) g h (tickets.Answer.Requested (Some t)) []
+aligned_act n align g h t left some grants joined step few = (
+  Some t,
+  refl,
+  record {
+    request = requested n g h t grants;
+    aligns = record { aligned = multiple n align g.space h.space (Some (handle_in t)) some step; joined = joined };
+    can_grant = (λ _. (left, aligned_can n align g.space h.space (handle_in t) some step), λ _. refl);
+    step = λ _. step;
+    accesses_max = few;
+  },
+  refl,
+)
+
+-- a tight one too
+tight_multiple : (n align : ℕ) (v w : View) (h : Handle) → 1 ≤ align → AlignsTight n align v w (Some h) → h.offset % align ≡ 0
+tight_multiple n align v w h some (inl a) = multiple n align v w (Some h) some a
+tight_multiple n align v w h some (inr f) = let s = f.1.1.3 in subst (λ (z : Handle). z.offset % align ≡ 0) (sym s.grant) (rw s.padded (reaches align (units s.before) some))
+
+tight_holds : (n align : ℕ) (v w : View) (h : Handle) → AlignsTight n align v w (Some h) → CanHold n align v
+tight_holds n align v w h (inl a) =
+    let s = a.1 in
+    (a.0, (record { before = s.before; block = s.block; after = s.after }, s.blocks, s.free, omega (arith, s.whole, s.padded)))
+tight_holds n align v w h (inr f) =
+    let s = f.1.1.3 in
+    (f.1.0, (record { before = s.before; block = s.block; after = s.after }, s.blocks, s.free, omega (arith, s.whole, s.padded)))
+
+tight_act : (n align : ℕ) (g h : Guard) (t : Ticket) → HasSerialLeft g → 1 ≤ align → guarded.Grants n g h t → IsJoined g.step align h.step → AlignsTight n align g.space h.space (Some (handle_in t))
+    → h.space.accesses ≤ g.space.accesses + 140 + 6 * length (listed_from (down n) g.space.bins) → tickets.Answers (tickets.Call.Allocate_tight_aligned n align) g h (tickets.Answer.Requested (Some t)) []
+tight_act n align g h t left some grants joined step few = (
+  Some t,
+  refl,
+  record {
+    request = requested n g h t grants;
+    aligns = record { aligned = tight_multiple n align g.space h.space (handle_in t) some step; joined = joined };
+    can_hold = (λ _. (left, tight_holds n align g.space h.space (handle_in t) step), λ _. refl);
+    step = λ _. step;
+    accesses_max = few;
+  },
+  refl,
+)
+
+-- ---- grants
+-- a fresh heap takes the alignment of its first grant into its step afterwards
+module _ (size align made : ℕ) (g h : Guard) (step : g.step ≡ 1) (joined : IsJoined g.step align h.step) where
+  abbrev between : Guard
+  between = record h { step = g.step }
+
+  one : IsJoined g.step 1 between.step
+  one = record { fits = omega (arith, step); first = dvd_refl g.step; second = one-dvd g.step; least = λ n few a b. a }
+
+  restep : tickets.Answers (tickets.Call.Raise_step align) between h tickets.Answer.Nothing []
+  restep = (refl, record { joined = joined; rest = refl }, refl)
+
+module _ (size align : ℕ) (hs ks : Heaps) (grant : Granted) (s : Grants size align hs ks grant) (some : 1 ≤ align)
+    (left : (was : Guard) → grant.is_new ≡ false → heap_at grant.place.heap hs ≡ Some was → HasSerialLeft was) where
+  abbrev k : ℕ
+  k = grant.place.heap
+
+  abbrev t : Ticket
+  t = ticket_in grant
+
+  old : (was : Guard) → grant.is_new ≡ false → heap_at k hs ≡ Some was → HasSerialLeft s.before → tickets.Answers (tickets.Call.Allocate_aligned size align) s.before s.after (tickets.Answer.Requested (Some t)) []
+  old was not at spare = elim s.step [
+    | inl a ↦
+        let step : Aligns size align s.before.space s.after.space (Some (handle_in t)) = subst (λ (b : Bool). Aligns size (if b then 1 else align) s.before.space s.after.space (Some (handle_in t))) not a.1 in
+        aligned_act size align s.before s.after t spare some s.grants s.joined step a.2
+    | inr b ↦ absurd (let e : true ≡ false = sym b.0 ∙ not in cc)
+  ]
+
+  usual : (size' limit made : ℕ) → grant.is_new ≡ true → heap_at k hs ≡ None → IsUsual size hs → IsNew size' limit made s.before → IsSpace s.after
+  usual size' limit made new none is fresh =
+      let mid = between size align made s.before s.after fresh.step s.joined in
+      record {
+        fresh = s.before;
+        size = size';
+        limit = limit;
+        number = made;
+        new = fresh;
+        events = Called (tickets.Call.Allocate_aligned size 1) (tickets.Answer.Requested (Some t)) [] ∷ Called (tickets.Call.Raise_step align) tickets.Answer.Nothing [] ∷ [];
+        done = (mid, first mid refl (one size align made s.before s.after fresh.step s.joined), (s.after, restep size align made s.before s.after fresh.step s.joined, refl));
+      }
+    where
+      spare : HasSerialLeft s.before
+      spare = let none = fresh.serials.0 in omega (arith, none)
+
+      first : (mid : Guard) → mid ≡ record s.after { step = s.before.step } → IsJoined s.before.step 1 mid.step → tickets.Answers (tickets.Call.Allocate_aligned size 1) s.before mid (tickets.Answer.Requested (Some t)) []
+      first mid e j = elim s.step [
+        | inl a ↦
+            let step : Aligns size 1 s.before.space s.after.space (Some (handle_in t)) = subst (λ (b : Bool). Aligns size (if b then 1 else align) s.before.space s.after.space (Some (handle_in t))) new a.1 in
+            aligned_act size 1 s.before mid t spare (omega arith) (restepped size s.before s.after mid t s.grants (e ∙ ap (λ (n : ℕ). record s.after { step = n }) (sym (ap (λ (z : Guard). z.step) e)))) j
+            (subst (λ (z : Guard). Aligns size 1 s.before.space z.space (Some (handle_in t))) (sym e) step)
+            (subst (λ (z : Guard). z.space.accesses ≤ s.before.space.accesses + 128) (sym e) a.2)
+        | inr b ↦ absurd (b.1 is)
+      ]
+
+  larger : (made : ℕ) → grant.is_new ≡ true → heap_at k hs ≡ None → (IsUsual size hs → ⊥) → IsNew size larger_limit made s.before → IsSpace s.after
+  larger made new none not fresh =
+      let mid = between size align made s.before s.after fresh.step s.joined in
+      record {
+        fresh = s.before;
+        size = size;
+        limit = larger_limit;
+        number = made;
+        new = fresh;
+        events = Called (tickets.Call.Allocate_tight size) (tickets.Answer.Requested (Some t)) [] ∷ Called (tickets.Call.Raise_step align) tickets.Answer.Nothing [] ∷ [];
+        done = (mid, first mid refl, (s.after, restep size align made s.before s.after fresh.step s.joined, refl));
+      }
+    where
+      holds : HasSerialLeft s.before × CanHold size 1 s.before.space
+      holds = new_holds size s.before fresh.space fresh.serials.0
+
+      first : (mid : Guard) → mid ≡ record s.after { step = s.before.step } → tickets.Answers (tickets.Call.Allocate_tight size) s.before mid (tickets.Answer.Requested (Some t)) []
+      first mid e = elim s.step [
+        | inl a ↦ absurd (not (a.0 new))
+        | inr b ↦ (
+          Some t,
+          refl,
+          record {
+            request = requested size s.before mid t (restepped size s.before s.after mid t s.grants (e ∙ ap (λ (n : ℕ). record s.after { step = n }) (sym (ap (λ (z : Guard). z.step) e))));
+            can_hold = (λ _. holds, λ _. refl);
+            step = λ _. subst (λ (z : Guard). AlignsTight size 1 s.before.space z.space (Some (handle_in t))) (sym e) b.2;
+            same_step = ap (λ (z : Guard). z.step) e;
+            accesses_max = subst (λ (z : Guard). z.space.accesses ≤ s.before.space.accesses + 140 + 6 * length (bin_at s.before.space.bins (down size))) (sym e) b.3;
+          },
+          refl,
+        )
+      ]
+
+  realm : s.after.realm ≡ s.before.realm
+  realm = s.grants.realm.1
+
+  granted_here : Evolves hs.made (heap_at k hs) (Some s.after)
+  granted_here = go s.heap
+    where
+      go : IsBefore size align hs grant s.before → Evolves hs.made (heap_at k hs) (Some s.after)
+      go (inl o) =
+          let was : Guard = o.1.0 in
+          let Must : Guard → Type 0 = MustRaise hs.limits k (blocks_needed align) in
+          let spare = left_raised Must hs.limits was s.before o.1.2 (left was o.0 o.1.1) in
+          turned hs.made k hs was s.after o.1.1 (after_raise Must hs.limits was s.before s.after o.1.2
+          (turn (tickets.Call.Allocate_aligned size align) (tickets.Answer.Requested (Some t)) [] s.before s.after tt (old was o.0 o.1.1 spare)))
+      go (inr n) = subst (λ o. Evolves hs.made o (Some s.after)) (sym n.1) (elim n.2 [
+        | inl u ↦ (usual (usual_size hs.limits k) hs.limits.first_allocs (hs.made + 1) n.0 n.1 u.0 u.1, (let e = u.1.realm in omega (arith, e, realm)))
+        | inr l ↦ (larger (hs.made + 1) n.0 n.1 l.0 l.1, (let e = l.1.realm in omega (arith, e, realm)))
+      ])
+
+-- ---- all heaps
+same_evolve : (hs ks : Heaps) → IsSame hs ks → Evolve hs ks
+same_evolve hs ks same = record {
+  realm = ap (λ (h : Heaps). h.realm) same;
+  made = omega (arith, ap (λ (h : Heaps). h.made) same);
+  heaps = λ j. subst (λ s. Evolves hs.made (heap_at j hs) (slot j s)) (sym (ap (λ (h : Heaps). h.slots) same)) (same_evolves hs.made (heap_at j hs));
+}
+
+put_evolves : (k : ℕ) (hs ks : Heaps) (o : Option Guard) → ks.slots ≡ slice_set hs.slots k o → k < length hs.slots → Evolves hs.made (heap_at k hs) o → (j : ℕ) → Evolves hs.made (heap_at j hs) (heap_at j ks)
+put_evolves k hs ks o is there here j = subst (λ s. Evolves hs.made (heap_at j hs) (slot j s)) (sym is) (elim (cases_eq j k) [
+  | inl e ↦ rw (e, slot_same hs.slots k o there) here
+  | inr d ↦ rw (slot_other hs.slots k j o d) (same_evolves hs.made (heap_at j hs))
+])
+
+drop_evolve : (k : ℕ) (hs ks : Heaps) → Puts k None hs ks → Evolve hs ks
+drop_evolve k hs ks puts = record {
+  realm = ap (λ (h : Heaps). h.realm) puts;
+  made = omega (arith, ap (λ (h : Heaps). h.made) puts);
+  heaps = λ j. elim (cases_lt k (length hs.slots)) [
+    | inl there ↦ put_evolves k hs ks None (ap (λ (h : Heaps). h.slots) puts) there tt j
+    | inr past ↦
+        let none : slot k hs.slots ≡ None = slot_past hs.slots k past in
+        let same : ks.slots ≡ hs.slots = ap (λ (h : Heaps). h.slots) puts ∙ ap (slice_set hs.slots k) (sym none) ∙ slot_set hs.slots k in
+        subst (λ s. Evolves hs.made (heap_at j hs) (slot j s)) (sym same) (same_evolves hs.made (heap_at j hs))
+  ];
+}
+
+alters_evolve : (k : ℕ) (P : Guard → Guard → Type 0) (hs ks : Heaps) → (a : Alters k P hs ks) → Turns a.before a.after → Evolve hs ks
+alters_evolve k P hs ks a t = record {
+  realm = ap (λ (h : Heaps). h.realm) a.heaps;
+  made = omega (arith, ap (λ (h : Heaps). h.made) a.heaps);
+  heaps = put_evolves k hs ks (Some a.after) (ap (λ (h : Heaps). h.slots) a.heaps) (slot_there hs.slots k (ap is_some a.heap)) (turned hs.made k hs a.before a.after a.heap t);
+}
+
+on_evolve : (k : ℕ) (c : tickets.Call) (hs ks : Heaps) (a : tickets.Answer) (ms : List Move) → (x : TakesOn k c hs ks a ms) → GoesByTheStep c x.before → Evolve hs ks
+on_evolve k c hs ks a ms x goes = alters_evolve k (λ g h. tickets.Answers c g h a ms) hs ks x (turn c a ms x.before x.after goes x.by)
+
+where_evolve : (k : ℕ) (c : tickets.Call) (without : tickets.Answer) (hs ks : Heaps) (a : tickets.Answer) → ((g : Guard) → GoesByTheStep c g) → TakesWhere k c without hs ks a → Evolve hs ks
+where_evolve k c without hs ks a goes x = go (heap_at k hs) refl
+  where
+    go : (o : Option Guard) → heap_at k hs ≡ o → Evolve hs ks
+    go None e = same_evolve hs ks (x.none e).0
+    go (Some g) e = let m = x.step (ap is_some e) in on_evolve k c hs ks a m.0 m.1 (goes m.1.before)
+
+at_evolve : (p : Place) (c : tickets.Call) (hs ks : Heaps) (r : Option Bool) → ((g : Guard) → GoesByTheStep c g) → TakesAt p c hs ks r → Evolve hs ks
+at_evolve p c hs ks None goes x = same_evolve hs ks (x.not_live refl)
+at_evolve p c hs ks (Some d) goes x = let m = x.step refl in on_evolve p.heap c hs ks (tickets.Answer.Resized (Some d)) [] m (goes m.before)
+
+more_made : (b : Bool) (n : ℕ) → n ≤ (if b then n + 1 else n)
+more_made true n = omega arith
+more_made false n = omega arith
+
+grants_evolve : (size align : ℕ) (hs ks : Heaps) (grant : Granted) → (s : Grants size align hs ks grant) → 1 ≤ align
+    → ((was : Guard) → grant.is_new ≡ false → heap_at grant.place.heap hs ≡ Some was → HasSerialLeft was) → Evolve hs ks
+grants_evolve size align hs ks grant s some left = record {
+  realm = ap (λ (h : Heaps). h.realm) s.heaps;
+  made = let m = more_made grant.is_new hs.made in let e = ap (λ (h : Heaps). h.made) s.heaps in omega (arith, m, e);
+  heaps = put_evolves grant.place.heap hs ks (Some s.after) (ap (λ (h : Heaps). h.slots) s.heaps) s.number (granted_here size align hs ks grant s some left);
+}
+
+tight_evolve : (size align : ℕ) (hs ks : Heaps) (grant : Granted) → (s : GrantsTight size align hs ks grant) → 1 ≤ align → HasSerialLeft s.was → Evolve hs ks
+tight_evolve size align hs ks grant s some left =
+    let Must : Guard → Type 0 = MustRaise hs.limits grant.place.heap (blocks_needed align) in
+    let t : Ticket = ticket_in grant in
+    alters_evolve grant.place.heap (λ g h. (g ≡ s.was) × (h ≡ s.after)) hs ks (record { before = s.was; after = s.after; heap = s.heap; by = (refl, refl); heaps = s.heaps })
+    (after_raise Must hs.limits s.was s.before s.after s.raised (turn (tickets.Call.Allocate_tight_aligned size align) (tickets.Answer.Requested (Some t)) [] s.before s.after tt
+    (tight_act size align s.before s.after t (left_raised Must hs.limits s.was s.before s.raised left) some s.grants s.joined s.step s.accesses)))
+
+-- ---- room, and what is live
+has_left : (size blocks k : ℕ) (hs : Heaps) (was : Guard) → 1 ≤ size → heap_at k hs ≡ Some was → size ≤ room_of hs.limits k blocks (heap_at k hs) → HasSerialLeft was
+has_left size blocks k hs was some at fits = (room_left hs.limits k blocks size was some (subst (λ o. size ≤ room_of hs.limits k blocks o) at fits)).0
+
+live_in : (p : Place) (hs : Heaps) (g : Guard) → heap_at p.heap hs ≡ Some g → IsLive p hs → guarded.IsLive (ticket_of p) g
+live_in p hs g at live = subst (λ o. IsSome (range_in (ticket_of p) o)) at (go (nat_eq p.realm hs.realm) live)
+  where
+    go : (b : Bool) → IsSome (if b then range_in (ticket_of p) (heap_at p.heap hs) else None) → IsSome (range_in (ticket_of p) (heap_at p.heap hs))
+    go true l = l
+    go false l = absurd (cc)
+
+frees_evolve : (p : Place) (hs ks : Heaps) → IsLive p hs → FreesIn p hs ks → Evolve hs ks
+frees_evolve p hs ks live f =
+    let by : tickets.Frees (ticket_of p) f.before f.after true = record {
+      done = (λ _. live_in p hs f.before f.heap live, λ _. refl);
+      gone = f.gone;
+      others = f.others;
+      same = λ e. absurd (let no : true ≡ false = e in cc);
+      step = λ _. f.step;
+      serials = f.serials;
+      accesses_max = f.accesses;
+    } in
+    alters_evolve p.heap (λ g h. (g ≡ f.before) × (h ≡ f.after)) hs ks (record { before = f.before; after = f.after; heap = f.heap; by = (refl, refl); heaps = f.heaps })
+    (turn (tickets.Call.Free (ticket_of p)) (tickets.Answer.Was_done true) [] f.before f.after tt (true, refl, by, refl))
+
+relocates_evolve : (p : Place) (align : ℕ) (hs ks : Heaps) (r : Option Granted) → 1 ≤ align → calls.Relocates p align hs ks r → Evolve hs ks
+relocates_evolve p align hs ks None some x = same_evolve hs ks (x.same refl)
+relocates_evolve p align hs ks (Some g) some x =
+    grants_evolve _ align hs ks g x.grants some (λ was not at. has_left _ (blocks_needed align) g.place.heap hs was (omega arith) at x.first.0.1.room)
+
+own_evolve : (p : Place) (hs ks : Heaps) (r : Option Granted) → calls.RelocatesOwn p hs ks r → Evolve hs ks
+own_evolve p hs ks None x = same_evolve hs ks (x.same refl)
+own_evolve p hs ks (Some g) x = elim (cases_eq (step_at p.heap hs) 0) [
+  | inl e ↦ absurd (let no : Some g ≡ None = x.none e in cc)
+  | inr d ↦ elim (cases_Bool (is_some (range_of p hs))) [
+    | inl live ↦
+        let s = x.step live (omega (arith, d)) in
+        relocates_evolve p s.0 hs ks (Some g) (divisor_of_some s.0 (step_at p.heap hs) s.1.1 (omega (arith, d))) s.2
+    | inr dead ↦ absurd (let no : Some g ≡ None = x.not_live (λ live. absurd (let e : true ≡ false = sym live ∙ dead in cc)) in cc)
+  ]
+]
+
+extends_evolve : (k more : ℕ) (d : Bool) (hs ks : Heaps) → ExtendsHeap k more d hs ks → Evolve hs ks
+extends_evolve k more d hs ks x = alters_evolve k (ExtendsIf hs.limits k more d) hs ks x (go d x.by)
+  where
+    go : (d : Bool) → ExtendsIf hs.limits k more d x.before x.after → Turns x.before x.after
+    go true e = after_raise (MustExtend hs.limits k more) hs.limits x.before e.between x.after e.raised
+        (turn (tickets.Call.Extend more) (tickets.Answer.Was_done true) [] e.between x.after tt (true, refl, e.by, refl))
+    go false (inl same) = stays x.before x.after same
+    go false (inr by) = turn (tickets.Call.Extend more) (tickets.Answer.Was_done false) [] x.before x.after tt (false, refl, by, refl)
+
+retracts_evolve : (k less : ℕ) (r : Bool) (hs ks : Heaps) → Alters k (RetractsTo hs.limits k less r) hs ks → Evolve hs ks
+retracts_evolve k less r hs ks x = alters_evolve k (RetractsTo hs.limits k less r) hs ks x (go r x.by)
+  where
+    go : (r : Bool) → RetractsTo hs.limits k less r x.before x.after → Turns x.before x.after
+    go true e = turn (tickets.Call.Retract less) (tickets.Answer.Was_done true) [] x.before x.after tt (true, refl, e.step refl, refl)
+    go false e = elim (e.same refl) [
+      | inl same ↦ stays x.before x.after same
+      | inr by ↦ turn (tickets.Call.Retract less) (tickets.Answer.Was_done false) [] x.before x.after tt (false, refl, by, refl)
+    ]
+
+reset_slot : (made : ℕ) (o new : Option Guard) → ResetsIn o new → Evolves made o new
+reset_slot made None new e = subst (Evolves made None) (sym e) tt
+reset_slot made (Some g) new r = subst (Evolves made (Some g)) (sym r.1) (turn tickets.Call.Reset tickets.Answer.Nothing [] g r.0 tt (refl, r.2, refl))
+
+compact_slot : (made : ℕ) (o new : Option Guard) → CompactsSlot o new → Evolves made o new
+compact_slot made None new e = subst (Evolves made None) (sym e) tt
+compact_slot made (Some g) new r = subst (Evolves made (Some g)) (sym r.1) (turn tickets.Call.Compact (tickets.Answer.Was_done (can_compact g)) ms g r.0 tt (can_compact g, refl, by))
+  where
+    ms : List Move
+    ms = if can_compact g then moves_by g.step 0 0 g.space.blocks else []
+
+    none : g.step ≡ 0 → can_compact g ≡ false
+    none e = rw e refl
+
+    by : tickets.Compacts Notes [] g r.0 ms (can_compact g)
+    by = record {
+      sizes = r.2.sizes;
+      aligned = r.2.aligned;
+      moved = notes_all [] ms;
+      none = λ e. (none e, r.2.none e);
+      step = r.2.step;
+      serials = r.2.serials;
+      accesses_max = r.2.accesses;
+    }
+
+-- ---- each call
+evolve : (c : Call) (hs ks : Heaps) (r : Reply) → IsValid c → GoesByTheSteps c hs → Takes c hs ks r → Evolve hs ks
+evolve (Allocate size align) hs ks r some goes x = go x.0 x.3
+  where
+    go : (a : Result Granted Refusal) → calls.Allocates size align hs ks a → Evolve hs ks
+    go (Err e) y = same_evolve hs ks y.same
+    go (Ok g) y =
+        let one : 1 ≤ size = elim (cases_eq size 0) [ inl e ↦ absurd (let no = y.empty e in cc) | inr d ↦ omega (arith, d) ] in
+        grants_evolve size align hs ks g y.grants some (λ was not at. has_left (units_needed size align) (blocks_needed align) g.place.heap hs was (omega (arith, one, some)) at (y.found not).0)
+evolve (Allocate_tight size align) hs ks r some goes x = go x.0 x.3
+  where
+    go : (a : Result Granted Refusal) → calls.AllocatesTight size align hs ks a → Evolve hs ks
+    go (Err e) y = same_evolve hs ks y.same
+    go (Ok g) y = elim (cases_Bool g.is_new) [
+      | inl new ↦ grants_evolve size align hs ks g (y.grants new) some (λ was not at. absurd (let e : true ≡ false = sym new ∙ not in cc))
+      | inr not ↦
+          let s = y.fills not in
+          tight_evolve size align hs ks g s some (subst (λ o. CanHoldIn hs.limits g.place.heap size align o) s.heap (y.found not).0).0
+    ]
+evolve (Free p) hs ks r some goes x = go x.0 x.2
+  where
+    go : (b : Bool) → calls.Frees p hs ks b → Evolve hs ks
+    go true y = frees_evolve p hs ks (y.done.0 refl) (y.step refl)
+    go false y = same_evolve hs ks (y.same refl)
+evolve (Relocate p) hs ks r some goes x = own_evolve p hs ks x.0 x.2
+evolve (Relocate_aligned p align) hs ks r some goes x = relocates_evolve p align hs ks x.0 some x.2
+evolve (Drop_empty keep) hs ks r some goes x = go x.0 x.2
+  where
+    go : (o : Option ℕ) → calls.DropsEmpty keep hs ks o → Evolve hs ks
+    go None y = same_evolve hs ks (y.same refl)
+    go (Some k) y = drop_evolve k hs ks y.heaps
+evolve (Drop_heap k) hs ks r some goes x = go x.0 x.2
+  where
+    go : (b : Bool) → calls.Drops k hs ks b → Evolve hs ks
+    go true y = drop_evolve k hs ks (y.heaps refl)
+    go false y = same_evolve hs ks (y.same refl)
+evolve (Give_up k) hs ks r some goes x = go x.0 x.2
+  where
+    go : (b : Bool) → calls.GivesUp k hs ks b → Evolve hs ks
+    go true y = drop_evolve k hs ks (y.heaps refl)
+    go false y = same_evolve hs ks (y.same refl)
+evolve Reset hs ks r some goes x = record {
+  realm = ap (λ (h : Heaps). h.realm) x.1.rest;
+  made = omega (arith, ap (λ (h : Heaps). h.made) x.1.rest);
+  heaps = λ k. reset_slot hs.made (heap_at k hs) (heap_at k ks) (x.1.heaps k);
+}
+evolve (Shrink p n) hs ks r some goes x = at_evolve p (tickets.Call.Shrink (ticket_of p) n) hs ks x.0 (λ g. tt) x.2
+evolve (Grow_in_place p n) hs ks r some goes x = at_evolve p (tickets.Call.Grow_in_place (ticket_of p) n) hs ks x.0 (λ g. tt) x.2
+evolve (Extend_heap k more) hs ks r some goes x = go x.0 x.2
+  where
+    go : (a : Result Bool AllocError) → calls.ExtendsOne k more hs ks a → Evolve hs ks
+    go (Err e) y = same_evolve hs ks y.same
+    go (Ok d) y = there (heap_at k hs) refl
+      where
+        there : (o : Option Guard) → heap_at k hs ≡ o → Evolve hs ks
+        there None e = same_evolve hs ks (y.none e)
+        there (Some g) e = extends_evolve k more d hs ks (y.step (ap is_some e))
+evolve (Compact_heap k) hs ks r some goes x = where_evolve k tickets.Call.Compact (tickets.Answer.Was_done false) hs ks (tickets.Answer.Was_done x.0) (λ g. tt) x.2
+evolve Compact_all hs ks r some goes x = record {
+  realm = ap (λ (h : Heaps). h.realm) x.2.step.rest;
+  made = omega (arith, ap (λ (h : Heaps). h.made) x.2.step.rest);
+  heaps = λ k. compact_slot hs.made (heap_at k hs) (heap_at k ks) (x.2.step.heaps k);
+}
+evolve (Make_room k size align) hs ks r some goes x = where_evolve k (tickets.Call.Make_room size align) (tickets.Answer.Room_made None) hs ks (tickets.Answer.Room_made x.0) (λ g. tt) x.2
+evolve (Retract_heap k less) hs ks r some goes x = retracts_evolve k less x.0 hs ks x.2
+evolve (On_heap k c) hs ks r some goes x = on_evolve k c hs ks x.0 x.1 x.3 (subst (λ o. IfSome o (GoesByTheStep c)) x.3.heap goes)
+
+-- ---- so each is a step, and each heap goes on
+to_step : (made : ℕ) (o p : Option Guard) → Evolves made o p → ContinuesIn made o p
+to_step made o None e = tt
+to_step made None (Some h) e = e.1
+to_step made (Some g) (Some h) e = e.0
+
+pub call_steps : (c : Call) (hs ks : Heaps) (r : Reply) → IsValid c → GoesByTheSteps c hs → Takes c hs ks r → IsStep hs ks
+call_steps c hs ks r some goes x =
+    let e = evolve c hs ks r some goes x in
+    record { realm = e.realm; made = e.made; heaps = λ k. to_step hs.made (heap_at k hs) (heap_at k ks) (e.heaps k) }
+
+-- what goes by no step does it too
+to_go : (made : ℕ) (o p : Option Guard) → Evolves made o p → GoesOn o p
+to_go made o None e = tt
+to_go made None (Some h) e = e.0
+to_go made (Some g) (Some h) e = e.1
+
+same_goes : (o : Option Guard) → GoesOn o o
+same_goes None = tt
+same_goes (Some g) = ([], refl)
+
+on_goes : (k : ℕ) (c : tickets.Call) (hs ks : Heaps) (a : tickets.Answer) (ms : List Move) → TakesOn k c hs ks a ms → (j : ℕ) → GoesOn (heap_at j hs) (heap_at j ks)
+on_goes k c hs ks a ms x j =
+    let there : k < length hs.slots = slot_there hs.slots k (ap is_some x.heap) in
+    subst (λ s. GoesOn (heap_at j hs) (slot j s)) (sym (ap (λ (h : Heaps). h.slots) x.heaps)) (elim (cases_eq j k) [
+      | inl e ↦ rw (e, slot_same hs.slots k (Some x.after) there) (subst (λ o. GoesOn o (Some x.after)) (sym x.heap) (Called c a ms ∷ [], (x.after, x.by, refl)))
+      | inr d ↦ rw (slot_other hs.slots k j (Some x.after) d) (same_goes (heap_at j hs))
+    ])
+
+-- whether it is a call on one heap
+other_steps : (c : Call) (hs : Heaps) → ((k : ℕ) × (d : tickets.Call) × (c ≡ On_heap k d)) ⊎ GoesByTheSteps c hs
+other_steps (On_heap k d) hs = inl (k, d, refl)
+other_steps (Allocate size align) hs = inr tt
+other_steps (Allocate_tight size align) hs = inr tt
+other_steps (Free p) hs = inr tt
+other_steps (Relocate p) hs = inr tt
+other_steps (Relocate_aligned p align) hs = inr tt
+other_steps (Drop_empty keep) hs = inr tt
+other_steps (Drop_heap k) hs = inr tt
+other_steps (Give_up k) hs = inr tt
+other_steps Reset hs = inr tt
+other_steps (Shrink p n) hs = inr tt
+other_steps (Grow_in_place p n) hs = inr tt
+other_steps (Extend_heap k more) hs = inr tt
+other_steps (Compact_heap k) hs = inr tt
+other_steps Compact_all hs = inr tt
+other_steps (Make_room k size align) hs = inr tt
+other_steps (Retract_heap k less) hs = inr tt
+
+pub call_goes : (c : Call) (hs ks : Heaps) (r : Reply) → IsValid c → Takes c hs ks r → (k : ℕ) → GoesOn (heap_at k hs) (heap_at k ks)
+call_goes c hs ks r some x j = elim (other_steps c hs) [
+  | inl o ↦ let y : Takes (On_heap o.0 o.1) hs ks r = subst (λ (d : Call). Takes d hs ks r) o.2 x in on_goes o.0 o.1 hs ks y.0 y.1 y.3 j
+  | inr goes ↦ to_go hs.made (heap_at j hs) (heap_at j ks) ((evolve c hs ks r some goes x).heaps j)
+]
+
+-- ---- lists of calls
+does_append : (es more : List Event) (f g h : Guard) → DoesAll f es g → DoesAll g more h → DoesAll f (es ++ more) h
+does_append [] more f g h e d = subst (λ (z : Guard). DoesAll z more h) e d
+does_append (e ∷ es) more f g h a d = (a.0, a.1, does_append es more a.0 g h a.2 d)
+
+stays_space : (o p : Option Guard) → IfSome o IsSpace → GoesOn o p → IfSome p IsSpace
+stays_space o None s c = tt
+stays_space None (Some h) s c = c
+stays_space (Some g) (Some h) s c = record { fresh = s.fresh; size = s.size; limit = s.limit; number = s.number; new = s.new; events = s.events ++ c.0; done = does_append s.events c.0 s.fresh g h s.done c.1 }
+
+pub spaces_stay : (cs : List Call) (rs : List Reply) (hs ks : Heaps) → AllByRecursion IsValid cs → ((k : ℕ) → IfSome (heap_at k hs) IsSpace) → TakesAll hs cs rs ks → (k : ℕ) → IfSome (heap_at k ks) IsSpace
+spaces_stay [] [] hs ks valid s x k = subst (λ (h : Heaps). IfSome (heap_at k h) IsSpace) (sym x) (s k)
+spaces_stay [] (r ∷ rs) hs ks valid s x k = absurd x
+spaces_stay (c ∷ cs) [] hs ks valid s x k = absurd x
+spaces_stay (c ∷ cs) (r ∷ rs) hs ks valid s x k =
+    spaces_stay cs rs x.0 ks valid.1 (λ j. stays_space (heap_at j hs) (heap_at j x.0) (s j) (call_goes c hs x.0 r valid.0 x.1 j)) x.4 k
+
+-- ---- on one heap
+pub on_heap : (k : ℕ) (e : Event) (hs ks : Heaps) → Alters k (Happens e) hs ks → IsStep hs ks
+on_heap k e hs ks a = record {
+  realm = ap (λ (h : Heaps). h.realm) a.heaps;
+  made = omega (arith, ap (λ (h : Heaps). h.made) a.heaps);
+  heaps = λ j. subst (λ s. ContinuesIn hs.made (heap_at j hs) (slot j s)) (sym (ap (λ (h : Heaps). h.slots) a.heaps)) (elim (cases_eq j k) [
+    | inl e ↦ rw (e, slot_same hs.slots k (Some a.after) (slot_there hs.slots k (ap is_some a.heap))) (subst (λ o. ContinuesIn hs.made o (Some a.after)) (sym a.heap) here)
+    | inr d ↦ rw (slot_other hs.slots k j (Some a.after) d) (to_step hs.made (heap_at j hs) (heap_at j hs) (same_evolves hs.made (heap_at j hs)))
+  ]);
+}
+  where
+    here : Continues a.before a.after
+    here = happened e a.before a.after a.by
+
+pub answered : (k : ℕ) (c : tickets.Call) (r : tickets.Answer) (ms : List Move) (hs ks : Heaps) → TakesOn k c hs ks r ms → ((g : Guard) → heap_at k hs ≡ Some g → GoesByTheStep c g) → IsStep hs ks
+answered k c r ms hs ks a by = on_heap k (Called c r ms) hs ks (record { before = a.before; after = a.after; heap = a.heap; by = (by a.before a.heap, a.by); heaps = a.heaps })

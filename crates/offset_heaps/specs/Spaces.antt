@@ -1,0 +1,46 @@
+-- Each heap is a space with tickets: calls of tickets, one after another, make it of a fresh one.
+use Rattle.std.specs.Prelude.{◌≡◌, ℕ, ◌≤◌, List, [], ◌∷◌, Option, Some, None, IfSome}
+use Rattle.offset_guarded.specs.Answers as tickets
+use Rattle.offset_guarded.specs.Calls.{Event, Happens}
+use Rattle.offset_guarded.specs.Calls.Event.{Called}
+use Rattle.offset_guarded.specs.Guard.{Guard}
+use Rattle.offset_heaps.specs.Calls.{Call, Allocate, Allocate_tight, Relocate_aligned, On_heap}
+use Rattle.offset_heaps.specs.Heaps.{Heaps, IsNew, heap_at}
+
+-- a call of tickets is answered, also one that does not go by the step; or the node limit is raised
+abbrev pub Does : Event → Guard → Guard → Type 0
+Does (Called c a ms) g h = tickets.Answers c g h a ms
+Does e g h = Happens e g h
+
+-- one after another
+abbrev pub DoesAll : Guard → List Event → Guard → Type 0
+DoesAll g [] h = h ≡ g
+DoesAll g (e ∷ es) h = (now : Guard) × Does e g now × DoesAll now es h
+
+-- a heap that was made fresh, and all that was done in it since
+pub record IsSpace (h : Guard) : Type 0 where
+  pub fresh : Guard
+  pub size : ℕ
+  pub limit : ℕ
+  pub number : ℕ
+  pub new : IsNew size limit number fresh
+  pub events : List Event
+  pub done : DoesAll fresh events h
+
+-- what a number has after a call: no heap; the one that it had, after what was done in it; or, where it had none, a new one
+abbrev pub GoesOn : Option Guard → Option Guard → Type 0
+GoesOn old None = Unit {0}
+GoesOn None (Some h) = IsSpace h
+GoesOn (Some g) (Some h) = (es : List Event) × DoesAll g es h
+
+-- the alignment that a call has is at least 1
+abbrev pub IsValid : Call → Type 0
+IsValid (Allocate size align) = 1 ≤ align
+IsValid (Allocate_tight size align) = 1 ≤ align
+IsValid (Relocate_aligned p align) = 1 ≤ align
+IsValid c = Unit {0}
+
+-- a call on one heap goes by the step of that heap; all others do
+abbrev pub GoesByTheSteps : Call → Heaps → Type 0
+GoesByTheSteps (On_heap k c) hs = IfSome (heap_at k hs) (tickets.GoesByTheStep c)
+GoesByTheSteps c hs = Unit {0}

@@ -1,0 +1,484 @@
+//! What is asked of one heap, and done in it, under the limits of its number. It touches no slot and no row of the
+//! index.
+ghost use Rattle.std.specs.Prelude.{IfOk, IfSome, IsErr, IsSome, IsTrue, None, Ok, Some, false, length, max};
+ghost use Rattle.std.specs.Prelude.{option_copied, true, ◌*◌, ◌+◌, ◌-◌, ◌<◌, ◌↔◌, ◌≡◌, ◌≤◌, ◌⊎◌};
+ghost use Rattle.std.specs.Int.{IsGcd};
+ghost use Rattle.std.specs.List.{FoldsTo};
+ghost use Rattle.offset_allocator.specs.Moving.Compacting.{IsCalledWith};
+ghost use Rattle.offset_allocator.specs.Requests.{blocks_needed, units_needed};
+ghost use Rattle.offset_allocator.specs.View.{IsWellFormed};
+ghost use Rattle.offset_guarded.specs.Guard.{HasSerialLeft, IsLive, IsRaised, range_of};
+ghost use Rattle.offset_heaps.specs.Changing.{AltersIn, CompactsIn, CompactsSlot, IsCalledAt, IsCompactible};
+ghost use Rattle.offset_heaps.specs.Changing.{can_compact, moves_in, numbered};
+ghost use Rattle.offset_heaps.specs.Extending.{CanExtendIn, EndsFree, ExtendsIf, MustExtend, MustExtendIn};
+ghost use Rattle.offset_heaps.specs.Heaps.{IsOfKind, IsRaisedAsNeeded, IsRaisedWhere, MustRaise, MustRaiseIn};
+ghost use Rattle.offset_heaps.specs.Heaps.{is_empty, raised_limit, range_in, room, room_of, slot, top_limit};
+ghost use Rattle.offset_heaps.specs.Relocating.{offset_in};
+ghost use Rattle.offset_heaps.specs.Slots.{CanHoldIn, CanHoldNow, FreesSlot, GrantsIn, GrantsTightAlignedIn};
+ghost use Rattle.offset_heaps.specs.Slots.{GrantsTightIn, HasRoomNow, KeepsOthersIn, RaisesIn, ResetsIn};
+
+use crate::limits::Limits;
+use offset_allocator::laws::{is_well_formed, unused_nodes};
+use offset_allocator::{Accesses, Move, NodeIndex, Tables};
+use offset_guarded::{GuardedOf, Ticket};
+use std::alloc::{AllocError, Global};
+
+/// Whether a serial is left for one more grant.
+pub(crate) fn has_serial_left<T: Tables>(heap: &GuardedOf<T>) -> bool
+    ensures { IsTrue result ↔ HasSerialLeft heap.now }
+{
+    !heap.is_spent()
+}
+
+/// One more than the number of blocks that may still be added to the heap of a number, under its largest node
+/// limit.
+pub(crate) fn nodes_left<T: Tables>(heap: &GuardedOf<T>, number: u32, limits: Limits) -> u32
+    ensures { result ≡ top_limit limits number heap.now - length heap.now.space.blocks }
+{
+    let space = heap.allocator();
+    let own = space.max_allocs();
+    let blocks = own - unused_nodes(space);
+    let top = if number < limits.most {
+        limits.max_allocs
+    } else {
+        own
+    };
+    if top < blocks { 0 } else { top - blocks }
+}
+
+/// The largest requests that the heap of a number grants where it may add one block, and two, or 0.
+pub(crate) fn rooms<T: Tables>(
+    heap: Option<&GuardedOf<T>>,
+    number: u32,
+    limits: Limits,
+) -> (u32, u32)
+    ensures one { result.0 ≡ room_of limits number 1 (option_copied heap.entry) }
+    ensures two { result.1 ≡ room_of limits number 2 (option_copied heap.entry) }
+{
+    let Some(heap) = heap else { return (0, 0) };
+    let left = nodes_left(heap, number, limits);
+    if !has_serial_left(heap) || left <= 1 {
+        return (0, 0);
+    }
+    let largest = offset_allocator::laws::largest_region_counted(
+        heap.allocator(),
+        &mut Accesses::new(),
+    );
+    if left == 2 {
+        return (largest, 0);
+    }
+    (largest, largest)
+}
+
+/// The largest request at a multiple of `align` that the heap of a number grants, or 0.
+pub(crate) fn room_at<T: Tables>(
+    heap: &GuardedOf<T>,
+    number: u32,
+    limits: Limits,
+    align: u32,
+) -> u32
+    requires { 1 ≤ align }
+    ensures { result ≡ room limits number (blocks_needed align) heap.now }
+{
+    let (one, two) = rooms(Some(heap), number, limits);
+    if align == 1 { one } else { two }
+}
+
+/// Whether there is a heap, and it has no live range.
+pub(crate) fn is_empty_heap<T: Tables>(heap: Option<&GuardedOf<T>>) -> bool
+    ensures { result ≡ is_empty (option_copied heap.entry) }
+{
+    match heap {
+        None => false,
+        Some(heap) => heap.allocator().is_empty(),
+    }
+}
+
+/// Whether the node limit of the heap of a number has to be raised for a call that may add `blocks` blocks.
+pub(crate) fn must_raise<T: Tables>(
+    heap: &GuardedOf<T>,
+    number: u32,
+    limits: Limits,
+    blocks: u32,
+) -> bool
+    ensures { IsTrue result ↔ MustRaise limits number blocks heap.now }
+{
+    let space = heap.allocator();
+    number < limits.most && space.max_allocs() < limits.max_allocs && unused_nodes(space) <= blocks
+}
+
+// Doubles the node limit of a heap, up to the largest one.
+fn double_limit<T: Tables>(
+    alloc: Global,
+    heap: &mut GuardedOf<T>,
+    limits: Limits,
+) -> Result<(), AllocError>
+    requires below { heap.old.space.max_allocs < limits.max_allocs }
+    requires limit_max { limits.max_allocs + 1 < T.Index.MAX }
+    ensures raised { IfOk result (λ _. IsRaised (raised_limit limits heap.old) heap.old heap.new) }
+    ensures same { IsErr result → heap.new ≡ heap.old }
+{
+    let limit = heap.allocator().max_allocs();
+    let most = limits.max_allocs;
+    let twice = if most - limit < limit {
+        most
+    } else {
+        2 * limit
+    };
+    *heap = heap.raised(alloc, twice)?;
+    Ok(())
+}
+
+// Doubles the node limit of the heap of a number, where it has to be raised for `blocks` more blocks.
+fn raise_heap<T: Tables>(
+    alloc: Global,
+    heap: &mut GuardedOf<T>,
+    number: u32,
+    limits: Limits,
+    blocks: u32,
+) -> Result<(), AllocError>
+    requires limit_max { limits.max_allocs + 1 < T.Index.MAX }
+    ensures formed { IsWellFormed heap.old.space }
+    ensures raises { IfOk result (λ _. IsRaisedAsNeeded limits number blocks heap.old heap.new) }
+    ensures must { IsErr result → MustRaise limits number blocks heap.old }
+    ensures same { IsErr result → heap.new ≡ heap.old }
+{
+    is_well_formed(heap.allocator());
+    if must_raise(heap, number, limits, blocks) {
+        double_limit(alloc, heap, limits)?;
+    }
+    Ok(())
+}
+
+/// The same, where the number has a heap.
+pub(crate) fn raise_in<T: Tables>(
+    alloc: Global,
+    slot: &mut Option<GuardedOf<T>>,
+    number: u32,
+    limits: Limits,
+    blocks: u32,
+) -> Result<(), AllocError>
+    requires limit_max { limits.max_allocs + 1 < T.Index.MAX }
+    ensures formed { IfSome slot.old (λ g. IsWellFormed g.space) }
+    ensures raises { IfOk result (λ _. RaisesIn limits number blocks slot.old slot.new) }
+    ensures must { IsErr result → MustRaiseIn limits number blocks slot.old }
+    ensures same { IsErr result → slot.new ≡ slot.old }
+{
+    match slot {
+        Some(heap) => raise_heap(alloc, heap, number, limits, blocks),
+        None => Ok(()),
+    }
+}
+
+/// Grants a request in a heap that has room for it, and for one unit.
+pub(crate) fn grant_in<T: Tables>(slot: &mut Option<GuardedOf<T>>, size: u32, align: u32) -> Ticket
+    requires alignment { 1 ≤ align }
+    requires room { HasRoomNow (blocks_needed align) (max 1 (units_needed size align)) slot.old }
+    ensures { GrantsIn size align align slot.old slot.new result }
+{
+    match slot {
+        Some(heap) => {
+            is_well_formed(heap.allocator());
+            match heap.allocate_aligned(size, align) {
+                Some(ticket) => ticket,
+                None => unreachable!(),
+            }
+        }
+        None => unreachable!(),
+    }
+}
+
+/// Grants the first request of a heap, which has room for it, where it begins at 0: a multiple of `align`, which the
+/// step takes in.
+pub(crate) fn grant_first_in<T: Tables>(
+    slot: &mut Option<GuardedOf<T>>,
+    size: u32,
+    align: u32,
+) -> Ticket
+    requires alignment { 1 ≤ align }
+    requires room { HasRoomNow 1 (max 1 (units_needed size 1)) slot.old }
+    ensures { GrantsIn size 1 align slot.old slot.new result }
+{
+    match slot {
+        Some(heap) => {
+            is_well_formed(heap.allocator());
+            match heap.allocate_aligned(size, 1) {
+                Some(ticket) => {
+                    heap.raise_step(align);
+                    ticket
+                }
+                None => unreachable!(),
+            }
+        }
+        None => unreachable!(),
+    }
+}
+
+/// The same of a heap that has a free block for it.
+pub(crate) fn grant_tight_in<T: Tables>(
+    slot: &mut Option<GuardedOf<T>>,
+    size: u32,
+    align: u32,
+) -> Ticket
+    requires alignment { 1 ≤ align }
+    requires holds { CanHoldNow size 1 slot.old }
+    ensures { GrantsTightIn size align slot.old slot.new result }
+{
+    match slot {
+        Some(heap) => match heap.allocate_tight(size) {
+            Some(ticket) => {
+                heap.raise_step(align);
+                ticket
+            }
+            None => unreachable!(),
+        },
+        None => unreachable!(),
+    }
+}
+
+/// Grants a request in a heap, a free block of which holds it.
+pub(crate) fn grant_tight_aligned_in<T: Tables>(
+    slot: &mut Option<GuardedOf<T>>,
+    size: u32,
+    align: u32,
+) -> Ticket
+    requires alignment { 1 ≤ align }
+    requires holds { CanHoldNow size align slot.old }
+    ensures { GrantsTightAlignedIn size align slot.old slot.new result }
+{
+    match slot {
+        Some(heap) => match heap.allocate_tight_aligned(size, align) {
+            Some(ticket) => ticket,
+            None => unreachable!(),
+        },
+        None => unreachable!(),
+    }
+}
+
+/// Whether a free block of the heap of a number holds a request. Where none does, the heap has no room for it either.
+pub(crate) fn holds<T: Tables>(
+    heap: &GuardedOf<T>,
+    number: u32,
+    limits: Limits,
+    size: u32,
+    align: u32,
+) -> bool
+    requires some { 1 ≤ size }
+    requires alignment { 1 ≤ align }
+    ensures holds { IsTrue result ↔ CanHoldIn limits number size align (Some heap.now) }
+    ensures less { result ≡ false
+        → room limits number (blocks_needed align) heap.now < units_needed size align }
+{
+    let space = heap.allocator();
+    is_well_formed(space);
+    if !has_serial_left(heap) || nodes_left(heap, number, limits) <= align.min(2) {
+        return false;
+    }
+    offset_allocator::laws::has_block_for_counted(space, size, align, &mut Accesses::new())
+}
+
+/// Frees the range of a ticket, where it is live.
+pub(crate) fn free_in<T: Tables>(slot: &mut Option<GuardedOf<T>>, ticket: Ticket) -> bool
+    ensures done { IsTrue result ↔ IsSome (range_in ticket slot.old) }
+    ensures gone { range_in ticket slot.new ≡ None }
+    ensures others { KeepsOthersIn ticket slot.old slot.new }
+    ensures same { result ≡ false → slot.new ≡ slot.old }
+    ensures step { result ≡ true → FreesSlot ticket slot.old slot.new }
+{
+    match slot {
+        Some(heap) => heap.free(ticket),
+        None => false,
+    }
+}
+
+/// Makes the space of a heap one free block again.
+pub(crate) fn reset_in<T: Tables>(slot: &mut Option<GuardedOf<T>>)
+    ensures { ResetsIn slot.old slot.new }
+{
+    match slot {
+        Some(heap) => heap.reset(),
+        None => {}
+    }
+}
+
+// Whether the last block of a heap is free.
+fn ends_free<T: Tables>(heap: &GuardedOf<T>) -> bool
+    ensures { IsTrue result ↔ EndsFree heap.now.space }
+{
+    let mut blocks = heap.allocator().blocks();
+    match offset_allocator::laws::next_block_counted(&mut blocks, &mut Accesses::new()) {
+        None => false,
+        Some(block) => match block.allocation {
+            None => true,
+            Some(_) => false,
+        },
+    }
+}
+
+// Whether the node limit of the heap of a number has to be raised for `more` units.
+fn must_extend<T: Tables>(heap: &GuardedOf<T>, number: u32, limits: Limits, more: u32) -> bool
+    ensures { IsTrue result ↔ MustExtend limits number more heap.now }
+{
+    more > 0 && must_raise(heap, number, limits, 1) && !ends_free(heap)
+}
+
+// Doubles the node limit of the heap of a number, where it has to be raised for `more` units.
+fn raise_for<T: Tables>(
+    alloc: Global,
+    heap: &mut GuardedOf<T>,
+    number: u32,
+    limits: Limits,
+    more: u32,
+) -> Result<(), AllocError>
+    requires limit_max { limits.max_allocs + 1 < T.Index.MAX }
+    ensures raises { IfOk result
+        (λ _. IsRaisedWhere (MustExtend limits number more) limits heap.old heap.new) }
+    ensures must { IsErr result → MustExtend limits number more heap.old }
+    ensures same { IsErr result → heap.new ≡ heap.old }
+{
+    if must_extend(heap, number, limits, more) {
+        double_limit(alloc, heap, limits)?;
+    }
+    Ok(())
+}
+
+// Adds units at the end of a heap, whose node limit is raised first where they need that.
+fn extend_heap<T: Tables>(
+    alloc: Global,
+    heap: &mut GuardedOf<T>,
+    number: u32,
+    limits: Limits,
+    more: u32,
+) -> Result<bool, AllocError>
+    requires limit_max { limits.max_allocs + 1 < T.Index.MAX }
+    requires kind { IsOfKind limits number heap.old }
+    ensures done { IfOk result (λ done. IsTrue done ↔ CanExtendIn limits number more (Some heap.old)) }
+    ensures change { IfOk result (λ done. ExtendsIf limits number more done heap.old heap.new) }
+    ensures must { IsErr result → MustExtendIn limits number more (Some heap.old)
+        × CanExtendIn limits number more (Some heap.old) }
+    ensures same { IsErr result → heap.new ≡ heap.old }
+{
+    if more > u32::MAX - heap.allocator().size() {
+        return Ok(false);
+    }
+    is_well_formed(heap.allocator());
+    raise_for(alloc, heap, number, limits, more)?;
+    Ok(heap.extend(more))
+}
+
+/// Adds units at the end of the heap of a number, as the function before.
+pub(crate) fn extend_in<T: Tables>(
+    alloc: Global,
+    slot: &mut Option<GuardedOf<T>>,
+    number: u32,
+    limits: Limits,
+    more: u32,
+) -> Result<bool, AllocError>
+    requires there { IsSome slot.old }
+    requires limit_max { limits.max_allocs + 1 < T.Index.MAX }
+    requires kind { IfSome slot.old (IsOfKind limits number) }
+    ensures done { IfOk result (λ done. IsTrue done ↔ CanExtendIn limits number more slot.old) }
+    ensures change { IfOk result (λ done. AltersIn (ExtendsIf limits number more done) slot.old slot.new) }
+    ensures must { IsErr result → MustExtendIn limits number more slot.old
+        × CanExtendIn limits number more slot.old }
+    ensures same { IsErr result → slot.new ≡ slot.old }
+{
+    match slot {
+        Some(heap) => extend_heap(alloc, heap, number, limits, more),
+        None => unreachable!(),
+    }
+}
+
+// Slides live ranges of a heap to the front of its space by its step, and returns whether it was done.
+fn compact_one<NI: NodeIndex, T: Tables<Index = NI>, F: FnMut(Move<NI>)>(
+    heap: &mut GuardedOf<T>,
+    moved: &mut F,
+) -> bool
+    requires callable { F.IsAlwaysCallable moved.old }
+    ensures done { result ≡ can_compact heap.old }
+    ensures change { CompactsIn heap.old heap.new }
+    ensures moved { FoldsTo (IsCalledWith NI.NonMax.number (λ f range g. F.step f range tt g))
+        moved.old (moves_in (Some heap.old)) moved.new }
+{
+    heap.compact(moved)
+}
+
+// The same, and calls the closure with the number of the heap too. The index type is a parameter too, which keeps the
+// proof short.
+fn compact_numbered<NI: NodeIndex, T: Tables<Index = NI>, F: FnMut(u32, Move<NI>)>(
+    heap: &mut GuardedOf<T>,
+    number: u32,
+    moved: &mut F,
+) -> bool
+    requires callable { F.IsAlwaysCallable moved.old }
+    ensures callable { F.IsAlwaysCallable moved.new }
+    ensures done { result ≡ can_compact heap.old }
+    ensures change { CompactsIn heap.old heap.new }
+    ensures moved { FoldsTo (IsCalledAt NI.NonMax.number (λ f k range g. F.step f k range tt g)) moved.old
+        (numbered number (moves_in (Some heap.old))) moved.new }
+{
+    compact_one(heap, &mut |range: Move<NI>| moved(number, range))
+}
+
+/// Slides live ranges of a heap to the front of its space by its step, where there is one, and returns whether it was done. It
+/// calls the closure with the number of the heap too.
+pub(crate) fn compact_numbered_in<T: Tables, F: FnMut(u32, Move<T::Index>)>(
+    slot: &mut Option<GuardedOf<T>>,
+    number: u32,
+    moved: &mut F,
+) -> bool
+    requires callable { F.IsAlwaysCallable moved.old }
+    ensures callable { F.IsAlwaysCallable moved.new }
+    ensures done { IsTrue result ↔ IsCompactible slot.old }
+    ensures change { CompactsSlot slot.old slot.new }
+    ensures moved { FoldsTo (IsCalledAt T.Index.NonMax.number (λ f k range g. F.step f k range tt g)) moved.old
+        (numbered number (moves_in slot.old)) moved.new }
+{
+    match slot {
+        Some(heap) => compact_numbered(heap, number, moved),
+        None => true,
+    }
+}
+
+/// The units of room that a heap needs for a range of `size` units from a multiple of `align` on: one at least, also
+/// where the range has none.
+pub(crate) fn units_for(size: u32, align: u32) -> u64
+    requires { 1 ≤ align }
+    ensures { result ≡ max 1 (units_needed size align) }
+{
+    let units = size as u64 + align as u64 - 1;
+    if units == 0 { 1 } else { units }
+}
+
+// The greatest common divisor, by Euclid.
+fn common_divisor(first: u32, second: u32) -> u32
+    ensures { IsGcd first second result }
+{
+    let mut divisor = first;
+    let mut rest = second;
+    while rest != 0 {
+        let next = divisor % rest;
+        divisor = rest;
+        rest = next;
+    }
+    divisor
+}
+
+/// What the offset of the range of a ticket, where it is live, and the step of its heap have in common, or `None` where
+/// the heap has no step.
+pub(crate) fn alignment_in<T: Tables>(heap: &GuardedOf<T>, ticket: Ticket) -> Option<u32>
+    ensures live { IsSome result ↔ (IsLive ticket heap.now × (1 ≤ heap.now.step)) }
+    ensures own { IfSome result (IsGcd (offset_in (range_of ticket heap.now)) heap.now.step) }
+    ensures some { IfSome result (λ d. 1 ≤ d) }
+{
+    let step = heap.step()?;
+    let offset = heap.offset_of(ticket)?;
+    Some(common_divisor(offset, step))
+}
+
+/// Whether a heap with `full` live units may take a range of `size` units of the heap `own`, which has `live`.
+pub(crate) fn is_fuller(size: u32, own: u32, live: u32, number: u32, full: u32) -> bool
+    ensures { IsTrue result ↔ ((live ≤ full) × (size ≡ 0 → (live < full) ⊎ (number < own))) }
+{
+    live < full || (live == full && (size > 0 || number < own))
+}
