@@ -407,8 +407,8 @@ EXAMPLES = {
     ),
 }
 
-# Functions that only steps of proofs call, and that are left out as these are.
-IN_STEPS = {"made"}
+# Functions that only steps of proofs call, and a law of all closures: they are left out as steps are.
+IN_STEPS = {"made", "moves_are_listed"}
 
 # Attributes and macros that are printed as they are. Any other stops `erase`.
 ATTRIBUTES = {"cold", "doc", "inline", "track_caller"}

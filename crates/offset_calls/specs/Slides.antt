@@ -1,4 +1,4 @@
--- What calls come to that may slide ranges, and their moves: as the allocator reports them, and with the numbers of their grants.
+-- What calls that may slide ranges come to, and their moves: as the allocator reports them, and with the numbers of their grants.
 use Rattle.std.specs.Prelude.{◌≡◌, ℕ, Bool, List, [], ◌∷◌, ◌++◌, Option, Some, None, if◌then◌else◌}
 use Rattle.offset_allocator.specs.declared.moves.room.RoomCost.{RoomCost}
 use Rattle.offset_allocator.specs.declared.moves.over_frames.Progress.{Progress}

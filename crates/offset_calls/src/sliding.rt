@@ -64,7 +64,7 @@ impl<NI: NodeIndex> Seen<NI> {
     }
 }
 
-// What a call comes to that may slide ranges: a reply without its moves.
+// What a call that may slide ranges comes to: a reply without its moves.
 #[derive(Drop)]
 enum Slid {
     Refused,

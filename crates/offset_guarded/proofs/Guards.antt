@@ -100,13 +100,6 @@ one_covered names cells now c l =
     let zeros = length-replicate {A = ℕ} c.0 0 in
     (c.0 + 1, ap (λ (k : List ℕ). k ++ 0 ∷ []) c.1 ∙ more_zeros cells c.0, omega (arith, long, zeros, l))
 
-pub all_covered : (names : ℕ) (cells now : List ℕ) → IsCovered names cells now → names ≤ length now → now ≡ covering names cells
-all_covered names cells now c l =
-    let long = ap length c.1 ∙ length-append cells (replicate c.0 0) in
-    let zeros = length-replicate {A = ℕ} c.0 0 in
-    let most = c.2 in
-    c.1 ∙ ap (λ (n : ℕ). cells ++ replicate n 0) (omega (arith, long, zeros, l, most))
-
 -- a request leaves the node limit
 pub same_limit : (n align : ℕ) (v w : View) (h : Handle) → Aligns n align v w (Some h) → w.max_allocs ≡ v.max_allocs
 same_limit n align v w h t = ap (λ (z : View). z.max_allocs) t.1.view

@@ -16,8 +16,8 @@ HasAsked t a g = (t.serial ≤ g.given) × ((r : Range) → range_of t g ≡ Som
 abbrev pub KeepsAsked : Guard → Guard → Type 0
 KeepsAsked g h = (t : Ticket) (a : ℕ) → HasAsked t a g → HasAsked t a h
 
--- what is left continues what there was: the realm is kept, no ticket of an earlier grant becomes live, and each range keeps
--- each alignment that divides the step
+-- what is left continues what there was: the realm is kept, no ticket of an earlier grant becomes live, and each range keeps,
+-- while it is live, each alignment that divides the step; a live range may end
 pub record Continues (g h : Guard) : Type 0 where
   pub realm : h.realm ≡ g.realm
   pub given : g.given ≤ h.given

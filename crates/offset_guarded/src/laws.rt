@@ -1,12 +1,19 @@
 //! What holds of every guarded allocator. Its functions do nothing. With them are questions with a count of their
 //! accesses.
 ghost use Rattle.std.specs.Int.{◌∣◌};
-ghost use Rattle.std.specs.Prelude.{◌≡◌, ◌+◌, ◌<◌, ℕ, List, Some};
+ghost use Rattle.std.specs.Prelude.{◌≡◌, ◌+◌, ◌<◌, ℕ, Bool, List, Option, Some};
 ghost use Rattle.std.specs.List.{AllByRecursion};
-ghost use Rattle.offset_allocator.specs.Moving.Compacting.{Move};
+ghost use Rattle.offset_allocator.specs.Moving.Compacting.{IsCalledWith, Move};
 ghost use Rattle.offset_allocator.specs.Ranges.{Range};
 ghost use Rattle.offset_allocator.specs.View as view;
 ghost use Rattle.offset_guarded.specs.Answers.{Aligns, Answer, Answers, Call, Relocates, Requests};
+ghost use Rattle.offset_guarded.specs.Answers.{Compacts, CompactsBy, CompactsUnaligned, CompactsWithin, CompactsWithinBy};
+ghost use Rattle.offset_guarded.specs.Answers.{MakesRoom, MakesRoomBy, MakesRoomUnaligned};
+ghost use Rattle.offset_guarded.specs.Answers.Answer.{Nothing, Progressed, Room_made, Was_done};
+ghost use Rattle.offset_guarded.specs.Answers.Call.{Compact, Compact_by, Compact_unaligned, Compact_within, Compact_within_by};
+ghost use Rattle.offset_guarded.specs.Answers.Call.{Make_room, Make_room_by, Make_room_unaligned};
+ghost use Rattle.offset_allocator.specs.declared.moves.over_frames.Progress.{Progress};
+ghost use Rattle.offset_allocator.specs.declared.moves.room.RoomCost.{RoomCost};
 ghost use Rattle.offset_guarded.specs.Calls.{AllHappen, Continues, Event, Happens, HasAsked, KeepsAsked};
 ghost use Rattle.offset_guarded.specs.Guard.{Guard, IsCopy, Ticket, range_of};
 ghost use Rattle.offset_guarded.specs.State.{IsStateOf, IsWellFormed, SameGuard};
@@ -38,10 +45,10 @@ pub fn a_state_is_read_back<T: Tables>(guarded: &GuardedOf<T>)
 /// For every list of calls of tickets, with their answers, without those whose names say that they keep no alignment: a
 /// range that was granted at a multiple of an alignment that was asked for begins at one as long as it lives, whatever was
 /// granted, freed, moved, copied, stored and read. Calls that take a step are in the list where that is a multiple of the
-/// step of the space.
+/// step of the space, and so is `relocate_unaligned`: it moves no range, and of the second one nothing is said.
 pub fn alignments_are_kept()
-    // What each call leaves continues what there was: it makes no earlier ticket live, and each range keeps each alignment
-    // that divides the step.
+    // What each call leaves continues what there was: it keeps the realm, makes no earlier ticket live, and each range keeps,
+    // while it is live, each alignment that divides the step.
     ensures each { (e : Event) (g h : Guard) → Happens e g h → Continues g h }
     // So it keeps each alignment that was asked for.
     ensures kept { (g h : Guard) → Continues g h → KeepsAsked g h }
@@ -53,6 +60,43 @@ pub fn alignments_are_kept()
     // So, whatever calls follow the grant, its range begins at a multiple as long as it lives.
     ensures lists { (n align : ℕ) (g h i : Guard) (t : Ticket) (es : List Event) → Requests n g h (Some t)
         → Aligns align g h (Some t) → AllHappen h es i → (r : Range) → range_of t i ≡ Some r → align ∣ r.offset }
+{}
+
+/// Whatever its closure does, each call that moves ranges has the list of its moves: so by its contract it is a call with its
+/// answer, as lists have it, and the laws hold of it. The other calls have no closure: a contract of one is its answer in a list.
+pub fn moves_are_listed<T: Tables, F: FnMut(offset_allocator::Move<T::Index>)>()
+    ensures compact { (f f' : F) (g h : Guard) (r : Bool)
+        → Compacts (IsCalledWith T.Index.NonMax.number (λ f range g. F.step f range tt g))
+        f g h f' r
+        → (ms : List Move) × Answers Compact g h (Was_done r) ms }
+    ensures by { (f f' : F) (g h : Guard) (s : ℕ) (r : Bool)
+        → CompactsBy (IsCalledWith T.Index.NonMax.number (λ f range g. F.step f range tt g))
+        s f g h f' r
+        → (ms : List Move) × Answers (Compact_by s) g h (Was_done r) ms }
+    ensures unaligned { (f f' : F) (g h : Guard)
+        → CompactsUnaligned (IsCalledWith T.Index.NonMax.number (λ f range g. F.step f range tt g))
+        f g h f'
+        → (ms : List Move) × Answers Compact_unaligned g h Nothing ms }
+    ensures within { (f f' : F) (g h : Guard) (from units ranges : ℕ) (r : Option Progress)
+        → CompactsWithin (IsCalledWith T.Index.NonMax.number (λ f range g. F.step f range tt g))
+        from units ranges f g h f' r
+        → (ms : List Move) × Answers (Compact_within from units ranges) g h (Progressed r) ms }
+    ensures within_by { (f f' : F) (g h : Guard) (s from units ranges : ℕ) (r : Option Progress)
+        → CompactsWithinBy (IsCalledWith T.Index.NonMax.number (λ f range g. F.step f range tt g))
+        s from units ranges f g h f' r
+        → (ms : List Move) × Answers (Compact_within_by s from units ranges) g h (Progressed r) ms }
+    ensures room { (f f' : F) (g h : Guard) (n align : ℕ) (r : Option RoomCost)
+        → MakesRoom (IsCalledWith T.Index.NonMax.number (λ f range g. F.step f range tt g))
+        n align f g h f' r
+        → (ms : List Move) × Answers (Make_room n align) g h (Room_made r) ms }
+    ensures room_by { (f f' : F) (g h : Guard) (n align s : ℕ) (r : Option RoomCost)
+        → MakesRoomBy (IsCalledWith T.Index.NonMax.number (λ f range g. F.step f range tt g))
+        n align s f g h f' r
+        → (ms : List Move) × Answers (Make_room_by n align s) g h (Room_made r) ms }
+    ensures room_unaligned { (f f' : F) (g h : Guard) (n : ℕ) (r : Option RoomCost)
+        → MakesRoomUnaligned (IsCalledWith T.Index.NonMax.number (λ f range g. F.step f range tt g))
+        n f g h f' r
+        → (ms : List Move) × Answers (Make_room_unaligned n) g h (Room_made r) ms }
 {}
 
 /// A space with tickets and a call decide what is returned, which moves are seen, and what is left. Two are twins where

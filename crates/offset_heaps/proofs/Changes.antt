@@ -1,5 +1,5 @@
 -- After a change of one heap, in place.
-use Rattle.std.proofs.Common.{◌≡◌, ◌↔◌, ℕ, ◌<◌, Bool, true, false, length, List, Option, Some, None, IsSome, is_some, slice_set, refl, sym, ap, subst, ◌∙◌, inl, inr}
+use Rattle.std.proofs.Common.{◌≡◌, ℕ, ◌<◌, Bool, false, length, List, Option, Some, None, is_some, slice_set, refl, sym, ap, subst, ◌∙◌, inl, inr}
 use Rattle.std.proofs.lemmas.Bool.{cases_eq}
 use Rattle.offset_allocator.specs.Ranges.{Range}
 use Rattle.offset_allocator.specs.View.{View}
@@ -10,8 +10,8 @@ use Rattle.offset_guarded.specs.Twins.{IsTwin}
 use Rattle.offset_guarded.proofs.Twins.{own_twin, same_twin}
 use Rattle.offset_heaps.specs.declared.limits.Limits.{Limits}
 use Rattle.offset_heaps.specs.Places.{Place, ticket_of}
-use Rattle.offset_heaps.specs.Changing.{Alters, AltersIn, HasUnits, KeepsLive}
-use Rattle.offset_heaps.specs.Heaps.{Heaps, IsLive, IsSame, KeepsOthers, Puts, heap_at, range_in, range_of, slot}
+use Rattle.offset_heaps.specs.Changing.{Alters, AltersIn, KeepsLive}
+use Rattle.offset_heaps.specs.Heaps.{Heaps, IsSame, KeepsOthers, Puts, heap_at, range_in, range_of, slot}
 use Rattle.offset_heaps.specs.{Slots.Changes, Twins.AreTwins, Twins.IsTwinIn}
 use Rattle.offset_heaps.proofs.Numbers.{slot_other, slot_same, slot_set, slot_there}
 use Rattle.offset_heaps.proofs.Places.{other_realm, put_keeps, put_others, same_realm, shown}
@@ -101,12 +101,6 @@ module _ (p : Place) (n : ℕ) (Can : View → Type 0) (Step : View → View →
 
   is : range_of p ks ≡ guarded.range_of (ticket_of p) a.after
   is = same_realm p ks (own ∙ sym (altered_realm p.heap Change hs ks there a)) ∙ ap (range_in (ticket_of p)) (now p.heap Change hs ks there a)
-
-  pub resized_live : IsSome r ↔ IsLive p hs
-  resized_live = (λ some. subst IsSome (sym was) (a.by.live.0 some), λ live. a.by.live.1 (subst IsSome was live))
-
-  pub resized_range : r ≡ Some true → HasUnits p n hs ks
-  resized_range done q e = is ∙ a.by.range done q (sym was ∙ e)
 
   pub resized_others : KeepsOthers p hs ks
   resized_others = others_kept p Change hs ks there a own a.by.others

@@ -3,10 +3,8 @@ use Rattle.std.proofs.Common.{◌≡◌, ℕ, suc, ◌+◌, ◌*◌, ◌<◌, �
 use Rattle.std.proofs.Math.Seq.{drop-cons}
 use Rattle.std.specs.List.{FoldsTo}
 use Rattle.offset_allocator.specs.{Moving.Compacting.Move, Ranges.Range, View.View}
-use Rattle.offset_guarded.specs.Guard.{Guard, Ticket, serial_of}
+use Rattle.offset_guarded.specs.Guard.{Guard, Ticket}
 use Rattle.offset_guarded.specs.Guard as guarded
-use Rattle.offset_guarded.specs.Twins.{IsTwin}
-use Rattle.offset_guarded.proofs.Twins.{own_twin}
 use Rattle.offset_heaps.specs.declared.limits.Limits.{Limits}
 use Rattle.std.proofs.lemmas.Bool.{cases_eq, cases_lt, le-ltb, lt-ltb}
 use Rattle.offset_allocator.specs.Moving.BySteps.{CompactsBy, run_by, used_up}
@@ -73,21 +71,6 @@ compacted_limits g h c = elim (cases_eq g.step 0) [
     go true (inl e) = (ap (λ (v : View). v.size) e.1, ap (λ (v : View). v.max_allocs) e.1)
     go true (inr e) = (ap (λ (v : View). v.size) e.1.view, ap (λ (v : View). v.max_allocs) e.1.view)
     go false e = (ap (λ (v : View). v.size) e.2, ap (λ (v : View). v.max_allocs) e.2)
-
--- where it is refused, every later call returns the same
-pub refused_twin : (g h : Guard) → CompactsIn g h → can_compact g ≡ false → IsTwin g h
-refused_twin g h c refused = elim (cases_eq g.step 0) [
-  | inl e ↦ subst (IsTwin g) (sym (c.none e)) (own_twin g)
-  | inr d ↦
-      let by : CompactsBy g.step g.space h.space false = subst (CompactsBy g.step g.space h.space) refused (c.step (omega (arith, d))) in
-      record {
-        space = by.2;
-        serials = λ x live. ap (λ (z : Guard). serial_of x z) c.serials;
-        given = ap (λ (z : Guard). z.given) c.serials;
-        realm = ap (λ (z : Guard). z.realm) c.serials;
-        step = ap (λ (z : Guard). z.step) c.serials;
-      }
-]
 
 -- has its realm
 pub realm_compacted : (made : ℕ) (old new : Option Guard) → CompactsSlot old new → IfSome old (λ g. g.realm ≤ made) → IfSome new (λ g. g.realm ≤ made)

@@ -60,9 +60,6 @@ module _ (limits : Limits) (k blocks : ℕ) where
   pub raised_realm : (g h : Guard) → IsRaisedAsNeeded limits k blocks g h → h.realm ≡ g.realm
   raised_realm = where_same Must limits k may (λ (z : Guard). z.realm) (λ limit g. refl)
 
-  pub raised_step : (g h : Guard) → IsRaisedAsNeeded limits k blocks g h → h.step ≡ g.step
-  raised_step = where_same Must limits k may (λ (z : Guard). z.step) (λ limit g. refl)
-
   pub raised_range : (t : Ticket) (g h : Guard) → IsRaisedAsNeeded limits k blocks g h → guarded.range_of t h ≡ guarded.range_of t g
   raised_range t = where_same Must limits k may (guarded.range_of t) (λ limit g. refl)
 

@@ -1,7 +1,7 @@
 -- What a heap has room for.
 use Rattle.std.proofs.Common.{◌≡◌, ℕ, ◌+◌, ◌<◌, ◌≤◌, Bool, true, false, ◌&&◌, [], ◌∷◌, Option, Some, None, IfSome, length, max, nat_lt, if◌then◌else◌, refl, sym, ap, subst, ◌∙◌, inl, inr, arith, eq-eqb, ne_eqb, ◌↔◌}
 use Rattle.std.proofs.lemmas.Bool.{cases_eq, cases_lt, lt-ltb, le-ltb, le-leb, lt-leb}
-use Rattle.offset_allocator.specs.{Reporting.FreeSizes.largest, Reporting.Reports.IsReport, Requests.CanGrant, Requests.AdmitsBlocks, Requests.blocks_needed, Requests.units_needed, Relations.IsFresh, View.View, View.IsWellFormed, View.free_block}
+use Rattle.offset_allocator.specs.{Reporting.FreeSizes.largest, Reporting.Reports.IsReport, Requests.CanGrant, Requests.AdmitsBlocks, Requests.blocks_needed, Relations.IsFresh, View.View, View.IsWellFormed, View.free_block}
 use Rattle.offset_allocator.specs.{View.free_sizes, Classes.down, Classes.up, Classes.value, Ranges.Range}
 use Rattle.offset_allocator.specs.declared.reports.StorageReport.{StorageReport}
 use Rattle.offset_allocator.proofs.{Classes.down_small, Classes.up_law, Classes.up_reached, Classes.value_down, Classes.value_grows, Taken.HasFit, Taken.fitting}
@@ -138,15 +138,6 @@ new_holds size g f none =
     let limit : g.space.max_allocs ≡ 4 = ap (λ (v : View). v.max_allocs) f.view in
     let one : length g.space.blocks ≡ 1 = ap length blocks in
     (omega arith, (omega arith, (record { before = []; block = free_block f.name size; after = [] }, blocks, refl, omega arith)))
-
--- a usual one has room for what it is made for
-pub new_room : (size units limit : ℕ) (g : Guard) → IsFresh size limit g.space → g.given ≡ 0 → 4 ≤ limit → 1 ≤ units → units ≤ value (down size) → HasRoomNow 1 (max 1 (units_needed units 1)) (Some g)
-new_room size units limit g f none least some fits =
-    let blocks : g.space.blocks ≡ free_block f.name size ∷ [] = ap (λ (v : View). v.blocks) f.view in
-    let most : g.space.max_allocs ≡ limit = ap (λ (v : View). v.max_allocs) f.view in
-    let one : length g.space.blocks ≡ 1 = ap length blocks in
-    let free : largest (free_sizes g.space.blocks) ≡ max (value (down size)) 0 = ap (λ bs. largest (free_sizes bs)) blocks in
-    (omega arith, omega (arith, one, most, least), omega (arith, free, fits, some))
 
 -- no ticket is live in a fresh heap
 fresh_name : (size max x : ℕ) (v : View) → IsFresh size max v → named.range_of x v ≡ None

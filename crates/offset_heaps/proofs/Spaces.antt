@@ -25,7 +25,7 @@ use Rattle.offset_heaps.specs.Heaps.{Heaps, FreesIn, Grants, IsBefore, IsLive, I
 use Rattle.offset_heaps.specs.Histories.{ContinuesIn, IsStep}
 use Rattle.offset_heaps.specs.Places.{Place, ticket_of}
 use Rattle.offset_heaps.specs.Slots.{CanHoldIn, ResetsIn}
-use Rattle.offset_heaps.specs.Spaces.{DoesAll, GoesByTheSteps, GoesOn, IsSpace, IsValid}
+use Rattle.offset_heaps.specs.Spaces.{DoesAll, GoesByTheSteps, GoesOn, IsAdmitted, IsSpace, IsValid}
 use Rattle.offset_heaps.specs.Tight.{GrantsTight}
 use Rattle.offset_heaps.proofs.{Grants.restepped, Numbers.slot_other, Numbers.slot_past, Numbers.slot_same, Numbers.slot_set, Numbers.slot_there, Rooms.new_holds, Rooms.room_left}
 
@@ -34,8 +34,8 @@ use Rattle.offset_heaps.proofs.{Grants.restepped, Numbers.slot_other, Numbers.sl
 abbrev Turns : Guard → Guard → Type 0
 Turns g h = Continues g h × ((es : List Event) × DoesAll g es h)
 
-turn : (c : tickets.Call) (a : tickets.Answer) (ms : List Move) (g h : Guard) → GoesByTheStep c g → tickets.Answers c g h a ms → Turns g h
-turn c a ms g h goes by = (happened (Called c a ms) g h (goes, by), (Called c a ms ∷ [], (h, by, refl)))
+turn : (c : tickets.Call) (a : tickets.Answer) (ms : List Move) (g h : Guard) → IsAdmitted c → GoesByTheStep c g → tickets.Answers c g h a ms → Turns g h
+turn c a ms g h some goes by = (happened (Called c a ms) g h (goes, by), (Called c a ms ∷ [], (h, (some, by), refl)))
 
 stays : (g h : Guard) → h ≡ g → Turns g h
 stays g h e = subst (Turns g) (sym e) (record { realm = refl; given = omega arith; live = λ t early live. live; aligned = same_aligned g }, ([], refl))
@@ -46,9 +46,9 @@ raised_first limit g b h e c =
     let d : Continues (record g { space = record g.space { max_allocs = limit; accesses = 0 } }) h = subst (λ (z : Guard). Continues z h) e c in
     record { realm = d.realm; given = d.given; live = d.live; aligned = d.aligned }
 
-after_raise : (Must : Guard → Type 0) (limits : Limits) (g b h : Guard) → IsRaisedWhere Must limits g b → Turns b h → Turns g h
-after_raise Must limits g b h (inl up) t = (raised_first (raised_limit limits g) g b h up.1 t.0, (Raised (raised_limit limits g) ∷ t.1.0, (b, up.1, t.1.1)))
-after_raise Must limits g b h (inr kept) t = subst (λ (z : Guard). Turns z h) kept.1 t
+after_raise : (Must : Guard → Type 0) (limits : Limits) (may : (g : Guard) → Must g → g.space.max_allocs < limits.max_allocs) (g b h : Guard) → IsRaisedWhere Must limits g b → Turns b h → Turns g h
+after_raise Must limits may g b h (inl up) t = (raised_first (raised_limit limits g) g b h up.1 t.0, (Raised (raised_limit limits g) ∷ t.1.0, (b, (omega (arith, may g up.0), up.1), t.1.1)))
+after_raise Must limits may g b h (inr kept) t = subst (λ (z : Guard). Turns z h) kept.1 t
 
 left_raised : (Must : Guard → Type 0) (limits : Limits) (g b : Guard) → IsRaisedWhere Must limits g b → HasSerialLeft g → HasSerialLeft b
 left_raised Must limits g b (inl up) left = omega (arith, ap (λ (z : Guard). z.given) up.1, left)
@@ -154,10 +154,10 @@ module _ (size align : ℕ) (hs ks : Heaps) (grant : Granted) (s : Grants size a
         fresh = s.before;
         size = size';
         limit = limit;
-        number = made;
+        realm = made;
         new = fresh;
         events = Called (tickets.Call.Allocate_aligned size 1) (tickets.Answer.Requested (Some t)) [] ∷ Called (tickets.Call.Raise_step align) tickets.Answer.Nothing [] ∷ [];
-        done = (mid, first mid refl (one size align made s.before s.after fresh.step s.joined), (s.after, restep size align made s.before s.after fresh.step s.joined, refl));
+        done = (mid, (omega arith, first mid refl (one size align made s.before s.after fresh.step s.joined)), (s.after, (some, restep size align made s.before s.after fresh.step s.joined), refl));
       }
     where
       spare : HasSerialLeft s.before
@@ -180,10 +180,10 @@ module _ (size align : ℕ) (hs ks : Heaps) (grant : Granted) (s : Grants size a
         fresh = s.before;
         size = size;
         limit = larger_limit;
-        number = made;
+        realm = made;
         new = fresh;
         events = Called (tickets.Call.Allocate_tight size) (tickets.Answer.Requested (Some t)) [] ∷ Called (tickets.Call.Raise_step align) tickets.Answer.Nothing [] ∷ [];
-        done = (mid, first mid refl, (s.after, restep size align made s.before s.after fresh.step s.joined, refl));
+        done = (mid, (tt, first mid refl), (s.after, (some, restep size align made s.before s.after fresh.step s.joined), refl));
       }
     where
       holds : HasSerialLeft s.before × CanHold size 1 s.before.space
@@ -217,8 +217,8 @@ module _ (size align : ℕ) (hs ks : Heaps) (grant : Granted) (s : Grants size a
           let was : Guard = o.1.0 in
           let Must : Guard → Type 0 = MustRaise hs.limits k (blocks_needed align) in
           let spare = left_raised Must hs.limits was s.before o.1.2 (left was o.0 o.1.1) in
-          turned hs.made k hs was s.after o.1.1 (after_raise Must hs.limits was s.before s.after o.1.2
-          (turn (tickets.Call.Allocate_aligned size align) (tickets.Answer.Requested (Some t)) [] s.before s.after tt (old was o.0 o.1.1 spare)))
+          turned hs.made k hs was s.after o.1.1 (after_raise Must hs.limits (λ g must. must.1) was s.before s.after o.1.2
+          (turn (tickets.Call.Allocate_aligned size align) (tickets.Answer.Requested (Some t)) [] s.before s.after some tt (old was o.0 o.1.1 spare)))
       go (inr n) = subst (λ o. Evolves hs.made o (Some s.after)) (sym n.1) (elim n.2 [
         | inl u ↦ (usual (usual_size hs.limits k) hs.limits.first_allocs (hs.made + 1) n.0 n.1 u.0 u.1, (let e = u.1.realm in omega (arith, e, realm)))
         | inr l ↦ (larger (hs.made + 1) n.0 n.1 l.0 l.1, (let e = l.1.realm in omega (arith, e, realm)))
@@ -258,19 +258,19 @@ alters_evolve k P hs ks a t = record {
   heaps = put_evolves k hs ks (Some a.after) (ap (λ (h : Heaps). h.slots) a.heaps) (slot_there hs.slots k (ap is_some a.heap)) (turned hs.made k hs a.before a.after a.heap t);
 }
 
-on_evolve : (k : ℕ) (c : tickets.Call) (hs ks : Heaps) (a : tickets.Answer) (ms : List Move) → (x : TakesOn k c hs ks a ms) → GoesByTheStep c x.before → Evolve hs ks
-on_evolve k c hs ks a ms x goes = alters_evolve k (λ g h. tickets.Answers c g h a ms) hs ks x (turn c a ms x.before x.after goes x.by)
+on_evolve : (k : ℕ) (c : tickets.Call) (hs ks : Heaps) (a : tickets.Answer) (ms : List Move) → (x : TakesOn k c hs ks a ms) → IsAdmitted c → GoesByTheStep c x.before → Evolve hs ks
+on_evolve k c hs ks a ms x some goes = alters_evolve k (λ g h. tickets.Answers c g h a ms) hs ks x (turn c a ms x.before x.after some goes x.by)
 
-where_evolve : (k : ℕ) (c : tickets.Call) (without : tickets.Answer) (hs ks : Heaps) (a : tickets.Answer) → ((g : Guard) → GoesByTheStep c g) → TakesWhere k c without hs ks a → Evolve hs ks
-where_evolve k c without hs ks a goes x = go (heap_at k hs) refl
+where_evolve : (k : ℕ) (c : tickets.Call) (without : tickets.Answer) (hs ks : Heaps) (a : tickets.Answer) → IsAdmitted c → ((g : Guard) → GoesByTheStep c g) → TakesWhere k c without hs ks a → Evolve hs ks
+where_evolve k c without hs ks a some goes x = go (heap_at k hs) refl
   where
     go : (o : Option Guard) → heap_at k hs ≡ o → Evolve hs ks
     go None e = same_evolve hs ks (x.none e).0
-    go (Some g) e = let m = x.step (ap is_some e) in on_evolve k c hs ks a m.0 m.1 (goes m.1.before)
+    go (Some g) e = let m = x.step (ap is_some e) in on_evolve k c hs ks a m.0 m.1 some (goes m.1.before)
 
-at_evolve : (p : Place) (c : tickets.Call) (hs ks : Heaps) (r : Option Bool) → ((g : Guard) → GoesByTheStep c g) → TakesAt p c hs ks r → Evolve hs ks
-at_evolve p c hs ks None goes x = same_evolve hs ks (x.not_live refl)
-at_evolve p c hs ks (Some d) goes x = let m = x.step refl in on_evolve p.heap c hs ks (tickets.Answer.Resized (Some d)) [] m (goes m.before)
+at_evolve : (p : Place) (c : tickets.Call) (hs ks : Heaps) (r : Option Bool) → IsAdmitted c → ((g : Guard) → GoesByTheStep c g) → TakesAt p c hs ks r → Evolve hs ks
+at_evolve p c hs ks None some goes x = same_evolve hs ks (x.not_live refl)
+at_evolve p c hs ks (Some d) some goes x = let m = x.step refl in on_evolve p.heap c hs ks (tickets.Answer.Resized (Some d)) [] m some (goes m.before)
 
 more_made : (b : Bool) (n : ℕ) → n ≤ (if b then n + 1 else n)
 more_made true n = omega arith
@@ -289,7 +289,7 @@ tight_evolve size align hs ks grant s some left =
     let Must : Guard → Type 0 = MustRaise hs.limits grant.place.heap (blocks_needed align) in
     let t : Ticket = ticket_in grant in
     alters_evolve grant.place.heap (λ g h. (g ≡ s.was) × (h ≡ s.after)) hs ks (record { before = s.was; after = s.after; heap = s.heap; by = (refl, refl); heaps = s.heaps })
-    (after_raise Must hs.limits s.was s.before s.after s.raised (turn (tickets.Call.Allocate_tight_aligned size align) (tickets.Answer.Requested (Some t)) [] s.before s.after tt
+    (after_raise Must hs.limits (λ g must. must.1) s.was s.before s.after s.raised (turn (tickets.Call.Allocate_tight_aligned size align) (tickets.Answer.Requested (Some t)) [] s.before s.after some tt
     (tight_act size align s.before s.after t (left_raised Must hs.limits s.was s.before s.raised left) some s.grants s.joined s.step s.accesses)))
 
 -- ---- room, and what is live
@@ -315,7 +315,7 @@ frees_evolve p hs ks live f =
       accesses_max = f.accesses;
     } in
     alters_evolve p.heap (λ g h. (g ≡ f.before) × (h ≡ f.after)) hs ks (record { before = f.before; after = f.after; heap = f.heap; by = (refl, refl); heaps = f.heaps })
-    (turn (tickets.Call.Free (ticket_of p)) (tickets.Answer.Was_done true) [] f.before f.after tt (true, refl, by, refl))
+    (turn (tickets.Call.Free (ticket_of p)) (tickets.Answer.Was_done true) [] f.before f.after tt tt (true, refl, by, refl))
 
 relocates_evolve : (p : Place) (align : ℕ) (hs ks : Heaps) (r : Option Granted) → 1 ≤ align → calls.Relocates p align hs ks r → Evolve hs ks
 relocates_evolve p align hs ks None some x = same_evolve hs ks (x.same refl)
@@ -338,28 +338,28 @@ extends_evolve : (k more : ℕ) (d : Bool) (hs ks : Heaps) → ExtendsHeap k mor
 extends_evolve k more d hs ks x = alters_evolve k (ExtendsIf hs.limits k more d) hs ks x (go d x.by)
   where
     go : (d : Bool) → ExtendsIf hs.limits k more d x.before x.after → Turns x.before x.after
-    go true e = after_raise (MustExtend hs.limits k more) hs.limits x.before e.between x.after e.raised
-        (turn (tickets.Call.Extend more) (tickets.Answer.Was_done true) [] e.between x.after tt (true, refl, e.by, refl))
+    go true e = after_raise (MustExtend hs.limits k more) hs.limits (λ g must. must.2.1) x.before e.between x.after e.raised
+        (turn (tickets.Call.Extend more) (tickets.Answer.Was_done true) [] e.between x.after tt tt (true, refl, e.by, refl))
     go false (inl same) = stays x.before x.after same
-    go false (inr by) = turn (tickets.Call.Extend more) (tickets.Answer.Was_done false) [] x.before x.after tt (false, refl, by, refl)
+    go false (inr by) = turn (tickets.Call.Extend more) (tickets.Answer.Was_done false) [] x.before x.after tt tt (false, refl, by, refl)
 
 retracts_evolve : (k less : ℕ) (r : Bool) (hs ks : Heaps) → Alters k (RetractsTo hs.limits k less r) hs ks → Evolve hs ks
 retracts_evolve k less r hs ks x = alters_evolve k (RetractsTo hs.limits k less r) hs ks x (go r x.by)
   where
     go : (r : Bool) → RetractsTo hs.limits k less r x.before x.after → Turns x.before x.after
-    go true e = turn (tickets.Call.Retract less) (tickets.Answer.Was_done true) [] x.before x.after tt (true, refl, e.step refl, refl)
+    go true e = turn (tickets.Call.Retract less) (tickets.Answer.Was_done true) [] x.before x.after tt tt (true, refl, e.step refl, refl)
     go false e = elim (e.same refl) [
       | inl same ↦ stays x.before x.after same
-      | inr by ↦ turn (tickets.Call.Retract less) (tickets.Answer.Was_done false) [] x.before x.after tt (false, refl, by, refl)
+      | inr by ↦ turn (tickets.Call.Retract less) (tickets.Answer.Was_done false) [] x.before x.after tt tt (false, refl, by, refl)
     ]
 
 reset_slot : (made : ℕ) (o new : Option Guard) → ResetsIn o new → Evolves made o new
 reset_slot made None new e = subst (Evolves made None) (sym e) tt
-reset_slot made (Some g) new r = subst (Evolves made (Some g)) (sym r.1) (turn tickets.Call.Reset tickets.Answer.Nothing [] g r.0 tt (refl, r.2, refl))
+reset_slot made (Some g) new r = subst (Evolves made (Some g)) (sym r.1) (turn tickets.Call.Reset tickets.Answer.Nothing [] g r.0 tt tt (refl, r.2, refl))
 
 compact_slot : (made : ℕ) (o new : Option Guard) → CompactsSlot o new → Evolves made o new
 compact_slot made None new e = subst (Evolves made None) (sym e) tt
-compact_slot made (Some g) new r = subst (Evolves made (Some g)) (sym r.1) (turn tickets.Call.Compact (tickets.Answer.Was_done (can_compact g)) ms g r.0 tt (can_compact g, refl, by))
+compact_slot made (Some g) new r = subst (Evolves made (Some g)) (sym r.1) (turn tickets.Call.Compact (tickets.Answer.Was_done (can_compact g)) ms g r.0 tt tt (can_compact g, refl, by))
   where
     ms : List Move
     ms = if can_compact g then moves_by g.step 0 0 g.space.blocks else []
@@ -424,8 +424,8 @@ evolve Reset hs ks r some goes x = record {
   made = omega (arith, ap (λ (h : Heaps). h.made) x.1.rest);
   heaps = λ k. reset_slot hs.made (heap_at k hs) (heap_at k ks) (x.1.heaps k);
 }
-evolve (Shrink p n) hs ks r some goes x = at_evolve p (tickets.Call.Shrink (ticket_of p) n) hs ks x.0 (λ g. tt) x.2
-evolve (Grow_in_place p n) hs ks r some goes x = at_evolve p (tickets.Call.Grow_in_place (ticket_of p) n) hs ks x.0 (λ g. tt) x.2
+evolve (Shrink p n) hs ks r some goes x = at_evolve p (tickets.Call.Shrink (ticket_of p) n) hs ks x.0 tt (λ g. tt) x.2
+evolve (Grow_in_place p n) hs ks r some goes x = at_evolve p (tickets.Call.Grow_in_place (ticket_of p) n) hs ks x.0 tt (λ g. tt) x.2
 evolve (Extend_heap k more) hs ks r some goes x = go x.0 x.2
   where
     go : (a : Result Bool AllocError) → calls.ExtendsOne k more hs ks a → Evolve hs ks
@@ -435,15 +435,15 @@ evolve (Extend_heap k more) hs ks r some goes x = go x.0 x.2
         there : (o : Option Guard) → heap_at k hs ≡ o → Evolve hs ks
         there None e = same_evolve hs ks (y.none e)
         there (Some g) e = extends_evolve k more d hs ks (y.step (ap is_some e))
-evolve (Compact_heap k) hs ks r some goes x = where_evolve k tickets.Call.Compact (tickets.Answer.Was_done false) hs ks (tickets.Answer.Was_done x.0) (λ g. tt) x.2
+evolve (Compact_heap k) hs ks r some goes x = where_evolve k tickets.Call.Compact (tickets.Answer.Was_done false) hs ks (tickets.Answer.Was_done x.0) tt (λ g. tt) x.2
 evolve Compact_all hs ks r some goes x = record {
   realm = ap (λ (h : Heaps). h.realm) x.2.step.rest;
   made = omega (arith, ap (λ (h : Heaps). h.made) x.2.step.rest);
   heaps = λ k. compact_slot hs.made (heap_at k hs) (heap_at k ks) (x.2.step.heaps k);
 }
-evolve (Make_room k size align) hs ks r some goes x = where_evolve k (tickets.Call.Make_room size align) (tickets.Answer.Room_made None) hs ks (tickets.Answer.Room_made x.0) (λ g. tt) x.2
+evolve (Make_room k size align) hs ks r some goes x = where_evolve k (tickets.Call.Make_room size align) (tickets.Answer.Room_made None) hs ks (tickets.Answer.Room_made x.0) some (λ g. tt) x.2
 evolve (Retract_heap k less) hs ks r some goes x = retracts_evolve k less x.0 hs ks x.2
-evolve (On_heap k c) hs ks r some goes x = on_evolve k c hs ks x.0 x.1 x.3 (subst (λ o. IfSome o (GoesByTheStep c)) x.3.heap goes)
+evolve (On_heap k c) hs ks r some goes x = on_evolve k c hs ks x.0 x.1 x.3 some (subst (λ o. IfSome o (GoesByTheStep c)) x.3.heap goes)
 
 -- ---- so each is a step, and each heap goes on
 to_step : (made : ℕ) (o p : Option Guard) → Evolves made o p → ContinuesIn made o p
@@ -466,11 +466,11 @@ same_goes : (o : Option Guard) → GoesOn o o
 same_goes None = tt
 same_goes (Some g) = ([], refl)
 
-on_goes : (k : ℕ) (c : tickets.Call) (hs ks : Heaps) (a : tickets.Answer) (ms : List Move) → TakesOn k c hs ks a ms → (j : ℕ) → GoesOn (heap_at j hs) (heap_at j ks)
-on_goes k c hs ks a ms x j =
+on_goes : (k : ℕ) (c : tickets.Call) (hs ks : Heaps) (a : tickets.Answer) (ms : List Move) → IsAdmitted c → TakesOn k c hs ks a ms → (j : ℕ) → GoesOn (heap_at j hs) (heap_at j ks)
+on_goes k c hs ks a ms some x j =
     let there : k < length hs.slots = slot_there hs.slots k (ap is_some x.heap) in
     subst (λ s. GoesOn (heap_at j hs) (slot j s)) (sym (ap (λ (h : Heaps). h.slots) x.heaps)) (elim (cases_eq j k) [
-      | inl e ↦ rw (e, slot_same hs.slots k (Some x.after) there) (subst (λ o. GoesOn o (Some x.after)) (sym x.heap) (Called c a ms ∷ [], (x.after, x.by, refl)))
+      | inl e ↦ rw (e, slot_same hs.slots k (Some x.after) there) (subst (λ o. GoesOn o (Some x.after)) (sym x.heap) (Called c a ms ∷ [], (x.after, (some, x.by), refl)))
       | inr d ↦ rw (slot_other hs.slots k j (Some x.after) d) (same_goes (heap_at j hs))
     ])
 
@@ -496,7 +496,7 @@ other_steps (Retract_heap k less) hs = inr tt
 
 pub call_goes : (c : Call) (hs ks : Heaps) (r : Reply) → IsValid c → Takes c hs ks r → (k : ℕ) → GoesOn (heap_at k hs) (heap_at k ks)
 call_goes c hs ks r some x j = elim (other_steps c hs) [
-  | inl o ↦ let y : Takes (On_heap o.0 o.1) hs ks r = subst (λ (d : Call). Takes d hs ks r) o.2 x in on_goes o.0 o.1 hs ks y.0 y.1 y.3 j
+  | inl o ↦ let y : Takes (On_heap o.0 o.1) hs ks r = subst (λ (d : Call). Takes d hs ks r) o.2 x in on_goes o.0 o.1 hs ks y.0 y.1 (subst IsValid o.2 some) y.3 j
   | inr goes ↦ to_go hs.made (heap_at j hs) (heap_at j ks) ((evolve c hs ks r some goes x).heaps j)
 ]
 
@@ -508,7 +508,7 @@ does_append (e ∷ es) more f g h a d = (a.0, a.1, does_append es more a.0 g h a
 stays_space : (o p : Option Guard) → IfSome o IsSpace → GoesOn o p → IfSome p IsSpace
 stays_space o None s c = tt
 stays_space None (Some h) s c = c
-stays_space (Some g) (Some h) s c = record { fresh = s.fresh; size = s.size; limit = s.limit; number = s.number; new = s.new; events = s.events ++ c.0; done = does_append s.events c.0 s.fresh g h s.done c.1 }
+stays_space (Some g) (Some h) s c = record { fresh = s.fresh; size = s.size; limit = s.limit; realm = s.realm; new = s.new; events = s.events ++ c.0; done = does_append s.events c.0 s.fresh g h s.done c.1 }
 
 pub spaces_stay : (cs : List Call) (rs : List Reply) (hs ks : Heaps) → AllByRecursion IsValid cs → ((k : ℕ) → IfSome (heap_at k hs) IsSpace) → TakesAll hs cs rs ks → (k : ℕ) → IfSome (heap_at k ks) IsSpace
 spaces_stay [] [] hs ks valid s x k = subst (λ (h : Heaps). IfSome (heap_at k h) IsSpace) (sym x) (s k)

@@ -27,14 +27,6 @@ below_top height (suc fuel) k cells t f some small = elim (cases_eq k 1) [
       ]
 ]
 
-pub started : (height q key : ℕ) (cells : List ℕ) → IsTree height cells → 2 ^ height ≤ q → IsTreeBut q height (slice_set cells q key)
-started height q key cells t above = record {
-  wide = length-set cells q key ∙ t.wide;
-  low = t.low;
-  over = λ k some small l r.
-      rw (cell_other cells q k key (λ e. omega arith), cell_other cells q (2 * k) key l, cell_other cells q (2 * k + 1) key r) (t.over k some small);
-}
-
 pub raised : (height place p v : ℕ) (cells : List ℕ) → IsTreeBut place height cells → p ≡ place / 2 → 1 ≤ p → p < 2 ^ height
     → v ≡ max (cell (2 * p) cells) (cell (2 * p + 1) cells) → IsTreeBut p height (slice_set cells p v)
 raised height place p v cells t half some small is = record {

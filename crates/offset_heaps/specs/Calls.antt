@@ -143,7 +143,7 @@ pub data Call : Type 0 where
   Compact_all : Call
   -- room for a request, by its size and alignment, in the heap of a number
   Make_room : ℕ → ℕ → ℕ → Call
-  -- so many units fewer, down to the units of its kind
+  -- so many units fewer for the heap of a number, down to the units of its kind, by `retract` of `HeapMut`
   Retract_heap : ℕ → ℕ → Call
   -- a call of tickets on the heap of a number
   On_heap : ℕ → tickets.Call → Call

@@ -1,16 +1,30 @@
 -- Each heap is a space with tickets: calls of tickets, one after another, make it of a fresh one.
 use Rattle.std.specs.Prelude.{◌≡◌, ℕ, ◌≤◌, List, [], ◌∷◌, Option, Some, None, IfSome}
 use Rattle.offset_guarded.specs.Answers as tickets
-use Rattle.offset_guarded.specs.Calls.{Event, Happens}
-use Rattle.offset_guarded.specs.Calls.Event.{Called}
-use Rattle.offset_guarded.specs.Guard.{Guard}
-use Rattle.offset_heaps.specs.Calls.{Call, Allocate, Allocate_tight, Relocate_aligned, On_heap}
+use Rattle.offset_guarded.specs.Answers.Call.{Allocate_aligned, Allocate_tight_aligned, Raise_step, Compact_by, Compact_within_by, Make_room_by}
+use Rattle.offset_guarded.specs.Calls.{Event}
+use Rattle.offset_guarded.specs.Calls.Event.{Called, Raised}
+use Rattle.offset_guarded.specs.Guard.{Guard, IsRaised}
+use Rattle.offset_heaps.specs.Calls.{Call, Allocate, Allocate_tight, Relocate_aligned, Make_room, On_heap}
 use Rattle.offset_heaps.specs.Heaps.{Heaps, IsNew, heap_at}
+
+-- the alignment and the step of a call of tickets, where it has them, are at least 1, as its contract requires
+abbrev pub IsAdmitted : tickets.Call → Type 0
+IsAdmitted (Allocate_aligned n align) = 1 ≤ align
+IsAdmitted (Allocate_tight_aligned n align) = 1 ≤ align
+IsAdmitted (tickets.Call.Relocate_aligned t align) = 1 ≤ align
+IsAdmitted (Raise_step align) = 1 ≤ align
+IsAdmitted (Compact_by s) = 1 ≤ s
+IsAdmitted (Compact_within_by s from units ranges) = 1 ≤ s
+IsAdmitted (tickets.Call.Make_room n align) = 1 ≤ align
+IsAdmitted (Make_room_by n align s) = (1 ≤ align) × (1 ≤ s)
+IsAdmitted c = Unit {0}
 
 -- a call of tickets is answered, also one that does not go by the step; or the node limit is raised
 abbrev pub Does : Event → Guard → Guard → Type 0
-Does (Called c a ms) g h = tickets.Answers c g h a ms
-Does e g h = Happens e g h
+Does (Called c a ms) g h = IsAdmitted c × tickets.Answers c g h a ms
+Does (Raised limit) g h = (g.space.max_allocs ≤ limit) × IsRaised limit g h
+Does e g h = ⊥
 
 -- one after another
 abbrev pub DoesAll : Guard → List Event → Guard → Type 0
@@ -22,22 +36,25 @@ pub record IsSpace (h : Guard) : Type 0 where
   pub fresh : Guard
   pub size : ℕ
   pub limit : ℕ
-  pub number : ℕ
-  pub new : IsNew size limit number fresh
+  pub realm : ℕ
+  pub new : IsNew size limit realm fresh
   pub events : List Event
   pub done : DoesAll fresh events h
 
--- what a number has after a call: no heap; the one that it had, after what was done in it; or, where it had none, a new one
+-- what a number has after a call: no heap; the one that it had, after what was done in it; or, where it had none, a new one.
+-- Which calls are done, and when a heap is dropped, is in the contract of each call
 abbrev pub GoesOn : Option Guard → Option Guard → Type 0
 GoesOn old None = Unit {0}
 GoesOn None (Some h) = IsSpace h
 GoesOn (Some g) (Some h) = (es : List Event) × DoesAll g es h
 
--- the alignment that a call has is at least 1
+-- the alignment and the step of a call, where it has them, are at least 1, as its contract requires
 abbrev pub IsValid : Call → Type 0
 IsValid (Allocate size align) = 1 ≤ align
 IsValid (Allocate_tight size align) = 1 ≤ align
 IsValid (Relocate_aligned p align) = 1 ≤ align
+IsValid (Make_room k size align) = 1 ≤ align
+IsValid (On_heap k c) = IsAdmitted c
 IsValid c = Unit {0}
 
 -- a call on one heap goes by the step of that heap; all others do

@@ -1,12 +1,12 @@
 //! Ranges that slide to the front of their heap by its step, all or to make room, by the calls of tickets. It changes one
 //! slot, or all, and notes it in the index.
 ghost use Rattle.std.specs.Prelude.{ℕ, ◌≡◌, ◌↔◌, ◌+◌, ◌*◌, ◌^◌, ◌<◌, ◌≤◌, None, IsSome, IsTrue, false};
-ghost use Rattle.std.specs.Prelude.{Some, length};
+ghost use Rattle.std.specs.Prelude.{length};
 ghost use Rattle.std.specs.List.{FoldsTo};
 ghost use Rattle.offset_allocator.specs.Moving.Compacting.{IsCalledWith};
 ghost use Rattle.offset_guarded.specs.Answers as tickets;
-ghost use Rattle.offset_heaps.specs.Changing.{Alters, CompactsAll, CompactsIn, CompactsSlot, IsCalledAt, IsCompactible};
-ghost use Rattle.offset_heaps.specs.Changing.{KeepsSizes, can_compact, moves_from, moves_in, numbered};
+ghost use Rattle.offset_heaps.specs.Changing.{Alters, CompactsAll, CompactsSlot, IsCalledAt, IsCompactible};
+ghost use Rattle.offset_heaps.specs.Changing.{KeepsSizes, moves_from};
 ghost use Rattle.offset_heaps.specs.Heaps.{slot};
 ghost use Rattle.offset_heaps.specs.Soundness.{IsNoted, IsWide};
 ghost use Rattle.offset_heaps.specs.Twins.{AreTwins};
@@ -85,7 +85,8 @@ impl<T: Tables> HeapsOf<T> {
             × (result ≡ false) }
         // Where it is not done, every later call returns the same as if this one had not been made.
         ensures refused { result ≡ false → AreTwins self.old self.new }
-        // The step of its heap, with the moves. All other heaps are as they were.
+        // It is done exactly where the number has a heap that has a step, and whose space does it. The step of its heap, with
+        // the moves. All other heaps are as they were.
         ensures step { IsSome (heap_at number self.old) → Alters number
             (λ g h. tickets.Compacts (IsCalledWith T.Index.NonMax.number (λ f range g. F.step f range tt g))
             moved.old g h moved.new result) self.old self.new }

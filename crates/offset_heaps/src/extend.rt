@@ -1,9 +1,8 @@
 //! Heaps whose space becomes larger in place. It changes one slot, and notes it in the index.
-ghost use Rattle.std.specs.Prelude.{◌≡◌, ◌↔◌, ◌+◌, ◌<◌, None, Ok, Some, IfOk, IfSome, IsErr, IsSome, IsTrue, OnErr};
+ghost use Rattle.std.specs.Prelude.{◌≡◌, ◌↔◌, ◌+◌, ◌<◌, None, Ok, IfOk, IsErr, IsSome, IsTrue, OnErr};
 ghost use Rattle.std.specs.Prelude.{false, option_map, true};
-ghost use Rattle.offset_heaps.specs.Changing.{AltersIn};
-ghost use Rattle.offset_heaps.specs.Extending.{CanExtendIn, EndsFree, ExtendsHeap, ExtendsIf, MustExtend, MustExtendIn};
-ghost use Rattle.offset_heaps.specs.Heaps.{IsOfKind, IsRaisedWhere, units_of_heap};
+ghost use Rattle.offset_heaps.specs.Extending.{CanExtendIn, ExtendsHeap, MustExtendIn};
+ghost use Rattle.offset_heaps.specs.Heaps.{units_of_heap};
 ghost use Rattle.offset_heaps.specs.Twins.{AreTwins};
 
 use crate::HeapsOf;

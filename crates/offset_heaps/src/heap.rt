@@ -1,5 +1,5 @@
-//! What is asked of one heap, and done in it, under the limits of its number. It touches no slot and no row of the
-//! index.
+//! What is asked of one heap, and done in it or in its slot, under the limits of its number. It finds no slot by a number
+//! and counts none, and touches no row of the index.
 ghost use Rattle.std.specs.Prelude.{IfOk, IfSome, IsErr, IsSome, IsTrue, None, Ok, Some, false, length, max};
 ghost use Rattle.std.specs.Prelude.{option_copied, true, ◌*◌, ◌+◌, ◌-◌, ◌<◌, ◌↔◌, ◌≡◌, ◌≤◌, ◌⊎◌};
 ghost use Rattle.std.specs.Int.{IsGcd};
@@ -420,8 +420,8 @@ fn compact_numbered<NI: NodeIndex, T: Tables<Index = NI>, F: FnMut(u32, Move<NI>
     compact_one(heap, &mut |range: Move<NI>| moved(number, range))
 }
 
-/// Slides live ranges of a heap to the front of its space by its step, where there is one, and returns whether it was done. It
-/// calls the closure with the number of the heap too.
+/// Slides live ranges of a heap to the front of its space by its step, where there is one, and returns whether it was done,
+/// `true` where there is no heap. It calls the closure with the number of the heap too.
 pub(crate) fn compact_numbered_in<T: Tables, F: FnMut(u32, Move<T::Index>)>(
     slot: &mut Option<GuardedOf<T>>,
     number: u32,

@@ -1,10 +1,8 @@
 //! Which heaps have room, which are empty, and which numbers have no heap. It touches its own rows alone, and
 //! reads one slot.
-ghost use Rattle.std.specs.Prelude.{ℕ, ◌≡◌, ◌↔◌, ◌+◌, ◌-◌, ◌*◌, ◌^◌, ◌<◌, ◌≤◌, IfOk, IsTrue, length, max};
+ghost use Rattle.std.specs.Prelude.{ℕ, ◌≡◌, ◌+◌, ◌-◌, ◌*◌, ◌^◌, ◌<◌, ◌≤◌, IfOk, length, max};
 ghost use Rattle.std.specs.Prelude.{option_copied, replicate};
 ghost use Rattle.offset_allocator.specs.Accesses.{Costs};
-ghost use Rattle.offset_guarded.specs.Guard.{HasSerialLeft};
-ghost use Rattle.offset_heaps.specs.Heaps.{is_empty, room_of, top_limit};
 ghost use Rattle.offset_heaps.specs.Soundness.{spare_of};
 ghost use Rattle.offset_heaps.specs.Maxima.{IsFirst};
 

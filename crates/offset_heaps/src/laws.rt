@@ -10,8 +10,8 @@ ghost use Rattle.offset_allocator.specs.Reporting.Reports.{IsReport};
 ghost use Rattle.offset_allocator.specs.Requests.{AdmitsBlocks, CanGrant, blocks_needed, units_needed};
 ghost use Rattle.offset_allocator.specs.declared.reports.StorageReport.{StorageReport};
 ghost use Rattle.offset_allocator.specs.Moving.Compacting.{Move};
-ghost use Rattle.offset_guarded.specs.Answers as answers;
-ghost use Rattle.offset_guarded.specs.Calls as tickets;
+ghost use Rattle.offset_guarded.specs.Answers as tickets;
+ghost use Rattle.offset_guarded.specs.Calls.{Event, Happens};
 ghost use Rattle.offset_guarded.specs.Guard.{Guard, HasSerialLeft, IsRaised, Ticket};
 ghost use Rattle.offset_heaps.specs.Heaps.{Heaps, room, AreAlike, AreTotals, heap_at, numbers, range_of, top_limit};
 ghost use Rattle.offset_heaps.specs.Heaps.{Grants, IsFirstFit, IsLive, IsNext, IsRaisedAsNeeded, IsUsual, IsWhy};
@@ -190,12 +190,12 @@ pub fn alignments_are_kept()
         → GrantsTight size align hs ks grant → a ∣ align → a ∣ grant.offset → AreSteps ks later
         → AllByRecursion (BeginsAt a grant.place) (ks ∷ later) }
     // A call of tickets on the heap of a number leaves a step, and the ranges that it grants keep alignments too.
-    ensures on_heap { (k : ℕ) (e : tickets.Event) (hs ks : Heaps) → Alters k (tickets.Happens e) hs ks
+    ensures on_heap { (k : ℕ) (e : Event) (hs ks : Heaps) → Alters k (Happens e) hs ks
         → IsStep hs ks }
-    ensures answered_on_heap { (k : ℕ) (c : answers.Call) (a : answers.Answer) (ms : List Move) (hs ks : Heaps)
-        → TakesOn k c hs ks a ms → ((g : Guard) → heap_at k hs ≡ Some g → answers.GoesByTheStep c g) → IsStep hs ks }
+    ensures answered_on_heap { (k : ℕ) (c : tickets.Call) (a : tickets.Answer) (ms : List Move) (hs ks : Heaps)
+        → TakesOn k c hs ks a ms → ((g : Guard) → heap_at k hs ≡ Some g → tickets.GoesByTheStep c g) → IsStep hs ks }
     ensures lasts_on_heap { (k n align a : ℕ) (t : Ticket) (hs ks : Heaps) (later : List Heaps) → IsWellFormed hs
-        → Alters k (λ g h. answers.Requests n g h (Some t) × answers.Aligns align g h (Some t)) hs ks → a ∣ align
+        → Alters k (λ g h. tickets.Requests n g h (Some t) × tickets.Aligns align g h (Some t)) hs ks → a ∣ align
         → AreSteps ks later → AllByRecursion (BeginsAt a (place_of k hs.realm t)) (ks ∷ later) }
     ensures relocated { (p : Place) (align a : ℕ) → (hs : Heaps) → IsOwnAlign p hs align → a ∣ step_at p.heap hs
         → a ∣ offset_of p hs → a ∣ align }
@@ -292,31 +292,31 @@ pub fn a_state_decides_each_step()
     ensures reset { (hs hs' ks ks' : Heaps) → IsWellFormed hs → AreTwins hs hs' → ResetsAll hs ks
         → ResetsAll hs' ks' → AreTwins ks ks' }
     ensures shrink { (p : Place) (n : ℕ) (hs hs' ks ks' : Heaps) → IsWellFormed hs → AreTwins hs hs' → (r r' : Option Bool)
-        → TakesAt p (answers.Call.Shrink (ticket_of p) n) hs ks r → TakesAt p (answers.Call.Shrink (ticket_of p) n) hs' ks' r'
+        → TakesAt p (tickets.Call.Shrink (ticket_of p) n) hs ks r → TakesAt p (tickets.Call.Shrink (ticket_of p) n) hs' ks' r'
         → (r ≡ r') × AreTwins ks ks' }
     ensures grow_in_place { (p : Place) (n : ℕ) (hs hs' ks ks' : Heaps) → IsWellFormed hs → AreTwins hs hs'
-        → (r r' : Option Bool) → TakesAt p (answers.Call.Grow_in_place (ticket_of p) n) hs ks r
-        → TakesAt p (answers.Call.Grow_in_place (ticket_of p) n) hs' ks' r' → (r ≡ r') × AreTwins ks ks' }
+        → (r r' : Option Bool) → TakesAt p (tickets.Call.Grow_in_place (ticket_of p) n) hs ks r
+        → TakesAt p (tickets.Call.Grow_in_place (ticket_of p) n) hs' ks' r' → (r ≡ r') × AreTwins ks ks' }
     ensures extend_heap { (k more : ℕ) (hs hs' ks ks' : Heaps) → IsWellFormed hs → AreTwins hs hs'
         → (r r' : Result Bool AllocError) → ExtendsOne k more hs ks r → ExtendsOne k more hs' ks' r'
         → ((e : AllocError) → r ≡ Err e → ⊥) → ((e : AllocError) → r' ≡ Err e → ⊥)
         → (r ≡ r') × AreTwins ks ks' }
     ensures compact_heap { (k : ℕ) (hs hs' ks ks' : Heaps) → AreTwins hs hs' → (r r' : Bool)
-        → TakesWhere k answers.Call.Compact (answers.Answer.Was_done false) hs ks (answers.Answer.Was_done r)
-        → TakesWhere k answers.Call.Compact (answers.Answer.Was_done false) hs' ks' (answers.Answer.Was_done r')
+        → TakesWhere k tickets.Call.Compact (tickets.Answer.Was_done false) hs ks (tickets.Answer.Was_done r)
+        → TakesWhere k tickets.Call.Compact (tickets.Answer.Was_done false) hs' ks' (tickets.Answer.Was_done r')
         → (r ≡ r') × AreTwins ks ks' }
     ensures compact { (hs hs' ks ks' : Heaps) → AreTwins hs hs' → (r r' : Bool)
         → CompactsEach hs ks r → CompactsEach hs' ks' r' → (r ≡ r') × AreTwins ks ks' }
     ensures make_room { (k size align : ℕ) (hs hs' ks ks' : Heaps) → IsWellFormed hs → AreTwins hs hs' → (r r' : Option RoomCost)
-        → TakesWhere k (answers.Call.Make_room size align) (answers.Answer.Room_made None) hs ks (answers.Answer.Room_made r)
-        → TakesWhere k (answers.Call.Make_room size align) (answers.Answer.Room_made None) hs' ks'
-        (answers.Answer.Room_made r') → (r ≡ r') × AreTwins ks ks' }
+        → TakesWhere k (tickets.Call.Make_room size align) (tickets.Answer.Room_made None) hs ks (tickets.Answer.Room_made r)
+        → TakesWhere k (tickets.Call.Make_room size align) (tickets.Answer.Room_made None) hs' ks'
+        (tickets.Answer.Room_made r') → (r ≡ r') × AreTwins ks ks' }
     ensures retract { (k less : ℕ) (hs hs' ks ks' : Heaps) → IsWellFormed hs → AreTwins hs hs' → (r r' : Bool)
         → Alters k (RetractsTo hs.limits k less r) hs ks → Alters k (RetractsTo hs'.limits k less r') hs' ks'
         → (r ≡ r') × AreTwins ks ks' }
     // a call of tickets on the heap of a number, and its moves
-    ensures on_heap { (k : ℕ) (c : answers.Call) (hs hs' ks ks' : Heaps) → IsWellFormed hs → AreTwins hs hs'
-        → (a a' : answers.Answer) (ms ms' : List Move) → TakesOn k c hs ks a ms → TakesOn k c hs' ks' a' ms'
+    ensures on_heap { (k : ℕ) (c : tickets.Call) (hs hs' ks ks' : Heaps) → IsWellFormed hs → AreTwins hs hs'
+        → (a a' : tickets.Answer) (ms ms' : List Move) → TakesOn k c hs ks a ms → TakesOn k c hs' ks' a' ms'
         → (a ≡ a') × (ms ≡ ms') × AreTwins ks ks' }
     ensures range { (hs hs' : Heaps) (p : Place) → AreTwins hs hs' → range_of p hs' ≡ range_of p hs }
     ensures emptiest { (hs hs' : Heaps) → AreTwins hs hs' → (r r' : Option ℕ)
@@ -333,8 +333,10 @@ pub fn a_state_decides_each_step()
 
 /// Each heap is a space with tickets. Whatever call of heaps is made, each number has the heap that it had, after some calls of
 /// tickets, or none; or, where it had none, a new one: a fresh space, after some calls of tickets. So after any list of calls
-/// each heap is what a list of calls of tickets makes of a fresh space, and what is proved of every such list holds of it.
-/// Beside calls of tickets a node limit may be raised, as `GuardedOf::raised` does.
+/// of which none is refused for want of memory, each heap is what a list of calls of tickets makes of a fresh space. Beside
+/// calls of tickets a node limit may be raised, as `GuardedOf::raised` does.
+///
+/// It says that there are such calls, not which: that is in the contract of each call, with when a heap is dropped.
 pub fn each_heap_is_a_space()
     ensures call { (c : Call) (hs ks : Heaps) (r : Reply) → IsValid c → Takes c hs ks r
         → (k : ℕ) → GoesOn (heap_at k hs) (heap_at k ks) }

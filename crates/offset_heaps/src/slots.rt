@@ -1,24 +1,23 @@
-//! The heaps by their numbers: no other module reads or writes them. Each function counts the slots that it
-//! touches.
+//! The heaps by their numbers: no other module finds one. Each function counts the slots that it touches or lends.
 ghost use Rattle.std.specs.Prelude.{◌≡◌, ◌↔◌, ◌+◌, ◌<◌, ◌≤◌, IsTrue, IsSome, None, Some, false, length};
 ghost use Rattle.std.specs.Prelude.{IfOk, IfSome, IsErr, MatchOption, is_some, option_copied, replicate};
-ghost use Rattle.std.specs.Prelude.{ℕ, ◌⊎◌, max, slice_set, true};
+ghost use Rattle.std.specs.Prelude.{ℕ, max, slice_set, true};
 ghost use Rattle.std.specs.Borrow.{sem};
 ghost use Rattle.std.specs.Int.{IsGcd};
 ghost use Rattle.std.specs.List.{FoldsTo};
 ghost use Rattle.std.specs.Option.Follows.{option_follows_value};
 ghost use Rattle.offset_allocator.specs.Requests.{blocks_needed, units_needed};
 ghost use Rattle.offset_allocator.specs.View.{IsWellFormed};
-ghost use Rattle.offset_guarded.specs.Guard.{Guard, IsLive, IsRaised, range_of};
+ghost use Rattle.offset_guarded.specs.Guard.{Guard};
 ghost use Rattle.offset_heaps.specs.Changing.{AltersIn, CompactsSlot, IsCalledAt, IsCompactible, moves_in, numbered};
 ghost use Rattle.offset_heaps.specs.Extending.{CanExtendIn, ExtendsIf, MustExtendIn};
-ghost use Rattle.offset_heaps.specs.Heaps.{IsOfKind, IsRaisedAsNeeded, MustRaise, MustRaiseIn, is_empty};
-ghost use Rattle.offset_heaps.specs.Heaps.{live_units_of, part, raised_limit, step_of};
+ghost use Rattle.offset_heaps.specs.Heaps.{IsOfKind, MustRaiseIn, is_empty};
+ghost use Rattle.offset_heaps.specs.Heaps.{live_units_of, part, step_of};
 ghost use Rattle.offset_heaps.specs.Heaps.{range_in, room, room_of, slot};
 ghost use Rattle.offset_heaps.specs.Numbering.{IsHeapFrom, NoHeapFrom};
 ghost use Rattle.offset_heaps.specs.Relocating.{HasLive, IsEmptiest, NoneLive, TakesUnits, offset_in, units_in};
 ghost use Rattle.offset_heaps.specs.Slots.{CanHoldIn, CanHoldNow, Changes, GrantsTightAlignedIn, FreesSlot, KeepsOthersIn};
-ghost use Rattle.offset_heaps.specs.Slots.{GrantsIn, GrantsTightIn, HasRoomNow, IsEmptier, RaisesIn, ResetsIn};
+ghost use Rattle.offset_heaps.specs.Slots.{GrantsIn, HasRoomNow, IsEmptier, RaisesIn, ResetsIn};
 
 use crate::heap::{
     alignment_in, compact_numbered_in, extend_in, free_in, grant_in, grant_tight_aligned_in, holds,
@@ -306,7 +305,7 @@ impl<T: Tables> Slots<T> {
     }
 
     /// Slides live ranges of the heap of a number to the front of its space by its step, where there is one, and returns
-    /// whether it was done, as where there is none. It calls the closure with the number too.
+    /// whether it was done, `true` where there is no heap. It calls the closure with the number too.
     pub(crate) fn compact_numbered<F: FnMut(u32, Move<T::Index>)>(
         &mut self,
         number: u32,
@@ -382,7 +381,7 @@ impl<T: Tables> Slots<T> {
         }
     }
 
-    /// The same of the heap of a number.
+    /// The alignment that the range of a ticket has in the heap of a number, as `alignment_in` says.
     pub(crate) fn alignment_at(
         &self,
         number: u32,

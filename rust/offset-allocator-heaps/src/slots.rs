@@ -1,7 +1,6 @@
 // Printed by rust/erase from crates/offset_heaps/src/slots.rt: change it there.
 
-//! The heaps by their numbers: no other module reads or writes them. Each function counts the slots that it
-//! touches.
+//! The heaps by their numbers: no other module finds one. Each function counts the slots that it touches or lends.
 
 use crate::heap::{
     alignment_in, compact_numbered_in, extend_in, free_in, grant_in, grant_tight_aligned_in, holds,
@@ -186,7 +185,7 @@ impl<T: Tables> Slots<T> {
     }
 
     /// Slides live ranges of the heap of a number to the front of its space by its step, where there is one, and returns
-    /// whether it was done, as where there is none. It calls the closure with the number too.
+    /// whether it was done, `true` where there is no heap. It calls the closure with the number too.
     pub(crate) fn compact_numbered<F: FnMut(u32, Move<T::Index>)>(
         &mut self,
         number: u32,
@@ -235,7 +234,7 @@ impl<T: Tables> Slots<T> {
         }
     }
 
-    /// The same of the heap of a number.
+    /// The alignment that the range of a ticket has in the heap of a number, as `alignment_in` says.
     pub(crate) fn alignment_at(
         &self,
         number: u32,
