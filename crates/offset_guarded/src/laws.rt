@@ -62,8 +62,8 @@ pub fn alignments_are_kept()
         → Aligns align g h (Some t) → AllHappen h es i → (r : Range) → range_of t i ≡ Some r → align ∣ r.offset }
 {}
 
-/// Whatever its closure does, each call that moves ranges has the list of its moves: so by its contract it is a call with its
-/// answer, as lists have it, and the laws hold of it. The other calls have no closure: a contract of one is its answer in a list.
+/// Each call that moves ranges reports a list of moves, whatever its closure does with them: so its contract gives `Answers`, and
+/// the laws hold of the call. Of a call without a closure the contract is `Answers` as it stands.
 pub fn moves_are_listed<T: Tables, F: FnMut(offset_allocator::Move<T::Index>)>()
     ensures compact { (f f' : F) (g h : Guard) (r : Bool)
         → Compacts (IsCalledWith T.Index.NonMax.number (λ f range g. F.step f range tt g))

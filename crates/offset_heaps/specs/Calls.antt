@@ -134,16 +134,16 @@ pub data Call : Type 0 where
   Drop_heap : ℕ → Call
   Give_up : ℕ → Call
   Reset : Call
-  -- the range of a place gets so many units
+  -- the range of a place becomes smaller, or larger, in place: it has n units afterwards
   Shrink : Place → ℕ → Call
   Grow_in_place : Place → ℕ → Call
-  -- so many units more for the heap of a number
+  -- the heap of a number is extended by n units
   Extend_heap : ℕ → ℕ → Call
   Compact_heap : ℕ → Call
   Compact_all : Call
   -- room for a request, by its size and alignment, in the heap of a number
   Make_room : ℕ → ℕ → ℕ → Call
-  -- so many units fewer for the heap of a number, down to the units of its kind, by `retract` of `HeapMut`
+  -- the heap of a number is retracted by n units, but not below the least units of its kind: `retract` of `HeapMut`
   Retract_heap : ℕ → ℕ → Call
   -- a call of tickets on the heap of a number
   On_heap : ℕ → tickets.Call → Call
@@ -183,11 +183,11 @@ Takes (Make_room k size align) hs ks reply = (r : Option RoomCost) × (reply ≡
 Takes (Retract_heap k less) hs ks reply = (r : Bool) × (reply ≡ Was_done r) × Alters k (RetractsTo hs.limits k less r) hs ks
 Takes (On_heap k c) hs ks reply = (a : tickets.Answer) × (ms : List Move) × (reply ≡ Answered a ms) × TakesOn k c hs ks a ms
 
--- a request, or more units for a heap, were refused for want of memory
+-- a request, or an extension of a heap, returned out of memory
 abbrev pub IsStarved : Reply → Type 0
 IsStarved reply = (reply ≡ Requested (Err Memory)) ⊎ ((e : AllocError) × (reply ≡ Extended (Err e)))
 
--- calls are taken, one after another, none of which is refused for want of memory
+-- calls are taken, one after another, none of which returns out of memory
 abbrev pub TakesAll : Heaps → List Call → List Reply → Heaps → Type 0
 TakesAll hs [] [] ks = ks ≡ hs
 TakesAll hs (c ∷ cs) (r ∷ rs) ks = (now : Heaps) × Takes c hs now r × (IsStarved r → ⊥) × IsWellFormed now × TakesAll now cs rs ks

@@ -333,8 +333,8 @@ pub fn a_state_decides_each_step()
 
 /// Each heap is a space with tickets. Whatever call of heaps is made, each number has the heap that it had, after some calls of
 /// tickets, or none; or, where it had none, a new one: a fresh space, after some calls of tickets. So after any list of calls
-/// of which none is refused for want of memory, each heap is what a list of calls of tickets makes of a fresh space. Beside
-/// calls of tickets a node limit may be raised, as `GuardedOf::raised` does.
+/// none of which returns out of memory, each heap is what a list of calls of tickets makes of a fresh space. Between these a
+/// node limit may be raised, as `GuardedOf::raised` does.
 ///
 /// It says that there are such calls, not which: that is in the contract of each call, with when a heap is dropped.
 pub fn each_heap_is_a_space()

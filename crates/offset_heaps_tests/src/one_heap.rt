@@ -1,6 +1,7 @@
-//! Each call on one heap of many is a call of tickets, or a call of its own, as the laws speak of it: so in the same state it has
-//! the same answer and the same moves. Where it goes by the step of the heap, or moves nothing, it is a step of a history too: so
-//! every alignment is kept, and no place of a heap that is gone is live after it. Nothing calls these functions: they are proved.
+//! Each call of `HeapMut` is a call of tickets in the laws, except `retract`, which is a call of heaps: so in the same state it
+//! returns the same and reports the same moves. Where it goes by the step of the heap, or moves nothing, it is a step of a
+//! history too: so every alignment is kept, and no place of a heap that is gone is live after it. Nothing calls these functions:
+//! they are proved.
 
 ghost use Rattle.std.specs.Prelude.{◌≤◌, [], List};
 ghost use Rattle.offset_allocator.specs.Moving.Compacting.{Move};
@@ -136,7 +137,7 @@ pub fn extend(heap: &mut HeapMut<'_, ByNode<u32>>, more: u32) -> bool
     heap.extend(more)
 }
 
-/// Fewer units: a call of lists of its own, since a heap keeps the units of its kind.
+/// Fewer units: a call of heaps, since the heap keeps the least units of its kind.
 pub fn retract(heap: &mut HeapMut<'_, ByNode<u32>>, less: u32) -> bool
     ensures call { Takes (Retract_heap heap.old.number less) heap.old.heaps.now heap.new.heaps.now (Was_done result) }
     ensures step { IsStep heap.old.heaps.now heap.new.heaps.now }
