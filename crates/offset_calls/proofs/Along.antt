@@ -9,7 +9,8 @@ use Rattle.std.proofs.lemmas.List.Elements.{All-append, All-get_or, Contains-app
 use Rattle.offset_allocator.specs.View.{place_of}
 use Rattle.offset_allocator.proofs.Reading.{live_used}
 use Rattle.offset_guarded.proofs.Guards.{live_fits, live_name as live_named}
-use Rattle.offset_script.proofs.{Agreement.IsAtState, Simulation.fresh_represents, Well.well_start}
+use Rattle.offset_script.specs.Agreement.{IsAtState}
+use Rattle.offset_script.proofs.{Simulation.fresh_represents, Well.well_start}
 use Rattle.offset_calls.specs.Playing.{IsAppended}
 use Rattle.offset_calls.specs.declared.guarded.TicketCall.{TicketCall}
 use Rattle.offset_calls.proofs.Tickets.{alike, alike_range, kept_of, kept_serial, kept_ticket, live_named_by}
@@ -35,7 +36,7 @@ is_used_after b None = refl
 is_used_after b (Some p) = refl
 
 -- a live name is kept for some number
-live_kept : (hs : List (Option Handle)) (x : ℕ) (bs : List Block) → AllByRecursion (λ (b : Block). b.used ≡ true → (k : ℕ) × (kept_name hs k ≡ Some b.name)) bs → is_used_at (place_of x bs) ≡ true
+pub live_kept : (hs : List (Option Handle)) (x : ℕ) (bs : List Block) → AllByRecursion (λ (b : Block). b.used ≡ true → (k : ℕ) × (kept_name hs k ≡ Some b.name)) bs → is_used_at (place_of x bs) ≡ true
     → (k : ℕ) × (kept_name hs k ≡ Some x)
 live_kept hs x [] a h = absurd (false≢true h)
 live_kept hs x (b ∷ bs) a h = search (arith, cases_eq, eq-eqb, ne_eqb, is_used_after, (live_kept hs x bs a.1))

@@ -6,7 +6,8 @@ use Rattle.std.specs.Prelude.{max, min}
 use Rattle.std.proofs.lemmas.Bool.{cond_both, not-false}
 use Rattle.offset_allocator.specs.{Classes.down, AtOffset.AllocatesAt, AtOffset.BeginAfter, AtOffset.CanGrantAt, AtOffset.GrantsAt, AtOffset.IsFreeAt}
 use Rattle.offset_allocator.specs.AtOffset as named
-use Rattle.offset_script.proofs.{Agreement.Label, Agreement.by_tag, Agreement.HasBlocksOf, Agreed.IsMatch, Agreed.agrees_but, Agreed.agrees_quiet, Agreed.has_room, Agreed.room_for}
+use Rattle.offset_script.specs.Agreement.{Label, by_tag, HasBlocksOf}
+use Rattle.offset_script.proofs.{Agreed.IsMatch, Agreed.agrees_but, Agreed.agrees_quiet, Agreed.has_room, Agreed.room_for}
 use Rattle.offset_script.proofs.{Chosen.Spot, Chosen.whole, Chosen.named_spot, Chosen.plain_spot, Chosen.named_place, Chosen.plain_place, Chosen.names_whole, Ends.total_units, Labels.names, Labels.tags}
 use Rattle.offset_script.proofs.{Lists.count, Well.IsOld, Well.IsWell, Well.free_part_is, Well.well_grant, Well.well_quiet}
 use Rattle.offset_script.proofs.Lists as lists

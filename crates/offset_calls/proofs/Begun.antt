@@ -4,7 +4,8 @@ use Rattle.offset_allocator.specs.{Moving.Relocating.WouldBegin, Classes.up, Cla
 use Rattle.offset_calls.proofs.Common.{◌≡◌, ℕ, zero, suc, ◌+◌, ◌-◌, ◌<◌, ◌≤◌, ◌&&◌, Bool, true, false, not, List, [], ◌∷◌, Option, Some, None, nat_lt, if◌then◌else◌, refl, sym}
 use Rattle.offset_calls.proofs.Common.{ap, ap₂, subst, subst₂, ◌∙◌, inl, inr, arith, cases_lt, lt-leb, le-leb, le-ltb, true≢false, map-append}
 use Rattle.offset_calls.proofs.Common.{View, Place, bin_at, units, blocks_needed, units_needed, IsWellFormed, AdmitsBlocks, State, is_free, total, chosen_place, is_short_of, fits, Reply, Answer, Offset}
-use Rattle.offset_script.proofs.{Agreed.has_room, Agreed.room_for, Agreement.HasBlocksOf, Agreement.by_tag, Labels.tags, Chosen.named_spot, Found.not_chosen, Members.IsIn, Members.in_right, Well.IsWell}
+use Rattle.offset_script.specs.Agreement.{HasBlocksOf, by_tag}
+use Rattle.offset_script.proofs.{Agreed.has_room, Agreed.room_for, Labels.tags, Chosen.named_spot, Found.not_chosen, Members.IsIn, Members.in_right, Well.IsWell}
 use Rattle.offset_script.specs.Machine as machine
 use Rattle.offset_calls.specs.{Calls.begin_of, Steps.IsBegin, Steps.begins_at}
 use Rattle.offset_calls.proofs.Relocated.{IsLeast, least, unused, fit_of, begins_there}
@@ -52,7 +53,7 @@ begin_counted n align v k b h = (h.0, λ o can begun. h.1 o can (begins_still (u
 
 module _ (v : View) (kept_name : ℕ → Option ℕ) (s : State) (w : IsWellFormed v) (ws : IsWell s) (g : HasBlocksOf v kept_name s) where
   -- where some bin is large enough, the machine chooses a block
-  some_chosen : (n : ℕ) → HasFit n v → chosen_place n s.blocks ≡ None → ⊥
+  pub some_chosen : (n : ℕ) → HasFit n v → chosen_place n s.blocks ≡ None → ⊥
   some_chosen n h e =
       let p = fitting n v w h in
       let r = named_spot g.labels p.0 (sym g.view ∙ p.1) in

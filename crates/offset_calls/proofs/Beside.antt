@@ -7,7 +7,8 @@ use Rattle.offset_allocator.specs.{View.place_of, Reporting.Listing.placed_at}
 use Rattle.offset_allocator.specs.Reporting.Walking.{first_handle, first_live, last_live, live_before, live_after}
 use Rattle.offset_allocator.proofs.Views.ViewPlaces.{place_at}
 use Rattle.offset_guarded.specs.Guard.{ticket_at}
-use Rattle.offset_script.proofs.{Agreement.Label, Agreement.by_name, Agreement.HasBlocksOf, Chosen.Spot, Chosen.named_place, Chosen.plain_place}
+use Rattle.offset_script.specs.Agreement.{Label, by_name, HasBlocksOf}
+use Rattle.offset_script.proofs.{Chosen.Spot, Chosen.named_place, Chosen.plain_place}
 use Rattle.offset_script.proofs.{Ends.total_units, Labels.names, Labels.tags, Members.IsIn, Members.in_left, Members.in_right, Well.IsWell}
 use Rattle.offset_calls.specs.declared.calls.LiveRange.{LiveRange}
 use Rattle.offset_calls.specs.{Calls.Found, Steps.AreNumbers, Steps.Finds, Steps.IsKeptSome, Steps.IsNumbered}

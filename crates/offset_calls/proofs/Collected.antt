@@ -139,7 +139,7 @@ given a f = f a
 -- ---- their numbers
 
 -- the ranges that move have handles that are kept
-slid_have : (c : Call) (v w : View) (o : Slid) (xs : List Move) (hs : List (Option Handle)) → IsSlid c v o w xs → AreKept v hs → MovesHave hs xs
+pub slid_have : (c : Call) (v w : View) (o : Slid) (xs : List Move) (hs : List (Option Handle)) → IsSlid c v o w xs → AreKept v hs → MovesHave hs xs
 slid_have call.Compact v w o xs hs t a = subst (MovesHave hs) (sym t.2) (moves_have hs 0 0 v.blocks a)
 slid_have (call.CompactBy n) v w o xs hs t a = subst (MovesHave hs) (sym t.3) (done_has hs n t.0 v.blocks a)
 slid_have (call.CompactWithin n from u k) v w o xs hs t a =
@@ -195,7 +195,7 @@ on_err (Ok a) p = tt
 on_err (Err e) p = p
 
 -- the step of a call that may slide ranges
-slide_step : (c : Call) (v w : View) (hs left : List (Option Handle)) (r : Reply) → IsTrue (slides c) → TakesSlide c v hs w r → left ≡ hs → Takes c v hs w left r
+pub slide_step : (c : Call) (v w : View) (hs left : List (Option Handle)) (r : Reply) → IsTrue (slides c) → TakesSlide c v hs w r → left ≡ hs → Takes c v hs w left r
 slide_step call.Compact v w hs left r s t e = (t, e)
 slide_step (call.CompactBy n) v w hs left r s t e = (t, e)
 slide_step (call.CompactWithin n from u k) v w hs left r s t e = (t, e)

@@ -5,7 +5,7 @@ use Rattle.offset_calls.proofs.Common.{Handle, one, count_named, bin_at, push_al
 use Rattle.offset_calls.proofs.Common.{moves, gathered, compact, number, AreNumbered}
 use Rattle.offset_allocator.specs.Classes.{down}
 use Rattle.offset_allocator.proofs.{Emptied.none_at, Classes.down_small, Tallies.hit_cases, Views.ViewBins.names_same, Views.ViewBins.names_other}
-use Rattle.offset_script.proofs.Agreement.{Label, by_name, by_tag, name_of, IsFalling, stamp_of, HasBlocksOf}
+use Rattle.offset_script.specs.Agreement.{Label, by_name, by_tag, name_of, IsFalling, stamp_of, HasBlocksOf}
 use Rattle.offset_script.proofs.Lists.{AreApart, apart_append, count, hit, count-append, ends_free, starts_free}
 use Rattle.offset_script.proofs.{Ends.free_sizes_labels, Ends.name_append, Ends.or_none, Labels.names, Labels.tags, Members.IsIn, Well.IsWell, Well.well_leaves}
 use Rattle.offset_script.specs.Totals.{live}

@@ -11,7 +11,8 @@ use Rattle.offset_allocator.specs.{Requests.CanGrant, Requests.Holds, Tight.CanH
 use Rattle.offset_allocator.specs.Tight as named
 use Rattle.offset_allocator.proofs.{Holding.find_met, Holding.find_none, Holding.find_past, Holding.find_here, Holding.holder, Holding.place_there, Holding.block_word, Holding.at_first}
 use Rattle.offset_allocator.proofs.{Holding.grant_holds, Classes.down_law, Classes.value_down, Taken.taken_among, Tallies.hit_cases, Views.Split.split_view, Served.aligned_serves}
-use Rattle.offset_script.proofs.{Agreement.Label, Agreement.by_tag, Agreement.stamp_of, Agreement.IsFalling, Agreement.HasBlocksOf, Well.IsWell, Tests.same_some, Chosen.names_whole}
+use Rattle.offset_script.specs.Agreement.{Label, by_tag, stamp_of, IsFalling, HasBlocksOf}
+use Rattle.offset_script.proofs.{Well.IsWell, Tests.same_some, Chosen.names_whole}
 use Rattle.offset_script.proofs.{Ends.total_units, Labels.names, Labels.tags}
 use Rattle.offset_script.proofs.Chosen.{Spot, whole, place_at, named_spot, plain_spot, named_place, plain_place, IsLabelled, none_chosen, chosen, place_of_spot, listed_spot, spot_stamp, newer_before}
 use Rattle.offset_script.proofs.Lists as lists

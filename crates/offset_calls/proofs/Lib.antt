@@ -1,4 +1,4 @@
-mod Begun
+pub mod Begun
 mod Beside
 mod Decided
 mod DecidedTickets
@@ -6,6 +6,7 @@ mod EndPairs
 mod EndServed
 mod Furthest
 mod Kept
+pub mod PlainLists
 mod Raised
 mod RaisedTickets
 mod Reached

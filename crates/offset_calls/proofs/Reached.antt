@@ -3,7 +3,8 @@ use Rattle.offset_calls.proofs.Common.{◌≡◌, ℕ, ◌≤◌, List, [], ◌�
 use Rattle.offset_calls.proofs.Common.{Call, Reply, AreKept, Takes, is_valid, reply_view}
 use Rattle.std.specs.Prelude.{Result, Ok, Err, IfOk, OnErr}
 use Rattle.offset_script.specs.Steps.{AreLive}
-use Rattle.offset_script.proofs.{Agreement.IsAtState, Simulation.all_live, Simulation.fresh_represents, Well.IsWell, Well.well_start}
+use Rattle.offset_script.specs.Agreement.{IsAtState}
+use Rattle.offset_script.proofs.{Simulation.all_live, Simulation.fresh_represents, Well.IsWell, Well.well_start}
 use Rattle.offset_calls.specs.{Calling.IsLost, Calling.IsReached, Histories.Runs, Steps.AreNumbers}
 use Rattle.offset_calls.specs.declared.calls.Reply as program
 use Rattle.offset_calls.proofs.{Compacted.all_kept, Followed.follows, Followed.well_call, Followed.well_calls, Kept.next_call, Kept.numbers_next}

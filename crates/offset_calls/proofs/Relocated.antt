@@ -7,7 +7,8 @@ use Rattle.offset_calls.proofs.Common.{◌≡◌, ◌≢◌, ℕ, zero, suc, ◌
 use Rattle.offset_calls.proofs.Common.{ap, ap₂, subst, ◌∙◌, inl, inr, arith, eq-eqb, ne_eqb, cases_eq, cases_lt, leb-true, lt-ltb, le-ltb, and_parts, option_map, option_and_then, unwrap_or}
 use Rattle.offset_calls.proofs.Common.{AllByRecursion, Block, View, Handle, Place, one, count_named, times, bin_at, units, IsWellFormed, AdmitsBlocks, Range, kept_name, IsKept, State, is_free, total}
 use Rattle.offset_calls.proofs.{Common.chosen_place, Common.is_short_of, Common.fits, Common.Reply, Common.Answer, Common.le-leb, Resized.found, Resized.spot, Resized.size_found}
-use Rattle.offset_script.proofs.{Agreed.agrees_but, Agreed.agrees_quiet, Agreed.room_for, Agreed.serve_agrees, Agreement.HasBlocksOf, Agreement.IsAtState, Chosen.Spot, Chosen.plain_place}
+use Rattle.offset_script.specs.Agreement.{HasBlocksOf, IsAtState}
+use Rattle.offset_script.proofs.{Agreed.agrees_but, Agreed.agrees_quiet, Agreed.room_for, Agreed.serve_agrees, Chosen.Spot, Chosen.plain_place}
 use Rattle.offset_script.proofs.{Chosen.plain_spot, Chosen.listed_spot, Ends.total_units, Labels.names, Labels.tags, Found.chosen_at, Well.IsWell, Simulation.requested}
 use Rattle.offset_calls.specs.{Calls.answered, Ending.begins_before, Ending.relocate}
 use Rattle.offset_allocator.proofs.Served.{aligned_serves}

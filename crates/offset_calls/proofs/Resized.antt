@@ -9,7 +9,8 @@ use Rattle.offset_allocator.proofs.{Views.ViewApart.right_false, Reading.size_at
 use Rattle.offset_allocator.specs.{View.place_of, Resizing.CanShrink, Resizing.CanGrow, Resizing.Resizes, Resizing.free_after}
 use Rattle.offset_script.proofs.Agreed.{live_at, LiveAt, room_for, has_room, agrees_replaced, new_labels, names_new, tags_new, name_new, rises_new, name_replaced}
 use Rattle.offset_script.proofs.Lists.{AreApart, apart_parts, apart_append, count, count-append, count_free_part, ends_free, few_free, number_of, start_is, start_of}
-use Rattle.offset_script.proofs.{Agreement.Label, Agreement.by_name, Agreement.by_tag, Agreement.name_of, Agreement.HasBlocksOf, Chosen.Spot, Chosen.place_at, Chosen.named_spot, Chosen.named_place}
+use Rattle.offset_script.specs.Agreement.{Label, by_name, by_tag, name_of, HasBlocksOf}
+use Rattle.offset_script.proofs.{Chosen.Spot, Chosen.place_at, Chosen.named_spot, Chosen.named_place}
 use Rattle.offset_script.proofs.{Chosen.plain_place, Chosen.place_of_spot, Ends.AreFree, Ends.free_named, Ends.free_tagged, Ends.apart_tagged, Ends.total_units, Ends.name_free, Labels.names}
 use Rattle.offset_script.proofs.{Labels.tags, Labels.map_three, Members.map_parts, Tests.same_some, Found.found_at, Well.IsWell, Well.apart_free_part, Well.free_part_is, Well.well_leaves}
 use Rattle.offset_allocator.specs.View as named

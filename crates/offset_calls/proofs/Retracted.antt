@@ -7,7 +7,8 @@ use Rattle.std.proofs.lemmas.List.{nil_from_length}
 use Rattle.std.specs.Option.{option_or}
 use Rattle.offset_allocator.proofs.Views.ViewApart.{left_false}
 use Rattle.offset_allocator.specs.{View.free_part, Moving.Retracting.CanRetract, Moving.Retracting.Cuts, Moving.Retracting.end_part}
-use Rattle.offset_script.proofs.{Agreed.agrees_replaced, Agreed.free_labels, Agreement.Label, Agreement.by_name, Agreement.by_tag, Agreement.name_of, Agreement.HasBlocksOf, Ends.name_append}
+use Rattle.offset_script.specs.Agreement.{Label, by_name, by_tag, name_of, HasBlocksOf}
+use Rattle.offset_script.proofs.{Agreed.agrees_replaced, Agreed.free_labels, Ends.name_append}
 use Rattle.offset_script.proofs.{Ends.name_skip, Labels.names, Labels.tags, Labels.AreRising, Members.map_parts, Members.map_first, Well.IsWell, Well.well_leaves, Well.well_quiet, Well.free_part_is}
 use Rattle.offset_script.proofs.Lists.{AreApart, apart_parts, apart_append, count, hit, count-append, count_free_part, ends_free}
 use Rattle.offset_calls.specs.{Calls.Outcome, Calls.retract, Ending.can_retract, Ending.end_block, Ending.with_end, Ending.retracted}

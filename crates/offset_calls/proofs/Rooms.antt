@@ -10,7 +10,7 @@ use Rattle.offset_allocator.proofs.Views.ViewApart.{left_false, right_false}
 use Rattle.offset_allocator.proofs.Views.ViewApart as named_apart
 use Rattle.offset_script.proofs.{Agreed.agrees_but, Agreed.agrees_quiet, Agreed.agrees_replaced, Agreed.name_replaced, Ends.free_sizes_labels, Ends.total_units, Ends.name_append, Ends.or_none}
 use Rattle.offset_script.proofs.{Labels.names, Labels.tags, Labels.map_three, Labels.AreRising, Members.IsIn, Members.in_left, Members.in_right, Well.IsWell, Well.well_quiet, Well.well_leaves}
-use Rattle.offset_script.proofs.Agreement.{Label, by_name, by_tag, name_of, HasBlocksOf, IsAtState}
+use Rattle.offset_script.specs.Agreement.{Label, by_name, by_tag, name_of, HasBlocksOf, IsAtState}
 use Rattle.offset_script.proofs.Lists.{AreApart, apart_append, apart_parts, count, count-append, ends_free, starts_free}
 use Rattle.offset_script.specs.Totals.{live}
 use Rattle.offset_calls.specs.{Calls.make_room, Calls.remakes, Calls.RoomMade, Room.Split, Room.cheapest, Room.room_cost, Room.slid, Slides.Notes, Slides.slid_reply, Steps.TakesSlide}

@@ -7,7 +7,8 @@ use Rattle.offset_calls.proofs.Common.{◌≡◌, ℕ, ◌+◌, ◌-◌, ◌≤�
 use Rattle.offset_calls.proofs.Common.{eq-eqb, ne_eqb, cases_lt, View, Handle, IsWellFormed, kept_name, State, Move, Reply, Outcome, AreNumbered, replies_only, units_needed, blocks_needed}
 use Rattle.std.specs.Prelude.{min}
 use Rattle.std.proofs.lemmas.Bool.{cond_both}
-use Rattle.offset_script.proofs.{Agreement.HasBlocksOf, Agreement.IsAtState, Labels.tags, Tests.same_some, Well.IsWell, Well.well_quiet}
+use Rattle.offset_script.specs.Agreement.{HasBlocksOf, IsAtState}
+use Rattle.offset_script.proofs.{Labels.tags, Tests.same_some, Well.IsWell, Well.well_quiet}
 use Rattle.offset_script.specs.Totals.{live}
 use Rattle.offset_script.specs.Machine as machine
 use Rattle.offset_calls.specs.{Calls.make_room_by, Calls.moves_of_run, Calls.RoomMade, Room.Split, RoomBySteps.blocks_short, RoomBySteps.cheapest_by, RoomBySteps.cheapest_that}

@@ -9,7 +9,8 @@ use Rattle.offset_allocator.specs.Moving.Room.{IsRun, IsAtMost, IsLess, CostMore
 use Rattle.offset_allocator.specs.View.{starts_free, ends_used, free_sizes, count_used, used_units}
 use Rattle.offset_allocator.proofs.{Views.ViewApart.apart_parts, Views.ViewApart.ends_free, Views.ViewApart.right_false, Tallies.free_sum, Joints.free_units-free, Joints.free_units-used}
 use Rattle.offset_allocator.proofs.Moving.Runs.{at_most_trans, less_trans, begins_cases, longer, run_cases, run_some, free_sum-append, count_used-append, used_units-append}
-use Rattle.offset_script.proofs.{Agreement.Label, Agreement.by_name, Agreement.by_tag, Labels.names, Labels.tags}
+use Rattle.offset_script.specs.Agreement.{Label, by_name, by_tag}
+use Rattle.offset_script.proofs.{Labels.names, Labels.tags}
 use Rattle.offset_script.specs.Totals.{live}
 use Rattle.offset_calls.specs.Room.{Split, from_first, after_first, free_units, shortest, is_less, cheaper, cheapest, room_cost}
 use Rattle.offset_calls.specs.Room as plain

@@ -7,7 +7,8 @@ use Rattle.offset_allocator.specs.Moving.RoomBySteps.{IsLeastCostBy, Serves, nam
 use Rattle.offset_allocator.specs.View.{starts_free, ends_used}
 use Rattle.offset_allocator.specs.View as named
 use Rattle.offset_allocator.proofs.Moving.Runs.{at_most_trans, less_trans, longer}
-use Rattle.offset_script.proofs.{Agreement.Label, Agreement.by_name, Agreement.by_tag, Labels.names, Labels.tags, Labels.map_three, Members.map_parts, Agreement.HasBlocksOf, Agreed.same_length, Well.IsWell}
+use Rattle.offset_script.specs.Agreement.{Label, by_name, by_tag, HasBlocksOf}
+use Rattle.offset_script.proofs.{Labels.names, Labels.tags, Labels.map_three, Members.map_parts, Agreed.same_length, Well.IsWell}
 use Rattle.offset_script.specs.Machine as machine
 use Rattle.offset_calls.specs.Room.{Split, from_first, after_first, is_less, cheaper}
 use Rattle.offset_calls.specs.Room as plain

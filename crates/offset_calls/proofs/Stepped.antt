@@ -17,7 +17,7 @@ use Rattle.offset_calls.proofs.Common.{ne_eqb}
 use Rattle.std.specs.{Option.option_or}
 use Rattle.std.proofs.lemmas.Bool.{and_cases, cond_both}
 use Rattle.offset_script.proofs.Agreed.{agrees_replaced, agrees_but, agrees_quiet, has_room, name_replaced, room_for}
-use Rattle.offset_script.proofs.Agreement.{Label, by_name, by_tag, name_of, HasBlocksOf, IsAtState}
+use Rattle.offset_script.specs.Agreement.{Label, by_name, by_tag, name_of, HasBlocksOf, IsAtState}
 use Rattle.offset_script.proofs.Ends.{apart_tagged, name_append, or_none, total_units}
 use Rattle.offset_script.proofs.Labels.{names, tags, map_three, AreRising}
 use Rattle.offset_script.proofs.Lists.{AreApart, apart_append, apart_parts, count, count-append, count_free_part, ends_free, hit, starts_free}

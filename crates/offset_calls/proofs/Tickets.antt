@@ -111,7 +111,7 @@ kept_serial g ts (suc k) x is e =
 -- ---- calls
 
 -- a refusal leaves all tickets as they were
-same_live : (g h : Guard) → IsSame g h → KeepsLive g h
+pub same_live : (g h : Guard) → IsSame g h → KeepsLive g h
 same_live g h same t = search (arith, is_some, nat_eq)
 
 -- a request

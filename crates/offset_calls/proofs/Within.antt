@@ -14,7 +14,7 @@ use Rattle.offset_allocator.specs.Moving.Budget as named_budget
 use Rattle.offset_allocator.specs.Moving.Compacting as named_moves
 use Rattle.offset_allocator.proofs.Moving.Budgeted.{begun, from_here}
 use Rattle.offset_allocator.proofs.Tallies.{one-same, tally_append}
-use Rattle.offset_script.proofs.Agreement.{Label, by_name, by_tag, IsAtState}
+use Rattle.offset_script.specs.Agreement.{Label, by_name, by_tag, IsAtState}
 use Rattle.offset_script.proofs.{Ends.total_units, Labels.names, Labels.tags, Lists.starts_free, Lists.total-append, Members.map_parts, Members.map_first, Well.IsWell, Well.well_quiet}
 use Rattle.offset_script.specs.Totals.{live}
 use Rattle.offset_script.specs.Machine as machine

@@ -6,6 +6,7 @@ pub mod Ending
 pub mod Histories
 pub mod Limits
 pub mod Places
+pub mod PlainLists
 pub mod Playing
 pub mod Room
 pub mod RoomBySteps

@@ -1,8 +1,11 @@
 //! Laws on the replies of `play_calls`. The functions do nothing.
 
 ghost use Rattle.std.specs.Prelude.{◌≡◌, ◌≤◌, ◌+◌, ◌++◌, ◌∷◌, IsTrue, ℕ, List, false, map, Option};
-ghost use Rattle.offset_allocator.specs.Relations.{SameState, SameUnder};
+ghost use Rattle.offset_allocator.specs.Moving.Compacting as named;
+ghost use Rattle.offset_allocator.specs.Relations.{IsFresh, SameState, SameUnder};
 ghost use Rattle.offset_allocator.specs.View.{Handle, IsWellFormed, View};
+ghost use Rattle.offset_guarded.specs.Answers as tickets;
+ghost use Rattle.offset_guarded.specs.Answers.{IsAdmitted};
 ghost use Rattle.offset_guarded.specs.Guard.{Guard, IsRaised, Ticket};
 ghost use Rattle.offset_guarded.specs.State.{SameGuard};
 ghost use Rattle.offset_script.specs.declared.scripts.Command.{Command};
@@ -14,14 +17,16 @@ ghost use Rattle.offset_script.specs.declared.scripts.Command.TheVariants as com
 ghost use Rattle.offset_calls.specs.declared.calls.Call.{Call};
 ghost use Rattle.offset_calls.specs.declared.calls.Call.TheVariants as call;
 ghost use Rattle.offset_calls.specs.Calls as plain;
-ghost use Rattle.offset_calls.specs.Calls.{after, replies, step};
+ghost use Rattle.offset_calls.specs.Calls.{after, is_valid, replies, step};
 ghost use Rattle.offset_calls.specs.Ending.{with_end};
 ghost use Rattle.offset_calls.specs.Places.{ArePlaces, NoneIsLater, starts};
+ghost use Rattle.offset_calls.specs.PlainLists.{IsCall, IsPlain, Plays};
 ghost use Rattle.offset_calls.specs.Room.{Split};
 ghost use Rattle.offset_calls.specs.Stepped.{slid_by};
 ghost use Rattle.offset_script.specs.Totals.{live};
 ghost use Rattle.offset_calls.specs.Limits.{AreServedWithNodes, RunsWithNodes, SameGuardUnder};
-ghost use Rattle.offset_calls.specs.Tickets.{AreServed, AreAllTickets};
+ghost use Rattle.offset_calls.specs.Steps.{Takes};
+ghost use Rattle.offset_calls.specs.Tickets.{AreServed, AreAllTickets, handles_of};
 ghost use Rattle.offset_calls.specs.declared.guarded.TicketCall.{TicketCall};
 ghost use Rattle.offset_calls.specs.Histories.{IsQuestion, Runs, goes_by_begin, replies_renumbered, without_offset};
 ghost use Rattle.offset_calls.specs.Histories.{retract_again};
@@ -177,4 +182,24 @@ pub fn a_raised_guard_continues_alike()
         (rs rs' : List plain.Reply) → IsWellFormed g.space → g.space.max_allocs ≤ limit
         → SameGuardUnder limit g g' → AreAllTickets g ts → AreServedWithNodes g ts cs rs h us
         → AreServed g' ts cs rs' h' us' → (rs ≡ rs') × SameGuardUnder limit h h' × (us ≡ us') }
+{}
+
+/// A space with tickets is a plain list of blocks: its blocks, from the first to the last, its node limit, and the order in
+/// each bin are those of a list that the plain machine made of one free block. A call of tickets is a call of the plain
+/// machine, with the numbers of grants in place of their tickets, and has the answer and the moves of its reply; where it is
+/// none, since no serial is left, or there is no step to go by, or it raises the step, nothing is done. So whatever calls are
+/// made, one after another, and wherever the node limit is raised between them, all answers are those of the plain machine.
+pub fn a_space_with_tickets_is_a_plain_list()
+    // A fresh one is one free block.
+    ensures fresh { (size limit : ℕ) (g : Guard) → 2 ≤ limit → IsWellFormed g.space → IsFresh size limit g.space → g.given ≡ 0
+        → IsPlain g (start size limit) }
+    // Each call, with its answer and its moves.
+    ensures call { (c : tickets.Call) (g h : Guard) (a : tickets.Answer) (ms : List named.Move) (s : State) → IsPlain g s
+        → IsAdmitted c → tickets.Answers c g h a ms → IsWellFormed h.space
+        → (o : Option Call) × IsCall c g o × (t : State) × Plays o g a ms s t × IsPlain h t }
+    ensures raised { (limit : ℕ) (g h : Guard) (s : State) → IsPlain g s → g.space.max_allocs ≤ limit → IsRaised limit g h
+        → IsPlain h (record s { limit = limit }) }
+    // A question has the reply of the plain machine: a report, a reason of a refusal, where a grant would begin, and the rest.
+    ensures question { (q : Call) (g : Guard) (s : State) (r : plain.Reply) (is : IsPlain g s) → IsTrue (is_valid q)
+        → Takes q g.space (handles_of g is.tickets) g.space (handles_of g is.tickets) r → r ≡ (step q s).reply }
 {}

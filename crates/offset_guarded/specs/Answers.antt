@@ -342,3 +342,15 @@ GoesByTheStep (Make_room_by n align s) g = g.step ∣ s
 GoesByTheStep Compact_unaligned g = ⊥
 GoesByTheStep (Make_room_unaligned n) g = ⊥
 GoesByTheStep c g = Unit {0}
+
+-- the alignment and the step of a call, where it has them, are at least 1, as its contract requires
+abbrev pub IsAdmitted : Call → Type 0
+IsAdmitted (Allocate_aligned n align) = 1 ≤ align
+IsAdmitted (Allocate_tight_aligned n align) = 1 ≤ align
+IsAdmitted (Relocate_aligned t align) = 1 ≤ align
+IsAdmitted (Raise_step align) = 1 ≤ align
+IsAdmitted (Compact_by s) = 1 ≤ s
+IsAdmitted (Compact_within_by s from units ranges) = 1 ≤ s
+IsAdmitted (Make_room n align) = 1 ≤ align
+IsAdmitted (Make_room_by n align s) = (1 ≤ align) × (1 ≤ s)
+IsAdmitted c = Unit {0}

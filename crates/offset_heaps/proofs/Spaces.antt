@@ -4,10 +4,10 @@ use Rattle.std.proofs.Math.Nat.{dvd_refl, one-dvd}
 use Rattle.std.proofs.lemmas.Bool.{cases_Bool, cases_eq, cases_lt}
 use Rattle.std.specs.List.{AllByRecursion}
 use Rattle.std.specs.declared.alloc.AllocError.{AllocError}
-use Rattle.offset_allocator.specs.{Classes.down, Moving.BySteps.moves_by, Moving.Compacting.Move, Relations.Aligns, Requests.blocks_needed, Requests.units_needed, Tight.AlignsTight, Tight.CanHold, Tight.listed_from, View.Handle, View.View, View.bin_at, View.units}
-use Rattle.offset_allocator.proofs.{Moving.Begins.aligned_can, Padding.reaches, Served.multiple}
+use Rattle.offset_allocator.specs.{Classes.down, Moving.BySteps.moves_by, Moving.Compacting.Move, Relations.Aligns, Relations.IsFresh, Requests.blocks_needed, Requests.units_needed, Tight.AlignsTight, Tight.CanHold, Tight.listed_from, View.Handle, View.IsWellFormed, View.View, View.bin_at, View.units}
+use Rattle.offset_allocator.proofs.{Moving.Begins.aligned_can, Padding.reaches, Raised.under, Raised.well_under, Served.multiple, Sound.well_counted, Views.ViewTaken.well_alone}
 use Rattle.offset_guarded.specs.Answers as tickets
-use Rattle.offset_guarded.specs.Answers.{GoesByTheStep, Notes}
+use Rattle.offset_guarded.specs.Answers.{GoesByTheStep, IsAdmitted, Notes}
 use Rattle.offset_guarded.specs.Calls.{Continues, Event, Happens}
 use Rattle.offset_guarded.specs.Calls.Event.{Called, Raised}
 use Rattle.offset_guarded.specs.Guard.{Guard, HasSerialLeft, Ticket, handle_in}
@@ -25,29 +25,32 @@ use Rattle.offset_heaps.specs.Heaps.{Heaps, FreesIn, Grants, IsBefore, IsLive, I
 use Rattle.offset_heaps.specs.Histories.{ContinuesIn, IsStep}
 use Rattle.offset_heaps.specs.Places.{Place, ticket_of}
 use Rattle.offset_heaps.specs.Slots.{CanHoldIn, ResetsIn}
-use Rattle.offset_heaps.specs.Spaces.{DoesAll, GoesByTheSteps, GoesOn, IsAdmitted, IsSpace, IsValid}
+use Rattle.offset_heaps.specs.Spaces.{AreFormed, DoesAll, GoesByTheSteps, GoesOn, IsSpace, IsValid}
 use Rattle.offset_heaps.specs.Tight.{GrantsTight}
 use Rattle.offset_heaps.proofs.{Grants.restepped, Numbers.slot_other, Numbers.slot_past, Numbers.slot_same, Numbers.slot_set, Numbers.slot_there, Rooms.new_holds, Rooms.room_left}
 
 -- ---- what becomes of one heap
 -- calls of tickets, or a raised limit, that go by the step: what they leave continues what there was
 abbrev Turns : Guard → Guard → Type 0
-Turns g h = Continues g h × ((es : List Event) × DoesAll g es h)
+Turns g h = Continues g h × ((es : List Event) × (d : DoesAll g es h) × AreFormed g es h d)
 
 turn : (c : tickets.Call) (a : tickets.Answer) (ms : List Move) (g h : Guard) → IsAdmitted c → GoesByTheStep c g → tickets.Answers c g h a ms → Turns g h
-turn c a ms g h some goes by = (happened (Called c a ms) g h (goes, by), (Called c a ms ∷ [], (h, (some, by), refl)))
+turn c a ms g h some goes by = (happened (Called c a ms) g h (goes, by), (Called c a ms ∷ [], (h, (some, by), refl), ((λ v w. w), tt)))
 
 stays : (g h : Guard) → h ≡ g → Turns g h
-stays g h e = subst (Turns g) (sym e) (record { realm = refl; given = omega arith; live = λ t early live. live; aligned = same_aligned g }, ([], refl))
+stays g h e = subst (Turns g) (sym e) (record { realm = refl; given = omega arith; live = λ t early live. live; aligned = same_aligned g }, ([], refl, tt))
 
 -- limits that are raised first
+raised_formed : (limit : ℕ) (g b : Guard) → g.space.max_allocs ≤ limit → guarded.IsRaised limit g b → IsWellFormed g.space → IsWellFormed b.space
+raised_formed limit g b most raised formed = subst (λ (z : Guard). IsWellFormed z.space) (sym raised) (well_counted (under limit g.space) 0 (well_under g.space limit most formed))
+
 raised_first : (limit : ℕ) (g b h : Guard) → guarded.IsRaised limit g b → Continues b h → Continues g h
 raised_first limit g b h e c =
     let d : Continues (record g { space = record g.space { max_allocs = limit; accesses = 0 } }) h = subst (λ (z : Guard). Continues z h) e c in
     record { realm = d.realm; given = d.given; live = d.live; aligned = d.aligned }
 
 after_raise : (Must : Guard → Type 0) (limits : Limits) (may : (g : Guard) → Must g → g.space.max_allocs < limits.max_allocs) (g b h : Guard) → IsRaisedWhere Must limits g b → Turns b h → Turns g h
-after_raise Must limits may g b h (inl up) t = (raised_first (raised_limit limits g) g b h up.1 t.0, (Raised (raised_limit limits g) ∷ t.1.0, (b, (omega (arith, may g up.0), up.1), t.1.1)))
+after_raise Must limits may g b h (inl up) t = (raised_first (raised_limit limits g) g b h up.1 t.0, (Raised (raised_limit limits g) ∷ t.1.0, (b, (omega (arith, may g up.0), up.1), t.1.1), ((λ v w. raised_formed (raised_limit limits g) g b (omega (arith, may g up.0)) up.1 v), t.1.2)))
 after_raise Must limits may g b h (inr kept) t = subst (λ (z : Guard). Turns z h) kept.1 t
 
 left_raised : (Must : Guard → Type 0) (limits : Limits) (g b : Guard) → IsRaisedWhere Must limits g b → HasSerialLeft g → HasSerialLeft b
@@ -55,9 +58,12 @@ left_raised Must limits g b (inl up) left = omega (arith, ap (λ (z : Guard). z.
 left_raised Must limits g b (inr kept) left = omega (arith, ap (λ (z : Guard). z.given) kept.1, left)
 
 -- ---- and of the heap of a number
+abbrev IsNewSpace : Guard → Type 0
+IsNewSpace h = (is : IsSpace h) × (IsWellFormed h.space → IsWellFormed is.fresh.space) × AreFormed is.fresh is.events h is.done
+
 abbrev Evolves : ℕ → Option Guard → Option Guard → Type 0
 Evolves made old None = Unit {0}
-Evolves made None (Some h) = IsSpace h × (made < h.realm)
+Evolves made None (Some h) = IsNewSpace h × (made < h.realm)
 Evolves made (Some g) (Some h) = Turns g h
 
 turned : (made k : ℕ) (hs : Heaps) (g h : Guard) → heap_at k hs ≡ Some g → Turns g h → Evolves made (heap_at k hs) (Some h)
@@ -119,6 +125,21 @@ tight_act n align g h t left some grants joined step few = (
   refl,
 )
 
+-- both leave the size and the limit of a space
+aligned_size : (n align : ℕ) (v w : View) (h : Handle) → Aligns n align v w (Some h) → (w.size ≡ v.size) × (w.max_allocs ≡ v.max_allocs)
+aligned_size n align v w h a = (ap (λ (z : View). z.size) a.1.view, ap (λ (z : View). z.max_allocs) a.1.view)
+
+tight_size : (n align : ℕ) (v w : View) (h : Handle) → AlignsTight n align v w (Some h) → (w.size ≡ v.size) × (w.max_allocs ≡ v.max_allocs)
+tight_size n align v w h (inl a) = aligned_size n align v w h a
+tight_size n align v w h (inr f) = let s = f.1.1.3 in (ap (λ (z : View). z.size) s.view, ap (λ (z : View). z.max_allocs) s.view)
+
+-- so a fresh one was well formed
+fresh_formed : (size limit : ℕ) (v w : View) → IsFresh size limit v → (w.size ≡ v.size) × (w.max_allocs ≡ v.max_allocs) → IsWellFormed w → IsWellFormed v
+fresh_formed size limit v w f same formed =
+    let n = ap (λ (z : View). z.size) f.view in
+    let m = ap (λ (z : View). z.max_allocs) f.view in
+    subst IsWellFormed (sym f.view) (well_alone (record v { max_allocs = limit }) f.name size 0 [] (omega (arith, formed.few_used, same.1, m)) f.below (omega (arith, formed.fits, same.0, n)))
+
 -- ---- grants
 -- a fresh heap takes the alignment of its first grant into its step afterwards
 module _ (size align made : ℕ) (g h : Guard) (step : g.step ≡ 1) (joined : IsJoined g.step align h.step) where
@@ -147,10 +168,10 @@ module _ (size align : ℕ) (hs ks : Heaps) (grant : Granted) (s : Grants size a
     | inr b ↦ absurd (let e : true ≡ false = sym b.0 ∙ not in cc)
   ]
 
-  usual : (size' limit made : ℕ) → grant.is_new ≡ true → heap_at k hs ≡ None → IsUsual size hs → IsNew size' limit made s.before → IsSpace s.after
+  usual : (size' limit made : ℕ) → grant.is_new ≡ true → heap_at k hs ≡ None → IsUsual size hs → IsNew size' limit made s.before → IsNewSpace s.after
   usual size' limit made new none is fresh =
       let mid = between size align made s.before s.after fresh.step s.joined in
-      record {
+      (record {
         fresh = s.before;
         size = size';
         limit = limit;
@@ -158,8 +179,11 @@ module _ (size align : ℕ) (hs ks : Heaps) (grant : Granted) (s : Grants size a
         new = fresh;
         events = Called (tickets.Call.Allocate_aligned size 1) (tickets.Answer.Requested (Some t)) [] ∷ Called (tickets.Call.Raise_step align) tickets.Answer.Nothing [] ∷ [];
         done = (mid, (omega arith, first mid refl (one size align made s.before s.after fresh.step s.joined)), (s.after, (some, restep size align made s.before s.after fresh.step s.joined), refl));
-      }
+      }, fresh_formed size' limit s.before.space s.after.space fresh.space sized, ((λ v w. w), ((λ v w. w), tt)))
     where
+      sized : (s.after.space.size ≡ s.before.space.size) × (s.after.space.max_allocs ≡ s.before.space.max_allocs)
+      sized = elim s.step [ inl a ↦ aligned_size size _ s.before.space s.after.space (handle_in t) a.1 | inr b ↦ absurd (b.1 is) ]
+
       spare : HasSerialLeft s.before
       spare = let none = fresh.serials.0 in omega (arith, none)
 
@@ -173,10 +197,10 @@ module _ (size align : ℕ) (hs ks : Heaps) (grant : Granted) (s : Grants size a
         | inr b ↦ absurd (b.1 is)
       ]
 
-  larger : (made : ℕ) → grant.is_new ≡ true → heap_at k hs ≡ None → (IsUsual size hs → ⊥) → IsNew size larger_limit made s.before → IsSpace s.after
+  larger : (made : ℕ) → grant.is_new ≡ true → heap_at k hs ≡ None → (IsUsual size hs → ⊥) → IsNew size larger_limit made s.before → IsNewSpace s.after
   larger made new none not fresh =
       let mid = between size align made s.before s.after fresh.step s.joined in
-      record {
+      (record {
         fresh = s.before;
         size = size;
         limit = larger_limit;
@@ -184,8 +208,11 @@ module _ (size align : ℕ) (hs ks : Heaps) (grant : Granted) (s : Grants size a
         new = fresh;
         events = Called (tickets.Call.Allocate_tight size) (tickets.Answer.Requested (Some t)) [] ∷ Called (tickets.Call.Raise_step align) tickets.Answer.Nothing [] ∷ [];
         done = (mid, (tt, first mid refl), (s.after, (some, restep size align made s.before s.after fresh.step s.joined), refl));
-      }
+      }, fresh_formed size larger_limit s.before.space s.after.space fresh.space sized, ((λ v w. w), ((λ v w. w), tt)))
     where
+      sized : (s.after.space.size ≡ s.before.space.size) × (s.after.space.max_allocs ≡ s.before.space.max_allocs)
+      sized = elim s.step [ inl a ↦ absurd (not (a.0 new)) | inr b ↦ tight_size size 1 s.before.space s.after.space (handle_in t) b.2 ]
+
       holds : HasSerialLeft s.before × CanHold size 1 s.before.space
       holds = new_holds size s.before fresh.space fresh.serials.0
 
@@ -464,13 +491,13 @@ to_go made (Some g) (Some h) e = e.1
 
 same_goes : (o : Option Guard) → GoesOn o o
 same_goes None = tt
-same_goes (Some g) = ([], refl)
+same_goes (Some g) = ([], refl, tt)
 
 on_goes : (k : ℕ) (c : tickets.Call) (hs ks : Heaps) (a : tickets.Answer) (ms : List Move) → IsAdmitted c → TakesOn k c hs ks a ms → (j : ℕ) → GoesOn (heap_at j hs) (heap_at j ks)
 on_goes k c hs ks a ms some x j =
     let there : k < length hs.slots = slot_there hs.slots k (ap is_some x.heap) in
     subst (λ s. GoesOn (heap_at j hs) (slot j s)) (sym (ap (λ (h : Heaps). h.slots) x.heaps)) (elim (cases_eq j k) [
-      | inl e ↦ rw (e, slot_same hs.slots k (Some x.after) there) (subst (λ o. GoesOn o (Some x.after)) (sym x.heap) (Called c a ms ∷ [], (x.after, (some, x.by), refl)))
+      | inl e ↦ rw (e, slot_same hs.slots k (Some x.after) there) (subst (λ o. GoesOn o (Some x.after)) (sym x.heap) (Called c a ms ∷ [], (x.after, (some, x.by), refl), ((λ v w. w), tt)))
       | inr d ↦ rw (slot_other hs.slots k j (Some x.after) d) (same_goes (heap_at j hs))
     ])
 
@@ -507,7 +534,7 @@ does_append (e ∷ es) more f g h a d = (a.0, a.1, does_append es more a.0 g h a
 
 stays_space : (o p : Option Guard) → IfSome o IsSpace → GoesOn o p → IfSome p IsSpace
 stays_space o None s c = tt
-stays_space None (Some h) s c = c
+stays_space None (Some h) s c = c.0
 stays_space (Some g) (Some h) s c = record { fresh = s.fresh; size = s.size; limit = s.limit; realm = s.realm; new = s.new; events = s.events ++ c.0; done = does_append s.events c.0 s.fresh g h s.done c.1 }
 
 pub spaces_stay : (cs : List Call) (rs : List Reply) (hs ks : Heaps) → AllByRecursion IsValid cs → ((k : ℕ) → IfSome (heap_at k hs) IsSpace) → TakesAll hs cs rs ks → (k : ℕ) → IfSome (heap_at k ks) IsSpace

@@ -1,24 +1,13 @@
 -- Each heap is a space with tickets: calls of tickets, one after another, make it of a fresh one.
 use Rattle.std.specs.Prelude.{◌≡◌, ℕ, ◌≤◌, List, [], ◌∷◌, Option, Some, None, IfSome}
+use Rattle.offset_allocator.specs.View.{IsWellFormed}
 use Rattle.offset_guarded.specs.Answers as tickets
-use Rattle.offset_guarded.specs.Answers.Call.{Allocate_aligned, Allocate_tight_aligned, Raise_step, Compact_by, Compact_within_by, Make_room_by}
+use Rattle.offset_guarded.specs.Answers.{IsAdmitted}
 use Rattle.offset_guarded.specs.Calls.{Event}
 use Rattle.offset_guarded.specs.Calls.Event.{Called, Raised}
 use Rattle.offset_guarded.specs.Guard.{Guard, IsRaised}
 use Rattle.offset_heaps.specs.Calls.{Call, Allocate, Allocate_tight, Relocate_aligned, Make_room, On_heap}
 use Rattle.offset_heaps.specs.Heaps.{Heaps, IsNew, heap_at}
-
--- the alignment and the step of a call of tickets, where it has them, are at least 1, as its contract requires
-abbrev pub IsAdmitted : tickets.Call → Type 0
-IsAdmitted (Allocate_aligned n align) = 1 ≤ align
-IsAdmitted (Allocate_tight_aligned n align) = 1 ≤ align
-IsAdmitted (tickets.Call.Relocate_aligned t align) = 1 ≤ align
-IsAdmitted (Raise_step align) = 1 ≤ align
-IsAdmitted (Compact_by s) = 1 ≤ s
-IsAdmitted (Compact_within_by s from units ranges) = 1 ≤ s
-IsAdmitted (tickets.Call.Make_room n align) = 1 ≤ align
-IsAdmitted (Make_room_by n align s) = (1 ≤ align) × (1 ≤ s)
-IsAdmitted c = Unit {0}
 
 -- a call of tickets is answered, also one that does not go by the step; or the node limit is raised
 abbrev pub Does : Event → Guard → Guard → Type 0
@@ -30,6 +19,11 @@ Does e g h = ⊥
 abbrev pub DoesAll : Guard → List Event → Guard → Type 0
 DoesAll g [] h = h ≡ g
 DoesAll g (e ∷ es) h = (now : Guard) × Does e g now × DoesAll now es h
+
+-- what is between is well formed where the first and the last are
+abbrev pub AreFormed : (g : Guard) (es : List Event) (h : Guard) → DoesAll g es h → Type 0
+AreFormed g [] h done = Unit {0}
+AreFormed g (e ∷ es) h done = (IsWellFormed g.space → IsWellFormed h.space → IsWellFormed done.0.space) × AreFormed done.0 es h done.2
 
 -- a heap that was made fresh, and all that was done in it since
 pub record IsSpace (h : Guard) : Type 0 where
@@ -45,8 +39,8 @@ pub record IsSpace (h : Guard) : Type 0 where
 -- Which calls are done, and when a heap is dropped, is in the contract of each call
 abbrev pub GoesOn : Option Guard → Option Guard → Type 0
 GoesOn old None = Unit {0}
-GoesOn None (Some h) = IsSpace h
-GoesOn (Some g) (Some h) = (es : List Event) × DoesAll g es h
+GoesOn None (Some h) = (is : IsSpace h) × (IsWellFormed h.space → IsWellFormed is.fresh.space) × AreFormed is.fresh is.events h is.done
+GoesOn (Some g) (Some h) = (es : List Event) × (done : DoesAll g es h) × AreFormed g es h done
 
 -- the alignment and the step of a call, where it has them, are at least 1, as its contract requires
 abbrev pub IsValid : Call → Type 0

@@ -2,7 +2,7 @@
 use Rattle.offset_script.proofs.Common.{◌≡◌, ◌≢◌, ℕ, ◌<◌, ◌≤◌, true, false, not, List, [], ◌∷◌, ◌++◌, Option, Some, None, nat_eq, nat_lt, nat_le, refl, sym, ap, ap₂, subst, ◌∙◌, inl, arith, eq-eqb}
 use Rattle.offset_script.proofs.Common.{le-leb, lt-ltb, leb-true, map-append, cases_eq, cases_lt, true≢false, and_parts, not-false, or_right, up, down, is_free, stamp, fits, is_taken_before}
 use Rattle.offset_script.proofs.Common.{chosen_place, View, Handle, one, times, count_named, bin_at, IsWellFormed, Splits}
-use Rattle.offset_script.proofs.Agreement.{Label, by_name, by_tag, stamp_of, IsFalling}
+use Rattle.offset_script.specs.Agreement.{Label, by_name, by_tag, stamp_of, IsFalling}
 use Rattle.offset_script.proofs.{Tests.same_some, Found.chosen_at, Found.not_chosen, Members.IsIn, Members.in_right, Members.map_split, Labels.names, Labels.tags, Labels.gives_parts, Labels.gives_all}
 use Rattle.offset_allocator.specs.View.{Block, Place, place_of}
 use Rattle.offset_allocator.proofs.{Views.ViewPlaces.place_here, Tallies.tally_append, Tallies.hit_cases, Tallies.one-same}

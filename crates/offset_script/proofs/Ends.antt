@@ -1,7 +1,8 @@
 -- Labels by names and by tags: what is free, sums, and the names of grants.
 use Rattle.offset_script.proofs.Common.{◌≡◌, ℕ, ◌+◌, ◌≤◌, true, false, not, ◌&&◌, List, [], ◌∷◌, ◌++◌, length, Option, Some, None, refl, ap, subst₂, ◌∙◌, arith, option_or, false≢true, not-false, Tag}
 use Rattle.offset_script.proofs.Common.{Live, Free, is_free, has_number, total, units, AllByRecursion}
-use Rattle.offset_script.proofs.{Agreement.Label, Agreement.name_of, Lists.count, Lists.hit_number, Labels.names, Labels.tags, Tests.not_not}
+use Rattle.offset_script.specs.Agreement.{Label, name_of}
+use Rattle.offset_script.proofs.{Lists.count, Lists.hit_number, Labels.names, Labels.tags, Tests.not_not}
 use Rattle.offset_script.specs.Machine as plain
 use Rattle.offset_allocator.specs.View as named
 use Rattle.offset_script.proofs.Lists as lists

@@ -1,6 +1,7 @@
 -- Bins whose stamps fall, as names are pushed and removed.
 use Rattle.offset_script.proofs.Common.{◌≡◌, ◌≢◌, ℕ, ◌+◌, ◌<◌, ◌≤◌, true, false, not, List, [], ◌∷◌, length, nat_eq, refl, ◌∙◌, inl, inr, arith, ne_eqb, cases_eq, cond_both, down, one, times, bin_at}
-use Rattle.offset_script.proofs.{Common.push, Common.remove, Common.push_all, Common.remove_all, Agreement.IsFalling}
+use Rattle.offset_script.specs.Agreement.{IsFalling}
+use Rattle.offset_script.proofs.{Common.push, Common.remove, Common.push_all, Common.remove_all}
 use Rattle.offset_allocator.specs.View.{Block}
 use Rattle.offset_allocator.proofs.Views.ViewBins.{names_same, names_other, length_put, length_remove, times_without_le, hit, times_put}
 use Rattle.offset_allocator.proofs.{Classes.down_small, Tallies.hit_cases, Tallies.without}

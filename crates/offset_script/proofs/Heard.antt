@@ -1,7 +1,8 @@
 -- One more command of a player, and what a listener is told of it.
 use Rattle.offset_script.proofs.Common.{◌≡◌, List, [], ◌∷◌, ◌++◌, Option, Result, Ok, Err, IfOk, IsTrue, ℕ, sum, sym, ap, ap₂, append-nil, ◌∙◌, View, Handle, IsWellFormed}
 use Rattle.offset_script.proofs.Common.{Command, State, Answer, step, answers, after, has_valid_alignment, kept_name, Takes, free_sizes, text_of}
-use Rattle.offset_script.proofs.{Agreed.report_agrees, Agreed.same_length, Agreed.same_units, Agreement.IsAtState, Asking.answers-append, Ends.free_sizes_labels}
+use Rattle.offset_script.specs.Agreement.{IsAtState}
+use Rattle.offset_script.proofs.{Agreed.report_agrees, Agreed.same_length, Agreed.same_units, Asking.answers-append, Ends.free_sizes_labels}
 use Rattle.offset_script.proofs.{Simulation.follows, Well.IsWell, Well.well_step}
 use Rattle.std.proofs.lemmas.Grind.{flat_map-append}
 use Rattle.offset_allocator.specs.View as named

@@ -3,7 +3,8 @@ use Rattle.offset_script.proofs.Common.{◌≡◌, ℕ, ◌+◌, ◌<◌, ◌≤
 use Rattle.offset_script.proofs.Common.{cases_lt, not-true, not-false, Tag, Live, Free, is_free, stamp, View, times, count_named, bin_at, push_all, remove_all, IsWellFormed}
 use Rattle.offset_allocator.specs.View.{Block}
 use Rattle.offset_script.proofs.Falling.{falling_remove_all, falling_same, falling_put_all, IsRising}
-use Rattle.offset_script.proofs.{Agreement.Label, Agreement.by_name, Agreement.by_tag, Agreement.stamp_of, Agreement.IsFalling, Lists.count, Lists.hit, Lists.hit_self}
+use Rattle.offset_script.specs.Agreement.{Label, by_name, by_tag, stamp_of, IsFalling}
+use Rattle.offset_script.proofs.{Lists.count, Lists.hit, Lists.hit_self}
 use Rattle.offset_allocator.proofs.{Tallies.tally_three, Tallies.listed_named, Tallies.tally_append, Tallies.hit_cases, Tallies.one-same, Views.ViewBins.length_remove_all}
 use Rattle.offset_allocator.proofs.{Views.ViewReplaced.bins_replaced}
 use Rattle.offset_script.specs.Machine as plain

@@ -3,7 +3,8 @@ use Rattle.offset_script.proofs.Common.{◌≡◌, ℕ, zero, suc, ◌+◌, ◌-
 use Rattle.offset_script.proofs.Common.{slice_set, get_or, if◌then◌else◌, IsTrue, refl, sym, ap, ap₂, subst, subst₂, ◌∙◌, inl, inr, arith, eq-eqb, ne_eqb, add-one, leb-true, length-append, append_assoc}
 use Rattle.offset_script.proofs.Common.{append-nil, map-append, get_or-set_same, get_or-set_other, get_or_past, length-set, cases_eq, cases_lt, value, row, rows_below, count_of, Command}
 use Rattle.offset_script.proofs.Common.{has_valid_alignment, State, Answer, step, start, row_view, View, Handle, IsWellFormed, kept_name, Takes, AreSteps, AreStepsFromFresh, IsKept, IfNamed, Stays}
-use Rattle.offset_script.proofs.{Common.AreLive, Common.IsFresh, Common.Frees, Common.Extends, Common.Resets, Agreement.IsAtState, Well.IsWell}
+use Rattle.offset_script.specs.Agreement.{IsAtState}
+use Rattle.offset_script.proofs.{Common.AreLive, Common.IsFresh, Common.Frees, Common.Extends, Common.Resets, Well.IsWell}
 use Rattle.std.proofs.{Math.ListN.get_or-append, Math.Seq.get_or-append_seam}
 use Rattle.offset_allocator.specs.declared.reports.StorageReportFullRegion.{StorageReportFullRegion}
 use Rattle.offset_allocator.specs.{declared.reports.StorageReportFull.StorageReportFull, View.free_sizes, Reporting.Reports.IsFullReport, Ranges.size_of}

@@ -1,3 +1,4 @@
+pub mod Agreement
 pub mod CommonLines
 pub mod Devices
 pub mod Faults

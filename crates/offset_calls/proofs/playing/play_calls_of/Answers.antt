@@ -1,7 +1,8 @@
 use Rattle.offset_calls.proofs.Common.{◌≡◌, ◌+◌, ◌<◌, ◌≤◌, ℕ, List, [], ◌∷◌, ◌++◌, map, take, drop, length, get_or, sym, ap, subst, ◌∙◌, arith, IsTrue, add-one, append-nil, append_assoc}
 use Rattle.offset_calls.proofs.Common.{drop-cons, map-append, take_more, take_all, drop_all, State, start, Call, Reply, after, is_valid, replies, reply_view, step, Takes}
 use Rattle.std.proofs.lemmas.List.Elements.{All-get_or}
-use Rattle.offset_script.proofs.{Agreement.IsAtState, Simulation.all_live, Simulation.fresh_represents, Simulation.steps_begin, Simulation.steps_go_on, Simulation.steps_end, Well.well_start}
+use Rattle.offset_script.specs.Agreement.{IsAtState}
+use Rattle.offset_script.proofs.{Simulation.all_live, Simulation.fresh_represents, Simulation.steps_begin, Simulation.steps_go_on, Simulation.steps_end, Well.well_start}
 use Rattle.offset_calls.proofs.{Along.after-append, Compacted.all_kept, Followed.follows, Followed.well_calls, Kept.next_call, Kept.numbers_begin, Kept.numbers_next}
 use Rattle.offset_calls.specs.declared.calls.Reply as program
 use Rattle.offset_calls.proofs.playing.play_calls_of.Goals as goal

@@ -1,5 +1,6 @@
 use Rattle.offset_calls.proofs.Common.{◌≡◌, map, take, drop, ◌++◌, start, after, replies, reply_view, Takes}
-use Rattle.offset_script.proofs.{Agreement.IsAtState, Simulation.IsBegun}
+use Rattle.offset_script.specs.Agreement.{IsAtState}
+use Rattle.offset_script.proofs.Simulation.{IsBegun}
 use Rattle.offset_calls.specs.Steps.{AreNumbers}
 use Rattle.offset_calls.proofs.playing.play_calls_of.Given as goal
 

@@ -1,6 +1,7 @@
 use Rattle.offset_script.proofs.Common.{◌≡◌, ◌+◌, ◌<◌, ◌∙◌, [], ◌∷◌, ◌++◌, length, take, map, refl, sym, ap, subst, arith, answers, start, after, Takes, AreStepsFromFresh, IsWellFormed, answer_view}
 use Rattle.offset_script.proofs.{Common.take_more, Common.take_all, Common.map-append, Common.Command, Simulation.fresh_represents, Simulation.steps_begin, Simulation.steps_go_on}
-use Rattle.offset_script.proofs.{Simulation.steps_end, Agreement.IsAtState, Asking.answers-append, Heard.shows, Heard.told, Nests.after-append, Well.well_start, Well.well_after}
+use Rattle.offset_script.specs.Agreement.{IsAtState}
+use Rattle.offset_script.proofs.{Simulation.steps_end, Asking.answers-append, Heard.shows, Heard.told, Nests.after-append, Well.well_start, Well.well_after}
 use Rattle.offset_script.proofs.playing.play_to.Goals as goal
 
 pub hear-requires : goal.hear-requires

@@ -1,4 +1,5 @@
-use Rattle.offset_script.proofs.{Common.take, Common.map, Common.answers, Common.after, Common.start, Common.Takes, Agreement.IsAtState, Simulation.IsBegun}
+use Rattle.offset_script.specs.Agreement.{IsAtState}
+use Rattle.offset_script.proofs.{Common.take, Common.map, Common.answers, Common.after, Common.start, Common.Takes, Simulation.IsBegun}
 use Rattle.offset_script.proofs.playing.play_to.Given as goal
 
 -- the space is at the state after the commands so far, their answers are of a run that may go on, and the listener has heard them

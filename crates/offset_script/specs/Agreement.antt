@@ -1,8 +1,9 @@
 -- When the named view of an allocator, with the handles kept for its grants, shows the blocks of a plain state.
-use Rattle.offset_script.proofs.Common.{◌≡◌, ℕ, ◌<◌, ◌≤◌, not, List, [], ◌∷◌, length, map, Option, Some, None, nat_eq, if◌then◌else◌, View, Handle, IsWellFormed, tally, times, bin_at, Tag, is_free}
-use Rattle.offset_script.proofs.Common.{has_number, stamp, State, kept_name}
-use Rattle.offset_allocator.specs.View.{Block}
+use Rattle.std.specs.Prelude.{◌≡◌, ℕ, ◌<◌, ◌≤◌, not, List, [], ◌∷◌, length, map, Option, Some, None, nat_eq, if◌then◌else◌}
+use Rattle.offset_allocator.specs.View.{Block, Handle, IsWellFormed, View, bin_at, tally, times}
+use Rattle.offset_script.specs.Machine.{State, Tag, has_number, is_free, stamp}
 use Rattle.offset_script.specs.Machine as machine
+use Rattle.offset_script.specs.Steps.{kept_name}
 
 -- a block with both its name and its tag
 pub record Label : Type 0 where
