@@ -1,9 +1,33 @@
 //! Many heaps, emptied: what is left after a level lies in many buffers. It is copied together, while a frame in flight reads the old
-//! ranges, and the buffers that are empty then are dropped.
+//! ranges, and the buffers that are empty then are dropped. Before each pass a copy of the heaps says what it would copy.
 
-use offset_allocator_heaps::{Global, Heaps, Limits, Place};
+use offset_allocator_heaps::{AllocError, Global, Granted, Heaps, Limits, Place};
 use std::collections::HashMap;
 use std::error::Error;
+
+/// Grants second ranges for what can leave the emptiest heap: each old place with its new one. Both are live.
+fn relocated(heaps: &mut Heaps) -> Vec<(Place, Granted)> {
+    let mut pairs = Vec::new();
+    let mut next = heaps.emptiest().and_then(|number| heaps.last_live(number));
+    while let Some(old) = next {
+        next = heaps.live_before(old);
+        if let Some(new) = heaps.relocate(old) {
+            pairs.push((old, new));
+        }
+    }
+    pairs
+}
+
+/// What a pass over the emptiest heap would copy, asked of a copy of the heaps: its number, the units, and whether it is
+/// empty then. `None` where no heap has live units.
+fn foretold(heaps: &Heaps) -> Result<Option<(u32, u64, bool)>, AllocError> {
+    let Some(number) = heaps.emptiest() else { return Ok(None) };
+    let mut trial = heaps.try_clone(Global)?;
+    let pairs = relocated(&mut trial);
+    let units = pairs.iter().filter_map(|(old, _)| trial.size_of(*old)).map(u64::from).sum();
+    let goes = pairs.iter().all(|(old, _)| trial.free(*old)) && trial.drop_heap(number);
+    Ok(Some((number, units, goes)))
+}
 
 /// What would be the buffers of a device: here they are memory.
 struct Store {
@@ -31,17 +55,13 @@ impl Store {
 
     /// Copies what it can out of the emptiest heap: each old place with its new one. Both are live.
     fn empty_one(&mut self) -> Vec<(Place, Place)> {
-        let mut copied = Vec::new();
-        let mut next = self.heaps.emptiest().and_then(|number| self.heaps.last_live(number));
-        while let Some(old) = next {
-            next = self.heaps.live_before(old);
-            let Some(new) = self.heaps.relocate(old) else { continue };
-            let bytes = self.bytes(old).expect("the old place is live").to_vec();
+        let pairs = relocated(&mut self.heaps);
+        for (old, new) in &pairs {
+            let bytes = self.bytes(*old).expect("the old place is live").to_vec();
             let buffer = self.buffers.get_mut(&new.place.heap).expect("no heap was made");
             buffer[new.offset as usize..][..bytes.len()].copy_from_slice(&bytes);
-            copied.push((old, new.place));
         }
-        copied
+        pairs.into_iter().map(|(old, new)| (old, new.place)).collect()
     }
 }
 
@@ -60,20 +80,18 @@ fn main() -> Result<(), Box<dyn Error>> {
         }
     }
 
-    loop {
+    // a pass that drops no buffer is not worth its copies
+    while let Some((number, units, true)) = foretold(&store.heaps)? {
         let copied = store.empty_one();
-        if copied.is_empty() {
-            break;
-        }
+        assert_eq!(copied.iter().filter_map(|(old, _)| store.heaps.size_of(*old)).map(u64::from).sum::<u64>(), units);
         for (old, new) in copied {
             let at = places.iter_mut().find(|place| **place == old).ok_or("a place that was kept")?;
             *at = new;
             // the frame that read the old range is over
             assert!(store.heaps.free(old));
         }
-        while let Some(number) = store.heaps.drop_empty(0) {
-            store.buffers.remove(&number);
-        }
+        assert!(store.heaps.drop_heap(number));
+        store.buffers.remove(&number);
     }
     assert_eq!(store.buffers.len(), 1);
     for (number, place) in places.iter().enumerate().step_by(5) {
