@@ -29,3 +29,5 @@ pub mod Budgeted
 pub mod Stepped
 pub mod Stepping
 pub mod Unbounded
+pub mod Walking
+pub mod Ways

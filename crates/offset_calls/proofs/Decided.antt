@@ -23,7 +23,7 @@ use Rattle.offset_allocator.specs.Moving.RoomBySteps.{MakesRoomBy, names_short}
 use Rattle.offset_allocator.specs.declared.moves.over_frames.Progress.{Progress}
 use Rattle.offset_allocator.proofs.Moving.Budgeted as budget
 use Rattle.offset_allocator.proofs.Moving.DecidedBudget.{within_decided}
-use Rattle.offset_allocator.proofs.Moving.DecidedRoomsBySteps.{least_by_decided, noted_by_decided}
+use Rattle.offset_allocator.proofs.{Moving.DecidedRooms.least_by_decided, Moving.DecidedRoomsBySteps.noted_by_decided}
 use Rattle.offset_allocator.proofs.Moving.RoomsBySteps.{slides_by_live}
 use Rattle.offset_allocator.proofs.{Moving.DecidedRooms.least_decided, Moving.DecidedRooms.noted_decided, Advice.one_reason, Holding.tight_one_reason}
 use Rattle.offset_allocator.proofs.{Moving.Packed.compacts_sizes, Moving.Packed.live_sizes, Moving.Rooms.slides_live}

@@ -13,4 +13,5 @@ pub(crate) mod relocate;
 pub(crate) mod retract;
 pub(crate) mod room;
 pub(crate) mod room_by_steps;
+pub(crate) mod runs;
 pub(crate) mod slide;

@@ -4,6 +4,8 @@ use Rattle.offset_allocator.proofs.{Views.ViewApart.right_false, Common.Move, Co
 use Rattle.offset_allocator.proofs.Common.{◌≡◌, ℕ, ◌≤◌, ◌⊎◌, Bool, true, false, not, List, [], ◌∷◌, ◌++◌, Option, Some, None, refl, sym, ap, ap₂, subst, ◌∙◌, inl, inr, arith, drop, sum, FoldsTo}
 use Rattle.offset_allocator.proofs.Common.{cases_lt, true≢false, Block, View, one, units, count_used, free_sizes, free_block, starts_free, ends_used, AreCoalesced, IsWellFormed, replace, live, moves}
 use Rattle.offset_allocator.specs.{Names.free_blocks, Relations.SameState, Moving.Room.IsAtMost, Moving.Room.IsLess, Moving.Room.IsLeastCost, Moving.Room.IsRun, Moving.Room.MakesRoom}
+use Rattle.offset_allocator.proofs.{Moving.OneStep.least_by_one}
+use Rattle.offset_allocator.specs.Moving.RoomBySteps.{IsLeastCostBy}
 use Rattle.offset_allocator.specs.{Moving.Room.SlidesRun, Moving.Room.cost_of}
 use Rattle.offset_allocator.specs.declared.moves.room.RoomCost.{RoomCost}
 
@@ -16,12 +18,15 @@ one_most c d (inr l) (inr m) =
     let ranges : c.ranges ≡ d.ranges = omega (arith, l.1, m.1) in
     ap₂ (λ (u r : ℕ). let k : RoomCost = record { units = u; ranges = r } in k) l.0 ranges
 
-pub least_decided : (want : ℕ) (bs : List Block) (c d : Option RoomCost) → IsLeastCost want bs c → IsLeastCost want bs d → c ≡ d
-least_decided want bs None None a b = refl
-least_decided want bs None (Some d) a b = absurd (omega (arith, b.0.2, a b.0.0 b.0.1))
-least_decided want bs (Some c) None a b = absurd (omega (arith, a.0.2, b a.0.0 a.0.1))
-least_decided want bs (Some c) (Some d) a b =
+pub least_by_decided : (s want short : ℕ) (bs : List Block) (c d : Option RoomCost) → IsLeastCostBy s want short bs c → IsLeastCostBy s want short bs d → c ≡ d
+least_by_decided s want short bs None None a b = refl
+least_by_decided s want short bs None (Some d) a b = absurd (a b.0.0 b.0.1 b.0.2)
+least_by_decided s want short bs (Some c) None a b = absurd (b a.0.0 a.0.1 a.0.2)
+least_by_decided s want short bs (Some c) (Some d) a b =
     ap Some (one_most c d (subst (IsAtMost c) (sym b.0.3) (a.1 b.0.0 b.0.1 b.0.2)) (subst (IsAtMost d) (sym a.0.3) (b.1 a.0.0 a.0.1 a.0.2)))
+
+pub least_decided : (want : ℕ) (bs : List Block) (c d : Option RoomCost) → IsLeastCost want bs c → IsLeastCost want bs d → c ≡ d
+least_decided want bs c d a b = least_by_decided 1 want 0 bs c d (least_by_one want bs c a) (least_by_one want bs d b)
 
 pub none_less : (c : RoomCost) → IsLess c c → ⊥
 none_less c (inl l) = omega (arith, l)

@@ -1,21 +1,14 @@
 -- What room costs by whole steps is one cost, and in the same state room is made by the same moves, which leave the same
 -- state.
 use Rattle.offset_allocator.proofs.{Decided.both_leave, Decided.both_stay, Decided.one_name}
-use Rattle.offset_allocator.proofs.Moving.DecidedRooms.{Notes, folds_same, one_most, one_run}
-use Rattle.offset_allocator.proofs.Common.{◌≡◌, ℕ, List, [], ◌∷◌, ◌++◌, Option, Some, None, refl, sym, ap, ap₂, subst, ◌∙◌, inl, inr, arith, length, FoldsTo}
+use Rattle.offset_allocator.proofs.Moving.DecidedRooms.{Notes, folds_same, least_by_decided, one_run}
+use Rattle.offset_allocator.proofs.Common.{◌≡◌, ℕ, List, [], ◌∷◌, ◌++◌, Option, Some, None, sym, ap, ap₂, subst, ◌∙◌, inl, inr, arith, length, FoldsTo}
 use Rattle.offset_allocator.proofs.Common.{cases_lt, Block, View, units, free_block, replace, IsWellFormed, Move}
 use Rattle.offset_allocator.specs.Moving.BySteps.{given_up, moves_by, stepped, used_up}
-use Rattle.offset_allocator.specs.Moving.Room.{IsAtMost, cost_of}
+use Rattle.offset_allocator.specs.Moving.Room.{cost_of}
 use Rattle.offset_allocator.specs.Moving.RoomBySteps.{IsLeastCostBy, MakesRoomBy, Serves, SlidesRunBy, names_short}
 use Rattle.offset_allocator.specs.{Names.names_of, Relations.SameState}
 use Rattle.offset_allocator.specs.declared.moves.room.RoomCost.{RoomCost}
-
-pub least_by_decided : (s want short : ℕ) (bs : List Block) (c d : Option RoomCost) → IsLeastCostBy s want short bs c → IsLeastCostBy s want short bs d → c ≡ d
-least_by_decided s want short bs None None a b = refl
-least_by_decided s want short bs None (Some d) a b = absurd (a b.0.0 b.0.1 b.0.2)
-least_by_decided s want short bs (Some c) None a b = absurd (b a.0.0 a.0.1 a.0.2)
-least_by_decided s want short bs (Some c) (Some d) a b =
-    ap Some (one_most c d (subst (IsAtMost c) (sym b.0.3) (a.1 b.0.0 b.0.1 b.0.2)) (subst (IsAtMost d) (sym a.0.3) (b.1 a.0.0 a.0.1 a.0.2)))
 
 module _ (s want short : ℕ) (v : View) (known : IsWellFormed v) (a : ℕ) (w w' : View) (f : SlidesRunBy s want short v w) (k : SlidesRunBy s want short (record v { accesses = a }) w')
     (same : cost_of f.run ≡ cost_of k.run) where

@@ -2,9 +2,10 @@
 use Rattle.offset_allocator.proofs.{Joints.free_units-free, Joints.free_units-used, Tallies.free_sum, Tallies.free_units, Moving.Compacting.free_here, Moving.Compacting.free_past}
 use Rattle.offset_allocator.proofs.Moving.Sliding.{live_used, live_idle, moves_used, moves_idle}
 use Rattle.offset_allocator.proofs.Moving.Stepping.{stepped_used, stepped_free, given_used, given_free, emptied_used, emptied_free, moves_by_used, moves_by_free}
-use Rattle.offset_allocator.proofs.Common.{◌≡◌, ◌≢◌, ℕ, ◌+◌, ◌%◌, Bool, true, false, Some, None, Option, List, [], ◌∷◌, ◌++◌, refl, sym, ap, ◌∙◌, arith, sum, Block, first_or, free_block, free_part, free_sizes, live, moves, move_of}
+use Rattle.offset_allocator.proofs.Common.{◌≡◌, ◌≢◌, ℕ, ◌+◌, ◌%◌, ◌≤◌, Bool, true, false, Some, None, Option, List, [], ◌∷◌, ◌++◌, refl, sym, ap, ◌∙◌, inl, inr, cases_lt, arith, sum, Block, first_or, free_block, free_part, free_sizes, live, moves, move_of}
 use Rattle.offset_allocator.specs.Moving.BySteps.{kept, stepped, given_up, used_up, moves_by}
-use Rattle.offset_allocator.specs.{Names.free_blocks}
+use Rattle.offset_allocator.specs.{Moving.Room.IsLeastCost, Moving.RoomBySteps.IsLeastCostBy, Moving.RoomBySteps.Serves, Names.free_blocks}
+use Rattle.offset_allocator.specs.declared.moves.room.RoomCost.{RoomCost}
 use Rattle.std.proofs.Math.Nat.{mod-one}
 
 pub kept_one : (n : ℕ) (bs : List Block) → kept 1 n bs ≡ 0
@@ -29,6 +30,18 @@ given_units (b ∷ bs) = go b.used refl (given_units bs)
 
 pub given_one : (bs : List Block) → given_up 1 bs ≡ sum (free_sizes bs)
 given_one bs = omega (arith, given_units bs, free_sum bs)
+
+pub serves_one : (want : ℕ) (run : List Block) → want ≤ sum (free_sizes run) → Serves 1 want 0 run
+serves_one want run l = record { units = omega (arith, l, given_one run); names = omega arith }
+
+-- and the least costs are the same
+pub least_one : (want : ℕ) (bs : List Block) (c : Option RoomCost) → IsLeastCostBy 1 want 0 bs c → IsLeastCost want bs c
+least_one want bs None h = λ run r. elim (cases_lt (sum (free_sizes run)) want) [ inl l ↦ l | inr l ↦ absurd (h run r (serves_one want run l)) ]
+least_one want bs (Some c) h = ((h.0.0, h.0.1, omega (arith, h.0.2.units, given_one h.0.0), h.0.3), λ run r l. h.1 run r (serves_one want run l))
+
+pub least_by_one : (want : ℕ) (bs : List Block) (c : Option RoomCost) → IsLeastCost want bs c → IsLeastCostBy 1 want 0 bs c
+least_by_one want bs None h = λ run r l. omega (arith, h run r, l.units, given_one run)
+least_by_one want bs (Some c) h = ((h.0.0, h.0.1, serves_one want h.0.0 h.0.2, h.0.3), λ run r l. h.1 run r (omega (arith, l.units, given_one run)))
 
 pub used_up_one : (bs : List Block) → used_up 1 bs ≡ free_blocks bs
 used_up_one [] = refl

@@ -1,38 +1,22 @@
 -- What has to move for a request, beside the reason of its refusal.
-use Rattle.offset_allocator.proofs.{Advice.none_free, Advice.free_within, Taken.HasFit, Taken.fitting, Classes.value_rises, Classes.value_grows, Classes.value_down}
+use Rattle.offset_allocator.proofs.{Advice.none_free, Advice.free_within, Taken.HasFit, Classes.value_rises}
 use Rattle.offset_allocator.proofs.{Views.ViewApart.apart_parts, Tallies.free_units, Tallies.free_sum}
 use Rattle.offset_allocator.proofs.{Joints.free_units-append, Joints.free_units-used, Moving.Compacting.AreUsed, Moving.Compacting.IsFirst}
-use Rattle.offset_allocator.proofs.{Moving.Compacting.first_is, Moving.Runs.single_run, Moving.Runs.run_some, Moving.Runs.run_within}
-use Rattle.offset_allocator.proofs.Common.{◌≡◌, ℕ, ◌≤◌, ◌⊎◌, Bool, true, false, not, Option, Some, None, List, [], ◌∷◌, ◌++◌, sum, if◌then◌else◌, refl, sym, ap, ap₂, subst, ◌∙◌, arith}
+use Rattle.offset_allocator.proofs.{Moving.Compacting.first_is, Moving.Runs.run_some, Moving.Runs.run_within}
+use Rattle.offset_allocator.proofs.Common.{◌≡◌, ℕ, ◌≤◌, ◌⊎◌, Bool, true, false, not, Option, Some, None, List, [], ◌∷◌, ◌++◌, sum, if◌then◌else◌, refl, sym, ap, subst, ◌∙◌, arith}
 use Rattle.offset_allocator.proofs.Common.{inl, inr, eq-zero-or-pos, true≢false, not-true, Block, View, IsWellFormed, AreCoalesced, CanGrant, IsWhy, free_sizes, ends_used, count_used}
-use Rattle.offset_allocator.proofs.Common.{value, up, down, first_free}
-use Rattle.offset_allocator.proofs.{Common.AdmitsBlocks, Common.length, Common.◌↔◌, Moving.DecidedRoomsBySteps.least_by_decided, Moving.Runs.apart_few, Moving.RoomsBySteps.fit_of, Moving.RoomsBySteps.found_by}
+use Rattle.offset_allocator.proofs.Common.{value, up, first_free}
+use Rattle.offset_allocator.proofs.{Common.AdmitsBlocks, Common.length, Common.◌↔◌, Moving.DecidedRooms.least_by_decided, Moving.Runs.apart_few, Moving.RoomsBySteps.fit_of, Moving.RoomsBySteps.found_alone, Moving.RoomsBySteps.found_by}
 use Rattle.offset_allocator.proofs.{Moving.Stepping.emptied_free, Moving.Stepping.given_free}
 use Rattle.offset_allocator.specs.Moving.RoomBySteps.{IsLeastCostBy, Serves, names_short}
-use Rattle.offset_allocator.specs.Moving.Room.{IsRun, IsAtMost, IsLeastCost, ranges_of}
+use Rattle.offset_allocator.specs.Moving.Room.{IsRun, IsLeastCost, ranges_of}
 use Rattle.offset_allocator.specs.declared.reports.Refusal.TheVariants.{TooLarge, Space, Fragmented}
-use Rattle.offset_allocator.proofs.{Moving.OneStep.given_one, Moving.Rooms.last_used_up, Moving.RoomsBySteps.short_few}
+use Rattle.offset_allocator.proofs.{Moving.OneStep.given_one, Moving.OneStep.least_by_one, Moving.Rooms.last_used_up, Moving.RoomsBySteps.short_few}
 use Rattle.offset_allocator.specs.declared.moves.room.RoomCost.{RoomCost}
 
 -- nothing has to move where a free block is large enough
 pub granted_moves_none : (v : View) → IsWellFormed v → (n : ℕ) (c : Option RoomCost) → CanGrant 1 n v → IsLeastCost (value (up n)) v.blocks c → c ≡ Some (record { units = 0; ranges = 0 })
-granted_moves_none v w n c g h = go c h
-  where
-    zero : RoomCost
-    zero = record { units = 0; ranges = 0 }
-
-    one_block : IsLeastCost (value (up n)) v.blocks (Some zero)
-    one_block =
-        let p = fitting n v w g.1 in
-        single_run (value (up n)) v.blocks p.0.before p.0.after p.0.block p.1 p.2 (omega (arith, value_grows (up n) (down p.0.block.size) p.3, value_down p.0.block.size))
-
-    least : (d : RoomCost) → IsAtMost d zero → d ≡ zero
-    least d (inl l) = absurd (omega (arith, l))
-    least d (inr l) = let r : d.ranges ≡ 0 = omega (arith, l.1) in ap₂ (λ (a b : ℕ). record { units = a; ranges = b }) l.0 r
-
-    go : (c : Option RoomCost) → IsLeastCost (value (up n)) v.blocks c → c ≡ Some zero
-    go None h = absurd (let k = h one_block.0.0 one_block.0.1 in omega (arith, k, one_block.0.2))
-    go (Some d) h = ap (λ x. Some x) (least d (subst (IsAtMost d) (sym one_block.0.3) (h.1 one_block.0.0 one_block.0.1 one_block.0.2)))
+granted_moves_none v w n c g h = least_by_decided 1 (value (up n)) 0 v.blocks c _ (least_by_one (value (up n)) v.blocks c h) (found_alone 1 0 n v w (omega arith) g.1)
 
 -- no run is enough where all free units are not
 module _ (v : View) (w : IsWellFormed v) (n : ℕ) where

@@ -1,28 +1,19 @@
 -- The whole allocator after a run has slid to its front: one of enough free units is one that serves by steps of one unit.
-use Rattle.offset_allocator.proofs.{Advice.free_within, Filing.Filed.filed_in, Linking.Places.at_place, Common.IsAmong, Common.Node, Common.ap₂, Common.bin_at, Common.node, Refusals.total_is, Sound.AreSound, Sound.Fields, Sound.known_sound, Sound.shown, Sound.well_counted}
+use Rattle.offset_allocator.proofs.{Filing.Filed.filed_in, Linking.Places.at_place, Common.IsAmong, Common.Node, Common.ap₂, Common.bin_at, Common.node, Sound.AreSound, Sound.Fields, Sound.known_sound, Sound.shown, Sound.well_counted}
 use Rattle.offset_allocator.proofs.Moving.Compacting.{free_here}
 use Rattle.offset_allocator.proofs.Moving.Gathered.{gathered_absent, gathered_below, gathered_is, gathered_steps}
-use Rattle.offset_allocator.proofs.Moving.OneStep.{given_one, moves_one, used_up_one}
-use Rattle.offset_allocator.proofs.Moving.RoomsBySteps.{IsOpenedBy, opened_at, opened_back, opened_filed, opened_by, opened_grants}
-use Rattle.offset_allocator.proofs.{Moving.Stepped.stays_live, Moving.Packed.live_sizes, Moving.Runs.cheapest_cost, Moving.Runs.want_is, Moving.Sliding.moves_idle, Moving.Stepping.emptied_free}
-use Rattle.offset_allocator.proofs.Common.{◌≡◌, ◌≢◌, ℕ, ◌+◌, ◌%◌, ◌^◌, ◌≤◌, Bool, false, not, ◌&&◌, nat_eq, Some, None, List, [], ◌∷◌, ◌++◌, length, sum, if◌then◌else◌, refl, sym, ap, subst, ◌∙◌, arith, length-append}
-use Rattle.offset_allocator.proofs.Common.{AreInBins, Block, CanGrant, Cells, FoldsTo, HasPlace, IsBinned, IsWellFormed, KeepsSizes, Move, SameSpace, View, bins_in, blocks, count_used, down, drop, ends_used, first_free, free_block, free_sizes, last_or}
+use Rattle.offset_allocator.proofs.Moving.OneStep.{given_one, moves_one, serves_one, used_up_one}
+use Rattle.offset_allocator.proofs.Moving.RoomsBySteps.{IsOpenedBy, opened_at, opened_back, opened_filed, opened_grants}
+use Rattle.offset_allocator.proofs.{Moving.Stepped.stays_live, Moving.Packed.live_sizes, Moving.Sliding.moves_idle, Moving.Stepping.emptied_free}
+use Rattle.offset_allocator.proofs.Common.{◌≡◌, ◌≢◌, ℕ, ◌+◌, ◌≤◌, Bool, false, not, ◌&&◌, nat_eq, Some, None, List, [], ◌∷◌, ◌++◌, length, if◌then◌else◌, refl, sym, ap, subst, ◌∙◌, arith, length-append}
+use Rattle.offset_allocator.proofs.Common.{AreInBins, Block, CanGrant, Cells, FoldsTo, HasPlace, IsBinned, IsWellFormed, KeepsSizes, Move, SameSpace, View, bins_in, blocks, count_used, down, drop, ends_used, first_free, free_block, last_or}
 use Rattle.offset_allocator.proofs.Common.{live, moves, one, push, push_all, remove, remove_all, replace, take, units, up, value}
 use Rattle.offset_allocator.specs.Moving.BySteps.{given_up, kept, moves_by, stepped, used_up}
-use Rattle.offset_allocator.specs.Moving.Room.{IsCheapest, IsLeastCost, IsLess, MakesRoom, SlidesRun, cost_of}
-use Rattle.offset_allocator.specs.Moving.RoomBySteps.{IsCheapestBy, Serves, names_short}
+use Rattle.offset_allocator.specs.Moving.Room.{IsLess, MakesRoom, SlidesRun, cost_of}
+use Rattle.offset_allocator.specs.Moving.RoomBySteps.{names_short}
 use Rattle.offset_allocator.specs.{Names.names_of}
 use Rattle.offset_allocator.specs.declared.moves.room.RoomCost.{RoomCost}
-use Rattle.offset_allocator.specs.declared.moves.room.Run.{Run}
-
-serves_one : (want : ℕ) (run : List Block) → want ≤ sum (free_sizes run) → Serves 1 want 0 run
-serves_one want run l = record { units = omega (arith, l, given_one run); names = omega arith }
-
-cheapest_one : (want : ℕ) (bs : List Block) (r : Run) → IsCheapest want bs (Some r) → IsCheapestBy 1 want 0 bs (Some r)
-cheapest_one want bs r h = (
-  (h.0.0, h.0.1, serves_one want h.0.0 h.0.2, h.0.3, h.0.4, h.0.5, λ run q k. h.0.6 run q (omega (arith, k.units, given_one run))),
-  λ run q k. h.1 run q (omega (arith, k.units, given_one run)),
-)
+use Rattle.offset_allocator.specs.declared.moves.runs.Run.{Run}
 
 -- the last block of a run is free, and so used up; and so is the first one
 pub last_used_up : (b : Block) (bs : List Block) → ends_used (b ∷ bs) ≡ false → 1 ≤ length (used_up 1 (b ∷ bs))
@@ -145,21 +136,3 @@ module _ (f : Fields) (s : AreSound f) (want : ℕ) (r : Run) (o : IsOpenedBy 1 
           subst (λ (y : View). KeepsSizes y u) e (live_sizes v u (known_sound f s v refl).0 well same),
           opened_grants f s 1 want (names_short 1 v) r opened 1 refl x u well both.1 size wanted,
         )
-
--- what the search has found
-module _ (f : Fields) (s : AreSound f) (v : View) (e : shown f ≡ v) (w : IsWellFormed v) (n k d want : ℕ) (r : Run) (up_is : k ≡ up n) (down_is : d ≡ down f.free) (l : k ≤ d)
-    (want_value : want ≡ value k % 2 ^ 32) (h : IsCheapest want (blocks f.cells.chain f.last) (Some r)) where
-  reported_free : f.free ≡ sum (free_sizes v.blocks)
-  reported_free = total_is f s 0 0 ∙ ap (λ (u : View). sum (free_sizes u.blocks)) e
-
-  want_found : want ≡ value (up n)
-  want_found = want_is n k d f.free want (omega (arith, reported_free, free_within v w, w.fits)) up_is down_is l want_value
-
-  pub found_cost : IsLeastCost (value (up n)) v.blocks (Some r.cost)
-  found_cost =
-      let P : View → Type 0 = λ u. IsLeastCost want u.blocks (Some r.cost) in
-      subst (λ m. IsLeastCost m v.blocks (Some r.cost)) want_found (subst P e (cheapest_cost want (blocks f.cells.chain f.last) r h))
-
-  pub found_run : IsOpenedBy 1 (value (up n)) 0 (blocks f.cells.chain f.last) r
-  found_run = opened_by 1 (value (up n)) 0 (blocks f.cells.chain f.last) r
-      (cheapest_one (value (up n)) (blocks f.cells.chain f.last) r (subst (λ m. IsCheapest m (blocks f.cells.chain f.last) (Some r)) want_found h))

@@ -12,10 +12,11 @@ use Rattle.offset_allocator.proofs.Common.{count_used, free_block, free_sizes, s
 use Rattle.offset_allocator.specs.Moving.BySteps.{stepped, given_up, used_up, moves_by}
 use Rattle.offset_allocator.specs.Moving.Compacting.{Move}
 use Rattle.offset_allocator.specs.Moving.Room.{IsRun, IsAtMost, cost_of}
+use Rattle.offset_allocator.specs.Moving.Spans.{HasNoneAlone}
 use Rattle.offset_allocator.specs.Moving.RoomBySteps.{CostMoreBy, IsCheapestBy, IsLeastCostBy, MakesRoomBy, Serves, SlidesRunBy, names_short}
 use Rattle.offset_allocator.specs.{Names.IsTaken, Names.names_of}
 use Rattle.offset_allocator.specs.declared.moves.room.RoomCost.{RoomCost}
-use Rattle.offset_allocator.specs.declared.moves.room.Run.{Run}
+use Rattle.offset_allocator.specs.declared.moves.runs.Run.{Run}
 
 -- ---- what serves
 -- a run gives up no more than its free units
@@ -42,8 +43,8 @@ pub short_few : (k : ℕ) (v : View) → AdmitsBlocks k v → names_short k v �
 short_few k v room = omega (arith, room)
 
 -- a bin that is found has a block that serves
-pub found_by : (s k n : ℕ) (v : View) → IsWellFormed v → AdmitsBlocks k v → HasFit n v → IsLeastCostBy s (value (up n)) (names_short k v) v.blocks (Some (record { units = 0; ranges = 0 }))
-found_by s k n v w room h =
+pub found_alone : (s short n : ℕ) (v : View) → IsWellFormed v → short ≤ 1 → HasFit n v → IsLeastCostBy s (value (up n)) short v.blocks (Some (record { units = 0; ranges = 0 }))
+found_alone s short n v w few h =
     let p = fitting n v w h in
     let b = p.0.block in
     let zero : RoomCost = record { units = 0; ranges = 0 } in
@@ -51,7 +52,7 @@ found_by s k n v w room h =
       (
         b ∷ [],
         record { front = p.0.before; back = p.0.after; is = p.1; begins = ap not p.2; ends = p.2 },
-        alone_serves s (value (up n)) (names_short k v) b p.2 (omega (arith, value_grows (up n) (down b.size) p.3, value_down b.size)) (short_few k v room),
+        alone_serves s (value (up n)) short b p.2 (omega (arith, value_grows (up n) (down b.size) p.3, value_down b.size)) few,
         empty,
       ),
       λ run r h. at_least run,
@@ -62,6 +63,9 @@ found_by s k n v w room h =
 
     at_least : (run : List Block) → IsAtMost (record { units = 0; ranges = 0 }) (cost_of run)
     at_least run = elim (cases_lt 0 (used_units run)) [ inl k ↦ inl k | inr k ↦ inr (omega (arith, k), omega arith) ]
+
+pub found_by : (s k n : ℕ) (v : View) → IsWellFormed v → AdmitsBlocks k v → HasFit n v → IsLeastCostBy s (value (up n)) (names_short k v) v.blocks (Some (record { units = 0; ranges = 0 }))
+found_by s k n v w room h = found_alone s (names_short k v) n v w (short_few k v room) h
 
 -- a free block that is large enough is in a bin of such a class
 pub fit_of : (v : View) → IsWellFormed v → (before : List Block) (b : Block) (after : List Block) → v.blocks ≡ before ++ b ∷ after → b.used ≡ false → (n : ℕ) → value (up n) ≤ b.size → HasFit n v
@@ -230,26 +234,30 @@ module _ (f : Fields) (s : AreSound f) (v : View) (e : shown f ≡ v) (w : IsWel
   pub class_want : (want : ℕ) → c ≤ d → want ≡ value c % 2 ^ 32 → want ≡ value (up n)
   class_want want l is = want_is n c d f.free want (omega (arith, all_free, free_within v w, w.fits)) up_is down_is l is
 
+  -- so where no block fits none is enough alone
+  pub class_alone : (want short : ℕ) → c ≤ d → want ≡ value c % 2 ^ 32 → (short ≤ 1 → HasFit n v → ⊥) → HasNoneAlone want short (blocks f.cells.chain f.last)
+  class_alone want short l is none before after b split free enough few = none few (fit_of v w before b after (ap (λ (u : View). u.blocks) (sym e) ∙ split) free n (omega (arith, enough, class_want want l is)))
+
   -- what the search has found
-  module _ (t k want short : ℕ) (l : c ≤ d) (want_is : want ≡ value c % 2 ^ 32) (short_is : short ≡ names_short k v) where
-    asked : (r : Option Run) → IsCheapestBy t want short (blocks f.cells.chain f.last) r → IsCheapestBy t (value (up n)) (names_short k v) (blocks f.cells.chain f.last) r
+  module _ (t few want short : ℕ) (l : c ≤ d) (want_is : want ≡ value c % 2 ^ 32) (short_is : short ≡ few) where
+    asked : (r : Option Run) → IsCheapestBy t want short (blocks f.cells.chain f.last) r → IsCheapestBy t (value (up n)) few (blocks f.cells.chain f.last) r
     asked r h = subst (λ i. IsCheapestBy t (value (up n)) i (blocks f.cells.chain f.last) r) short_is
         (subst (λ i. IsCheapestBy t i short (blocks f.cells.chain f.last) r) (class_want want l want_is) h)
 
-    seen : (c : Option RoomCost) → IsLeastCostBy t (value (up n)) (names_short k v) (blocks f.cells.chain f.last) c → IsLeastCostBy t (value (up n)) (names_short k v) v.blocks c
-    seen c h = let P : View → Type 0 = λ u. IsLeastCostBy t (value (up n)) (names_short k v) u.blocks c in subst P e h
+    seen : (c : Option RoomCost) → IsLeastCostBy t (value (up n)) few (blocks f.cells.chain f.last) c → IsLeastCostBy t (value (up n)) few v.blocks c
+    seen c h = let P : View → Type 0 = λ u. IsLeastCostBy t (value (up n)) few u.blocks c in subst P e h
 
-    pub found_none : IsCheapestBy t want short (blocks f.cells.chain f.last) None → IsLeastCostBy t (value (up n)) (names_short k v) v.blocks None
+    pub found_none : IsCheapestBy t want short (blocks f.cells.chain f.last) None → IsLeastCostBy t (value (up n)) few v.blocks None
     found_none h = seen None (asked None h)
 
-    pub found_cost : (r : Run) → IsCheapestBy t want short (blocks f.cells.chain f.last) (Some r) → IsLeastCostBy t (value (up n)) (names_short k v) v.blocks (Some r.cost)
-    found_cost r h = seen (Some r.cost) (cheapest_least t (value (up n)) (names_short k v) (blocks f.cells.chain f.last) r (asked (Some r) h))
+    pub found_cost : (r : Run) → IsCheapestBy t want short (blocks f.cells.chain f.last) (Some r) → IsLeastCostBy t (value (up n)) few v.blocks (Some r.cost)
+    found_cost r h = seen (Some r.cost) (cheapest_least t (value (up n)) few (blocks f.cells.chain f.last) r (asked (Some r) h))
 
-    pub found_run : (r : Run) → IsCheapestBy t want short (blocks f.cells.chain f.last) (Some r) → IsOpenedBy t (value (up n)) (names_short k v) (blocks f.cells.chain f.last) r
-    found_run r h = opened_by t (value (up n)) (names_short k v) (blocks f.cells.chain f.last) r (asked (Some r) h)
+    pub found_run : (r : Run) → IsCheapestBy t want short (blocks f.cells.chain f.last) (Some r) → IsOpenedBy t (value (up n)) few (blocks f.cells.chain f.last) r
+    found_run r h = opened_by t (value (up n)) few (blocks f.cells.chain f.last) r (asked (Some r) h)
 
     pub found_both : (r : Run) → IsCheapestBy t want short (blocks f.cells.chain f.last) (Some r)
-        → IsLeastCostBy t (value (up n)) (names_short k v) v.blocks (Some r.cost) × IsOpenedBy t (value (up n)) (names_short k v) (blocks f.cells.chain f.last) r
+        → IsLeastCostBy t (value (up n)) few v.blocks (Some r.cost) × IsOpenedBy t (value (up n)) few (blocks f.cells.chain f.last) r
     found_both r h = (found_cost r h, found_run r h)
 
 -- ---- the slide of the run that was found

@@ -1,9 +1,6 @@
 -- Runs of neighbouring blocks, and what it costs to make one free block of all free units of a run.
-use Rattle.std.specs.Prelude.{◌≡◌, ℕ, ◌+◌, ◌<◌, ◌≤◌, ◌⊎◌, true, false, if◌then◌else◌, List, [], ◌∷◌, ◌++◌, Option, Some, None, drop, sum}
+use Rattle.std.specs.Prelude.{◌≡◌, ℕ, ◌<◌, ◌≤◌, ◌⊎◌, true, false, List, [], ◌∷◌, ◌++◌, Option, Some, None, drop, sum}
 use Rattle.offset_allocator.specs.declared.moves.room.RoomCost.{RoomCost}
-use Rattle.offset_allocator.specs.declared.moves.room.Run.{Run}
-use Rattle.offset_allocator.specs.declared.moves.room.Window.{Window}
-use Rattle.offset_allocator.specs.Chain.{first_or, last_or}
 use Rattle.offset_allocator.specs.View.{View, Block, count_named, ends_used, free_block, free_sizes, replace, starts_free, units, count_used, used_units}
 use Rattle.offset_allocator.specs.Moving.Compacting.{Move, first_free, live, moves}
 use Rattle.offset_allocator.specs.Names.{Renames, free_blocks}
@@ -74,38 +71,3 @@ MakesRoom R want v f (Some c) w g =
     (c.ranges ≡ 0 → SameState v w × (g ≡ f))
     × (1 ≤ c.ranges → (s : SlidesRun want v w) × (c ≡ cost_of s.run)
     × FoldsTo R f (moves (units s.front) (units s.front) s.run) g)
-
--- the last of the cheapest runs with at least `want` free units: the names of its first and last block, and its cost;
--- or nothing, where there is no such run
-abbrev pub IsCheapest : ℕ → List Block → Option Run → Type 0
-IsCheapest want bs None = (run : List Block) → IsRun run bs → sum (free_sizes run) < want
-IsCheapest want bs (Some r) =
-    ((run : List Block) × (k : IsRun run bs) × (want ≤ sum (free_sizes run)) × (r.cost ≡ cost_of run)
-    × (first_or None run ≡ Some r.first) × (last_or None run ≡ Some r.end)
-    × CostMore want r.cost (drop 1 (run ++ k.back)))
-    × ((run : List Block) → IsRun run bs → want ≤ sum (free_sizes run) → IsAtMost r.cost (cost_of run))
-
--- the last block of a window
-abbrev pub end_of : Window → Block
-end_of w = record { name = w.end; size = w.end_size; used = w.end_used }
-
--- its free units
-abbrev pub end_room : Window → ℕ
-end_room w = if w.end_used then 0 else w.end_size
-
--- blocks that end in this one, in numbers: their free units, their live units, and how many are live
-pub record IsWindow (w : Window) (bs : List Block) : Type 0 where
-  pub front : List Block
-  pub is : bs ≡ front ++ end_of w ∷ []
-  pub room : w.room ≡ sum (free_sizes bs)
-  pub units : w.units ≡ used_units bs
-  pub ranges : w.ranges ≡ count_used bs
-
--- the first of these blocks, with at least `want` free units, and fewer without the last one
-pub record IsShortened (want : ℕ) (w : Window) (bs : List Block) : Type 0 where
-  pub left : List Block
-  pub gone : List Block
-  pub is : bs ≡ left ++ gone
-  pub window : IsWindow w left
-  pub serves : want ≤ w.room
-  pub tight : w.room < want + end_room w

@@ -2,7 +2,7 @@
 use Rattle.std.specs.Prelude.{◌≡◌, ℕ, ◌+◌, ◌-◌, ◌≤◌, true, false, List, [], ◌∷◌, ◌++◌, Option, Some, None, drop, length}
 use Rattle.std.specs.List.{FoldsTo}
 use Rattle.offset_allocator.specs.declared.moves.room.RoomCost.{RoomCost}
-use Rattle.offset_allocator.specs.declared.moves.room.Run.{Run}
+use Rattle.offset_allocator.specs.declared.moves.runs.Run.{Run}
 use Rattle.offset_allocator.specs.Chain.{first_or, last_or}
 use Rattle.offset_allocator.specs.Moving.BySteps.{given_up, moves_by, stepped, used_up}
 use Rattle.offset_allocator.specs.Moving.Compacting.{Move}

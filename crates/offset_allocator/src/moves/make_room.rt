@@ -8,8 +8,8 @@ ghost use Rattle.offset_allocator.specs.Moving.Compacting.{IsCalledWith, KeepsSi
 ghost use Rattle.offset_allocator.specs.Classes.{up, value};
 ghost use Rattle.offset_allocator.specs.Moving.Room.{IsLeastCost, MakesRoom, ranges_of};
 
-use crate::moves::room::{RoomCost, cheapest};
-use crate::moves::room_by_steps::cheapest_by;
+use crate::moves::room::RoomCost;
+use crate::moves::runs::{cheapest, cheapest_by};
 use crate::moves::slide::{slide_run, to_front};
 use crate::small_float::{float_to_uint, uint_to_float_round_down, uint_to_float_round_up};
 use crate::tables::Tables;

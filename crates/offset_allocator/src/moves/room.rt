@@ -1,18 +1,15 @@
 //! What has to move at least to make room for a request, where the ranges of some neighbouring blocks slide
 //! together. It reads the tables, and changes nothing.
-ghost use Rattle.std.specs.Prelude.{◌≡◌, ◌≤◌, ◌<◌, ◌+◌, ◌*◌, ◌^◌, ◌⊎◌, ℕ, List, [], ◌∷◌, ◌++◌, Some, IfSome};
-ghost use Rattle.std.specs.Prelude.{length};
+ghost use Rattle.std.specs.Prelude.{◌+◌, ◌*◌, length};
 ghost use Rattle.offset_allocator.specs.Accesses.{Costs};
-ghost use Rattle.offset_allocator.specs.Chain.{IsSpace, blocks};
 ghost use Rattle.offset_allocator.specs.Classes.{value, up};
-ghost use Rattle.offset_allocator.specs.Moving.Room.{IsAtMost, IsCheapest, IsLeastCost, IsLess, IsShortened};
-ghost use Rattle.offset_allocator.specs.Moving.Room.{IsWindow, end_of, end_room};
-ghost use Rattle.offset_allocator.specs.View.{Block, units};
+ghost use Rattle.offset_allocator.specs.Moving.Room.{IsLeastCost};
 
 use crate::accesses::Accesses;
+use crate::moves::runs::cheapest;
 use crate::small_float::{float_to_uint, uint_to_float_round_down, uint_to_float_round_up};
 use crate::tables::Tables;
-use crate::{AllocatorOf, bins, chain};
+use crate::{AllocatorOf, bins};
 
 /// What has to move at least, so that a request finds its block.
 #[derive(Clone, Copy, PartialEq, Debug)]
@@ -21,190 +18,6 @@ pub struct RoomCost {
     pub units: u32,
     /// How many ranges move, those of no units too.
     pub ranges: u32,
-}
-
-// Neighbouring blocks, in numbers: the last one, the free units, the live units, and how many are live.
-#[derive(Clone, Copy)]
-struct Window {
-    end: u32,
-    end_size: u32,
-    end_used: bool,
-    room: u32,
-    units: u32,
-    ranges: u32,
-}
-
-impl Window {
-    // A block alone.
-    fn alone(name: u32, size: u32, used: bool) -> Self
-        ensures { (b : Block) → b ≡ record { name = name; size = size; used = used }
-            → IsWindow result (b ∷ []) }
-    {
-        Window {
-            end: name,
-            end_size: size,
-            end_used: used,
-            room: if used { 0 } else { size },
-            units: if used { size } else { 0 },
-            ranges: if used { 1 } else { 0 },
-        }
-    }
-
-    // With one more block at its start.
-    fn and_before(self, size: u32, used: bool) -> Self
-        requires fits { (bs : List Block) × IsWindow self bs × (units bs + size < 2 ^ 32)
-            × (length bs + 1 < 2 ^ 32) }
-        ensures window { (b : Block) (bs : List Block) → b.size ≡ size → b.used ≡ used → IsWindow self bs
-            → IsWindow result (b ∷ bs) }
-    {
-        if used {
-            Window {
-                units: self.units + size,
-                ranges: self.ranges + 1,
-                ..self
-            }
-        } else {
-            Window {
-                room: self.room + size,
-                ..self
-            }
-        }
-    }
-
-    // The free units of its last block.
-    fn end_room(self) -> u32
-        ensures { result ≡ end_room self }
-    {
-        if self.end_used { 0 } else { self.end_size }
-    }
-
-    // Without its last block, before which there is one of this name, size and use.
-    fn without_end(self, name: u32, size: u32, used: bool) -> Self
-        requires window { (bs : List Block) × IsWindow self bs }
-        ensures window { (b : Block) (bs cs : List Block) → b
-            ≡ record { name = name; size = size; used = used }
-            → IsWindow self bs → bs ≡ (cs ++ b ∷ []) ++ end_of self ∷ []
-            → IsWindow result (cs ++ b ∷ []) }
-        ensures room { result.room + end_room self ≡ self.room }
-    {
-        let (room, units, ranges) = if self.end_used {
-            (self.room, self.units - self.end_size, self.ranges - 1)
-        } else {
-            (self.room - self.end_size, self.units, self.ranges)
-        };
-        Window {
-            end: name,
-            end_size: size,
-            end_used: used,
-            room,
-            units,
-            ranges,
-        }
-    }
-}
-
-// A run of blocks, from a free one to a free one: the names of both, and what it costs to slide it together.
-#[derive(Clone, Copy)]
-pub(crate) struct Run {
-    pub(crate) first: u32,
-    pub(crate) end: u32,
-    pub(crate) cost: RoomCost,
-}
-
-// Gives up the last blocks of a window, as long as what is left has enough free units.
-fn shorten<T: Tables>(tables: &T, want: u32, mut window: Window, count: &mut Accesses) -> Window
-    requires place { (last spare : ℕ) × (front bs back : List Block)
-        × IsSpace (T.cells tables.now).chain last spare
-        × (blocks (T.cells tables.now).chain last ≡ front ++ (bs ++ back)) × IsWindow window bs }
-    requires some { 1 ≤ want }
-    requires serves { want ≤ window.room }
-    ensures shortened { (last spare : ℕ) (front bs back : List Block)
-        → IsSpace (T.cells tables.now).chain last spare
-        → blocks (T.cells tables.now).chain last ≡ front ++ (bs ++ back) → IsWindow window bs
-        → ((s : IsShortened want result bs) × (count.new ≡ count.old + 3 * length s.gone)) }
-{
-    while window.room - window.end_room() >= want {
-        let Some(name) = chain::before(tables, window.end, count) else {
-            // it has a block with free units besides its last one
-            return window;
-        };
-        let size = tables.size(name, count);
-        let used = chain::is_used(tables, name, count);
-        window = window.without_end(name, size, used);
-    }
-    window
-}
-
-// The cheaper of two runs, or the only one; the known one where they cost as much.
-pub(crate) fn cheaper(known: Option<Run>, run: Run) -> Run
-    ensures one { ((result ≡ run) × IfSome known (λ k. IsLess run.cost k.cost)) ⊎ (known ≡ Some result) }
-    ensures cost { IsAtMost result.cost run.cost }
-    ensures known { IfSome known (λ k. IsAtMost result.cost k.cost) }
-{
-    match known {
-        None => run,
-        Some(known) => {
-            let (least, cost) = (known.cost, run.cost);
-            if cost.units < least.units || cost.units == least.units && cost.ranges < least.ranges {
-                run
-            } else {
-                known
-            }
-        }
-    }
-}
-
-// The cheapest run with at least `want` free units, of several the one that begins last. The walk goes back
-// over the blocks from the last one on; the window has those that were met, without the last ones, which are
-// no longer needed: from each free block on, the shortest run with enough free units is the cheapest, and
-// ends no later than that of the free block after.
-pub(crate) fn cheapest<T: Tables>(
-    tables: &T,
-    last: u32,
-    want: u32,
-    count: &mut Accesses,
-) -> Option<Run>
-    requires space { (spare : ℕ) × IsSpace (T.cells tables.now).chain last spare }
-    requires some { 1 ≤ want }
-    ensures run { IsCheapest want (blocks (T.cells tables.now).chain last) result }
-    ensures accesses { Costs (3 * length (blocks (T.cells tables.now).chain last))
-        (6 * length (blocks (T.cells tables.now).chain last)) count.old count.new }
-{
-    tables.shape();
-    let size = tables.size(last, count);
-    let used = chain::is_used(tables, last, count);
-    let mut window = Window::alone(last, size, used);
-    let mut run = None;
-    if window.room >= want {
-        run = Some(Run {
-            first: last,
-            end: last,
-            cost: RoomCost {
-                units: 0,
-                ranges: 0,
-            },
-        });
-    }
-    let mut at = chain::before(tables, last, count);
-    while let Some(name) = at {
-        let size = tables.size(name, count);
-        let used = chain::is_used(tables, name, count);
-        window = window.and_before(size, used);
-        if !used && window.room >= want {
-            window = shorten(tables, want, window, count);
-            let found = Run {
-                first: name,
-                end: window.end,
-                cost: RoomCost {
-                    units: window.units,
-                    ranges: window.ranges,
-                },
-            };
-            run = Some(cheaper(run, found));
-        }
-        at = chain::before(tables, name, count);
-    }
-    run
 }
 
 /// As `Allocator::room_cost`. The count grows by at most 6 for each block, and 2.

@@ -3,8 +3,8 @@
 //! Makes room for a request: slides the live ranges of a run of blocks to its front, so that its free units
 //! are one block after them. It changes the chain by `gap`, and the bins of the blocks of the run.
 
-use crate::moves::room::{RoomCost, cheapest};
-use crate::moves::room_by_steps::cheapest_by;
+use crate::moves::room::RoomCost;
+use crate::moves::runs::{cheapest, cheapest_by};
 use crate::moves::slide::{slide_run, to_front};
 use crate::small_float::{float_to_uint, uint_to_float_round_down, uint_to_float_round_up};
 use crate::tables::Tables;

@@ -1,10 +1,11 @@
-use Rattle.offset_allocator.proofs.{Linking.Names.kept_unused, Classes.below_value_up, Classes.down_small, Advice.none_free, Advice.free_within, Sound.Fields, Sound.fields_of}
-use Rattle.offset_allocator.proofs.{Taken.HasFit, Refusals.total_is, Linking.Places.kept_place, Linking.Places.at_place, Filing.Filed.unlisted}
-use Rattle.offset_allocator.proofs.Common.{ℕ, List, ◌++◌, ◌∙◌, refl, sym, ap, subst, arith, sum, AreInBins, View, blocks, free_sizes, value, up, length, true≢false, Node}
+use Rattle.offset_allocator.proofs.{Linking.Names.kept_unused, Classes.below_value_up, Classes.down_small, Advice.none_free, Moving.OneStep.least_one, Sound.Fields, Sound.fields_of}
+use Rattle.offset_allocator.proofs.{Taken.HasFit, Linking.Places.kept_place, Linking.Places.at_place, Filing.Filed.unlisted}
+use Rattle.offset_allocator.proofs.Common.{ℕ, List, None, Some, ◌++◌, ◌∙◌, refl, sym, ap, subst, arith, AreInBins, View, blocks, value, up, length, true≢false, Node}
 use Rattle.offset_allocator.proofs.Moving.Gathered.{gathered_filed}
-use Rattle.offset_allocator.proofs.Moving.Runs.{run_some, run_within, one_serves, none_fits, few_units}
-use Rattle.offset_allocator.proofs.Moving.Rooms.{first_gone, first_listed, found_cost, found_run, rest_ends, slides, slides_sound}
-use Rattle.offset_allocator.proofs.Moving.RoomsBySteps.{IsOpenedBy, opened_at, opened_short}
+use Rattle.offset_allocator.proofs.Moving.Runs.{none_fits, run_some, some_fits}
+use Rattle.offset_allocator.proofs.Moving.Rooms.{first_gone, first_listed, rest_ends, slides, slides_sound}
+use Rattle.offset_allocator.proofs.Moving.RoomsBySteps.{IsOpenedBy, class_alone, class_few, found_alone, found_both, found_none, opened_at, opened_short}
+use Rattle.offset_allocator.specs.Moving.RoomBySteps.{IsLeastCostBy}
 use Rattle.offset_allocator.specs.{Moving.BySteps.stepped, Moving.BySteps.used_up, Names.names_of}
 use Rattle.offset_allocator.proofs.AllocatorOf.make_room.Goals.{then-size-eq0-via-then-size-eq0, then-size-eq0-via-else-size-eq0+then-uint_to_float_round_down-class}
 use Rattle.offset_allocator.proofs.AllocatorOf.make_room.{Goals.In_ok-run, Given.Over}
@@ -16,49 +17,59 @@ find_at_or_above-found-requires-clause-classed g c = omega (arith, (below_value_
 pub float_to_uint-requires : goal.float_to_uint-requires
 float_to_uint-requires g c = omega (arith, (below_value_up c.args.size (omega arith)).1, c.uint_to_float_round_up-class.ensures.is)
 
+pub cheapest-requires-clause-alone : goal.cheapest-requires-clause-alone
+cheapest-requires-clause-alone g c =
+    let f : Fields = fields_of g.T.Tables.cells g.T.Index.NodeIndex.MAX c.self.inside in
+    class_alone f c.self.invariant c.args.self.now c.self.view_is c.formed.ensures c.args.size c.uint_to_float_round_up-class.result c.uint_to_float_round_down.result
+    c.uint_to_float_round_up-class.ensures.is c.uint_to_float_round_down.ensures.is c.float_to_uint.result 0 c.if-uint_to_float_round_down-class.false c.float_to_uint.ensures.is
+    (λ _. none_fits c.args.self.now c.formed.ensures c.args.size c.uint_to_float_round_up-class.result _ c.find_at_or_above-found.result c.uint_to_float_round_up-class.ensures.is
+    (ap (λ (u : View). u.bins) c.self.view_is) c.find_at_or_above-found.ensures.smallest (λ e. true≢false (sym e ∙ sym c.is_some.ensures ∙ c.if-is_some.false)))
+
+pub returns-in_err-run-clause-cost : goal.returns-in_err-run-clause-cost
+returns-in_err-run-clause-cost g c =
+    let f : Fields = fields_of g.T.Tables.cells g.T.Index.NodeIndex.MAX c.self.inside in
+    rw c.from_residual.ensures (least_one _ _ None
+    (found_none f c.self.invariant c.args.self.now c.self.view_is c.formed.ensures c.args.size c.uint_to_float_round_up-class.result c.uint_to_float_round_down.result
+    c.uint_to_float_round_up-class.ensures.is c.uint_to_float_round_down.ensures.is 1 0 c.float_to_uint.result 0 c.if-uint_to_float_round_down-class.false c.float_to_uint.ensures.is refl c.in_err-run.ensures.run))
+
 pub returns-then-is_some-clause-cost : goal.returns-then-is_some-clause-cost
 returns-then-is_some-clause-cost g c =
-    one_serves c.args.self.now c.formed.ensures c.args.size c.uint_to_float_round_up-class.result _ c.find_at_or_above-found.result c.uint_to_float_round_up-class.ensures.is
-    (ap (λ (u : View). u.bins) c.self.view_is) c.find_at_or_above-found.ensures.smallest (sym c.is_some.ensures ∙ c.if-is_some.true)
+    least_one _ _ (Some _) (found_alone 1 0 c.args.size c.args.self.now c.formed.ensures (omega arith)
+    (some_fits c.args.size c.uint_to_float_round_up-class.result c.args.self.now _ c.find_at_or_above-found.result c.uint_to_float_round_up-class.ensures.is
+    (ap (λ (u : View). u.bins) c.self.view_is) c.find_at_or_above-found.ensures.smallest (sym c.is_some.ensures ∙ c.if-is_some.true)))
 
 pub returns-then-size-eq0-clause-cost : goal.returns-then-size-eq0-clause-cost
 returns-then-size-eq0-clause-cost g c =
     let v : View = c.args.self.now in
     let f : Fields = fields_of g.T.Tables.cells g.T.Index.NodeIndex.MAX c.self.inside in
-    let free = total_is f c.self.invariant 0 0 ∙ ap (λ (v : View). sum (free_sizes v.blocks)) c.self.view_is in
     let none = none_fits v c.formed.ensures c.args.size c.uint_to_float_round_up-class.result _ c.find_at_or_above-found.result c.uint_to_float_round_up-class.ensures.is
     (ap (λ (u : View). u.bins) c.self.view_is) c.find_at_or_above-found.ensures.smallest (λ e. true≢false (sym e ∙ sym c.is_some.ensures ∙ c.if-is_some.false)) in
-    λ run r. elim c.then-size-eq0.branch [
-      | then-size-eq0-via-then-size-eq0 w ↦ absurd (run_some run v.blocks r (none_free v c.formed.ensures (subst (λ n. HasFit n v → ⊥) w.if-size-eq0.true none)))
+    elim c.then-size-eq0.branch [
+      | then-size-eq0-via-then-size-eq0 w ↦ λ run r. absurd (run_some run v.blocks r (none_free v c.formed.ensures (subst (λ n. HasFit n v → ⊥) w.if-size-eq0.true none)))
       | then-size-eq0-via-else-size-eq0+then-uint_to_float_round_down-class w ↦
-          let s = few_units c.args.size c.uint_to_float_round_up-class.result w.uint_to_float_round_down.result c.self.inside.free_total
-          (omega (arith, free, free_within v c.formed.ensures, c.formed.ensures.fits)) c.uint_to_float_round_up-class.ensures.is w.uint_to_float_round_down.ensures.is
-          w.if-uint_to_float_round_down-class.true in
-          omega (arith, s, free, run_within run v.blocks r)
+          least_one _ _ None (class_few f c.self.invariant v c.self.view_is c.formed.ensures c.args.size c.uint_to_float_round_up-class.result w.uint_to_float_round_down.result
+          c.uint_to_float_round_up-class.ensures.is w.uint_to_float_round_down.ensures.is 1 0 w.if-uint_to_float_round_down-class.true)
     ]
 
-pub returns-then-run-eq0-clause-cost : goal.returns-then-run-eq0-clause-cost
-returns-then-run-eq0-clause-cost g c =
-    found_cost (fields_of g.T.Tables.cells g.T.Index.NodeIndex.MAX c.self.inside) c.self.invariant c.args.self.now c.self.view_is c.formed.ensures c.args.size
-    c.uint_to_float_round_up-class.result c.uint_to_float_round_down.result
-    c.float_to_uint.result c.in_ok-run.run' c.uint_to_float_round_up-class.ensures.is c.uint_to_float_round_down.ensures.is c.if-uint_to_float_round_down-class.false
-    c.float_to_uint.ensures.is c.in_ok-run.ensures.run
-
--- the run that the search has found
-found : (g : Over) (c : In_ok-run g) → IsOpenedBy 1 (value (up c.args.size)) 0 (blocks (g.T.Tables.cells c.self.inside.store.tables).chain c.self.inside.store.last) c.in_ok-run.run'
+-- the run that the search has found, and its cost
+found : (g : Over) (c : In_ok-run g) → IsLeastCostBy 1 (value (up c.args.size)) 0 c.args.self.now.blocks (Some c.in_ok-run.run'.cost)
+    × IsOpenedBy 1 (value (up c.args.size)) 0 (blocks (g.T.Tables.cells c.self.inside.store.tables).chain c.self.inside.store.last) c.in_ok-run.run'
 found g c =
-    found_run (fields_of g.T.Tables.cells g.T.Index.NodeIndex.MAX c.self.inside) c.self.invariant c.args.self.now c.self.view_is c.formed.ensures c.args.size c.uint_to_float_round_up-class.result
-    c.uint_to_float_round_down.result c.float_to_uint.result c.in_ok-run.run' c.uint_to_float_round_up-class.ensures.is c.uint_to_float_round_down.ensures.is c.if-uint_to_float_round_down-class.false
-    c.float_to_uint.ensures.is c.in_ok-run.ensures.run
+    found_both (fields_of g.T.Tables.cells g.T.Index.NodeIndex.MAX c.self.inside) c.self.invariant c.args.self.now c.self.view_is c.formed.ensures c.args.size c.uint_to_float_round_up-class.result
+    c.uint_to_float_round_down.result c.uint_to_float_round_up-class.ensures.is c.uint_to_float_round_down.ensures.is 1 0 c.float_to_uint.result 0 c.if-uint_to_float_round_down-class.false
+    c.float_to_uint.ensures.is refl c.in_ok-run.run' c.in_ok-run.ensures.run
+
+pub returns-then-run-eq0-clause-cost : goal.returns-then-run-eq0-clause-cost
+returns-then-run-eq0-clause-cost g c = least_one _ _ (Some c.in_ok-run.run'.cost) (found g (goal.at.returns-then-run-eq0-clause-cost g c).In_ok-run).0
 
 pub size-first-requires : goal.size-first-requires
 size-first-requires g c =
-    (opened_at (fields_of g.T.Tables.cells g.T.Index.NodeIndex.MAX c.self.inside) c.self.invariant 1 (value (up c.args.size)) 0 c.in_ok-run.run' (found g (goal.at.size-first-requires g c).In_ok-run)).below
+    (opened_at (fields_of g.T.Tables.cells g.T.Index.NodeIndex.MAX c.self.inside) c.self.invariant 1 (value (up c.args.size)) 0 c.in_ok-run.run' (found g (goal.at.size-first-requires g c).In_ok-run).1).below
 
 pub remove-requires-clause-listed : goal.remove-requires-clause-listed
 remove-requires-clause-listed g c =
     let f : Fields = fields_of g.T.Tables.cells g.T.Index.NodeIndex.MAX c.self.inside in
-    let o = found g (goal.at.remove-requires-clause-listed g c).In_ok-run in
+    let o = (found g (goal.at.remove-requires-clause-listed g c).In_ok-run).1 in
     first_listed f c.self.invariant (value (up c.args.size)) c.in_ok-run.run' o c.if-run-eq0.false c.size-first.ensures.cell
 
 pub to_front-hole-requires-clause-place : goal.to_front-hole-requires-clause-place
@@ -66,7 +77,7 @@ to_front-hole-requires-clause-place g c =
     let f : Fields = fields_of g.T.Tables.cells g.T.Index.NodeIndex.MAX c.self.inside in
     let want = value (up c.args.size) in
     let r = c.in_ok-run.run' in
-    let o = found g (goal.at.to_front-hole-requires-clause-place g c).In_ok-run in (
+    let o = (found g (goal.at.to_front-hole-requires-clause-place g c).In_ok-run).1 in (
       _,
       o.front,
       o.block,
@@ -84,7 +95,7 @@ push-requires g c =
     let f : Fields = fields_of g.T.Tables.cells g.T.Index.NodeIndex.MAX c.self.inside in
     let want = value (up c.args.size) in
     let r = c.in_ok-run.run' in
-    let o = found g (goal.at.push-requires g c).In_ok-run in
+    let o = (found g (goal.at.push-requires g c).In_ok-run).1 in
     let e = c.to_front-hole.ensures.place _ o.front o.block o.rest o.back _ (kept_place c.remove.ensures.chain (opened_at f c.self.invariant 1 want 0 r o)) o.idle
     (rest_ends f c.self.invariant want r o c.if-run-eq0.false) (gathered_filed f c.self.invariant o.front o.block o.rest o.back o.is o.idle (λ _. first_gone f c.self.invariant want r o c.if-run-eq0.false c.size-first.ensures.cell c.remove.ensures.lists)) in
     record {
@@ -100,7 +111,7 @@ invariant_of-self-2 g c =
     let f : Fields = fields_of g.T.Tables.cells g.T.Index.NodeIndex.MAX c.self.inside in
     let want = value (up c.args.size) in
     let r = c.in_ok-run.run' in
-    let o = found g (goal.at.invariant_of-self-2 g c).In_ok-run in
+    let o = (found g (goal.at.invariant_of-self-2 g c).In_ok-run).1 in
     let e = c.to_front-hole.ensures.place _ o.front o.block o.rest o.back _ (kept_place c.remove.ensures.chain (opened_at f c.self.invariant 1 want 0 r o)) o.idle
     (rest_ends f c.self.invariant want r o c.if-run-eq0.false) (gathered_filed f c.self.invariant o.front o.block o.rest o.back o.is o.idle (λ _. first_gone f c.self.invariant want r o c.if-run-eq0.false c.size-first.ensures.cell c.remove.ensures.lists)) in
     slides_sound f c.self.invariant want r o c.if-run-eq0.false (g.T.Tables.cells c.push.new.store.tables) c.push.new.store.last c.push.new.store.spare_count c.to_front-hole.result.name
@@ -111,7 +122,7 @@ returns g c =
     let f : Fields = fields_of g.T.Tables.cells g.T.Index.NodeIndex.MAX c.self.inside in
     let want = value (up c.args.size) in
     let r = c.in_ok-run.run' in
-    let o = found g (goal.at.returns g c).In_ok-run in
+    let o = (found g (goal.at.returns g c).In_ok-run).1 in
     let e = c.to_front-hole.ensures.place _ o.front o.block o.rest o.back _ (kept_place c.remove.ensures.chain (opened_at f c.self.invariant 1 want 0 r o)) o.idle
     (rest_ends f c.self.invariant want r o c.if-run-eq0.false) (gathered_filed f c.self.invariant o.front o.block o.rest o.back o.is o.idle (λ _. first_gone f c.self.invariant want r o c.if-run-eq0.false c.size-first.ensures.cell c.remove.ensures.lists)) in
     let d = slides f c.self.invariant want r o c.if-run-eq0.false (g.T.Tables.cells c.push.new.store.tables) c.push.new.store.last c.push.new.store.spare_count c.to_front-hole.result.name
@@ -121,9 +132,7 @@ returns g c =
     let all = ap (λ (u : View). length u.blocks) c.self.view_is in
     let old = ap (λ (u : View). u.accesses) c.self.view_is in
     record {
-      cost =
-          found_cost f c.self.invariant c.args.self.now c.self.view_is c.formed.ensures c.args.size c.uint_to_float_round_up-class.result c.uint_to_float_round_down.result c.float_to_uint.result
-          c.in_ok-run.run' c.uint_to_float_round_up-class.ensures.is c.uint_to_float_round_down.ensures.is c.if-uint_to_float_round_down-class.false c.float_to_uint.ensures.is c.in_ok-run.ensures.run;
+      cost = least_one _ _ (Some c.in_ok-run.run'.cost) (found g (goal.at.returns g c).In_ok-run).0;
       step = d.0;
       live = d.1;
       sizes = d.2;

@@ -1,13 +1,14 @@
-use Rattle.offset_allocator.proofs.{Classes.below_value_up, Sound.Fields, Sound.shown, Sound.fields_of, Taken.HasFit}
-use Rattle.offset_allocator.proofs.Moving.RoomsBySteps.{class_few, class_needed, found_by, found_none, opened_at, opened_granted}
+use Rattle.offset_allocator.proofs.{Classes.below_value_up, Sound.Fields, Sound.shown, Sound.fields_of}
+use Rattle.offset_allocator.proofs.Moving.Runs.{none_fits, some_fits}
+use Rattle.offset_allocator.proofs.Moving.RoomsBySteps.{class_alone, class_few, class_needed, found_by, found_none, opened_at, opened_granted}
 use Rattle.offset_allocator.proofs.Moving.RoomsBySteps.{past_by}
-use Rattle.offset_allocator.proofs.Common.{◌≡◌, ◌+◌, ◌-◌, ◌∙◌, ℕ, List, Option, Some, None, is_some, true, bin_at, refl, sym, ap, subst, arith, up, value, View, AdmitsBlocks, blocks_needed, units_needed}
-use Rattle.offset_allocator.specs.Bins.{IsFoundFrom}
+use Rattle.offset_allocator.proofs.Common.{◌≡◌, ◌+◌, ◌-◌, ◌∙◌, Some, true≢false, refl, sym, ap, subst, arith, up, value, View, AdmitsBlocks, blocks_needed, units_needed}
 use Rattle.offset_allocator.specs.Moving.RoomBySteps.{names_short}
 use Rattle.offset_allocator.proofs.Moving.RoomsBySteps.{IsOpenedBy, found_both, opened_filed, opened_place, slid, slid_sound, slid_costs}
 use Rattle.offset_allocator.specs.Moving.RoomBySteps.{IsLeastCostBy}
 use Rattle.offset_allocator.proofs.Common.{blocks}
 use Rattle.offset_allocator.proofs.AllocatorOf.make_room_by.{Goals.In_ok-run, Given.Over}
+use Rattle.offset_allocator.proofs.AllocatorOf.make_room_by.Goals.{else-unused-blocks-via-then-unused-blocks+else-is_some, else-unused-blocks-via-else-unused-blocks}
 use Rattle.offset_allocator.proofs.AllocatorOf.make_room_by.Goals as goal
 
 pub overflow_sub-align : goal.overflow_sub-align
@@ -35,17 +36,12 @@ float_to_uint-requires g c = omega (
   c.uint_to_float_round_up-class.ensures.is,
 )
 
--- a bin that is found is not empty
-fit : (n k : ℕ) (v : View) (ls : List (List ℕ)) (r : Option ℕ) → k ≡ up n → ls ≡ v.bins → IsFoundFrom k ls r → is_some r ≡ true → HasFit n v
-fit n k v ls None e o f s = absurd (cc)
-fit n k v ls (Some c) e o f s = (c, omega (arith, e, f.0), λ q. f.2 (ap (λ (l : List (List ℕ)). bin_at l c) o ∙ q))
-
 pub returns-then-is_some-clause-cost : goal.returns-then-is_some-clause-cost
 returns-then-is_some-clause-cost g c =
     let room : AdmitsBlocks (blocks_needed c.args.align) c.args.self.now = omega (arith, c.if-unused-blocks.true, c.min-blocks.ensures, c.unused_nodes-unused.ensures) in
     let up_is = class_needed c.args.size c.args.align c.uint_to_float_round_up-class.result c.requires.alignment c.uint_to_float_round_up-class.ensures.is in
     found_by c.args.step (blocks_needed c.args.align) (units_needed c.args.size c.args.align) c.args.self.now c.formed.ensures room
-    (fit (units_needed c.args.size c.args.align) c.uint_to_float_round_up-class.result c.args.self.now _ c.find_at_or_above-found.result up_is (ap (λ (u : View). u.bins) c.self.view_is)
+    (some_fits (units_needed c.args.size c.args.align) c.uint_to_float_round_up-class.result c.args.self.now _ c.find_at_or_above-found.result up_is (ap (λ (u : View). u.bins) c.self.view_is)
     c.find_at_or_above-found.ensures.smallest (sym c.is_some.ensures ∙ c.if-is_some.true))
 
 pub returns-then-is_some-clause-granted : goal.returns-then-is_some-clause-granted
@@ -54,7 +50,7 @@ returns-then-is_some-clause-granted g c =
     let room : AdmitsBlocks (blocks_needed c.args.align) c.args.self.now = omega (arith, c.if-unused-blocks.true, c.min-blocks.ensures, c.unused_nodes-unused.ensures) in
     let up_is = class_needed c.args.size c.args.align c.uint_to_float_round_up-class.result c.requires.alignment c.uint_to_float_round_up-class.ensures.is in (
       subst (AdmitsBlocks (blocks_needed c.args.align)) (sym c.self.view_is) room,
-      fit (units_needed c.args.size c.args.align) c.uint_to_float_round_up-class.result (shown f) _ c.find_at_or_above-found.result up_is refl
+      some_fits (units_needed c.args.size c.args.align) c.uint_to_float_round_up-class.result (shown f) _ c.find_at_or_above-found.result up_is refl
           c.find_at_or_above-found.ensures.smallest (sym c.is_some.ensures ∙ c.if-is_some.true),
     )
 
@@ -65,6 +61,20 @@ returns-then-uint_to_float_round_down-class-clause-cost g c =
     (class_needed c.args.size c.args.align c.uint_to_float_round_up-class.result c.requires.alignment c.uint_to_float_round_up-class.ensures.is)
     c.uint_to_float_round_down.ensures.is c.args.step (names_short (blocks_needed c.args.align) c.args.self.now) c.if-uint_to_float_round_down-class.true
 
+pub cheapest_by-requires-clause-alone : goal.cheapest_by-requires-clause-alone
+cheapest_by-requires-clause-alone g c =
+    let f : Fields = fields_of g.T.Tables.cells g.T.Index.NodeIndex.MAX c.self.inside in
+    let n = units_needed c.args.size c.args.align in
+    let up_is = class_needed c.args.size c.args.align c.uint_to_float_round_up-class.result c.requires.alignment c.uint_to_float_round_up-class.ensures.is in
+    class_alone f c.self.invariant c.args.self.now c.self.view_is c.formed.ensures n c.uint_to_float_round_up-class.result c.uint_to_float_round_down.result up_is c.uint_to_float_round_down.ensures.is
+    c.float_to_uint.result c.saturating_sub-short.result c.if-uint_to_float_round_down-class.false c.float_to_uint.ensures.is
+    (λ few fit. elim c.else-unused-blocks.branch [
+      | else-unused-blocks-via-then-unused-blocks+else-is_some w ↦
+          none_fits c.args.self.now c.formed.ensures n c.uint_to_float_round_up-class.result _ c.find_at_or_above-found.result up_is (ap (λ (u : View). u.bins) c.self.view_is)
+          c.find_at_or_above-found.ensures.smallest (λ e. true≢false (sym e ∙ sym w.is_some.ensures ∙ w.if-is_some.false)) fit
+      | else-unused-blocks-via-else-unused-blocks w ↦ omega (arith, few, c.saturating_sub-short.ensures, w.if-unused-blocks)
+    ])
+
 pub returns-in_err-run-clause-cost : goal.returns-in_err-run-clause-cost
 returns-in_err-run-clause-cost g c =
     let f : Fields = fields_of g.T.Tables.cells g.T.Index.NodeIndex.MAX c.self.inside in
@@ -74,7 +84,7 @@ returns-in_err-run-clause-cost g c =
     let up_is = class_needed c.args.size c.args.align c.uint_to_float_round_up-class.result c.requires.alignment c.uint_to_float_round_up-class.ensures.is in
     let short_is : c.saturating_sub-short.result ≡ names_short k c.args.self.now = omega (arith, c.saturating_sub-short.ensures, c.min-blocks.ensures, c.unused_nodes-unused.ensures) in
     let none = found_none f c.self.invariant c.args.self.now c.self.view_is c.formed.ensures n c.uint_to_float_round_up-class.result c.uint_to_float_round_down.result up_is c.uint_to_float_round_down.ensures.is
-    t k c.float_to_uint.result c.saturating_sub-short.result c.if-uint_to_float_round_down-class.false c.float_to_uint.ensures.is short_is c.in_err-run.ensures.run in
+    t (names_short k c.args.self.now) c.float_to_uint.result c.saturating_sub-short.result c.if-uint_to_float_round_down-class.false c.float_to_uint.ensures.is short_is c.in_err-run.ensures.run in
     rw c.from_residual.ensures none
 
 -- what the search has found: the least cost, and the run
@@ -89,7 +99,7 @@ found g c =
     let up_is = class_needed c.args.size c.args.align c.uint_to_float_round_up-class.result c.requires.alignment c.uint_to_float_round_up-class.ensures.is in
     let short_is : c.saturating_sub-short.result ≡ names_short k c.args.self.now = omega (arith, c.saturating_sub-short.ensures, c.min-blocks.ensures, c.unused_nodes-unused.ensures) in
     found_both f c.self.invariant c.args.self.now c.self.view_is c.formed.ensures n c.uint_to_float_round_up-class.result c.uint_to_float_round_down.result up_is c.uint_to_float_round_down.ensures.is
-    c.args.step k c.float_to_uint.result c.saturating_sub-short.result c.if-uint_to_float_round_down-class.false c.float_to_uint.ensures.is short_is c.in_ok-run.run' c.in_ok-run.ensures.run
+    c.args.step (names_short k c.args.self.now) c.float_to_uint.result c.saturating_sub-short.result c.if-uint_to_float_round_down-class.false c.float_to_uint.ensures.is short_is c.in_ok-run.run' c.in_ok-run.ensures.run
 
 pub returns-then-run-eq0-clause-cost : goal.returns-then-run-eq0-clause-cost
 returns-then-run-eq0-clause-cost g c = (found g (goal.at.returns-then-run-eq0-clause-cost g c).In_ok-run).0

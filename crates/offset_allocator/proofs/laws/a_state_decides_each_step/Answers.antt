@@ -1,6 +1,6 @@
 use Rattle.offset_allocator.proofs.{AtOffset.at_decided, Decided.allocates_decided, Decided.aligns_decided, Decided.relocates_decided, Decided.relocates_aligned_decided, Decided.tight_decided, Moving.DecidedRooms.least_decided}
 use Rattle.offset_allocator.proofs.{Moving.DecidedRooms.noted_decided, Moving.DecidedSteps.compacts_by_decided}
-use Rattle.offset_allocator.proofs.Moving.DecidedRoomsBySteps.{least_by_decided, noted_by_decided}
+use Rattle.offset_allocator.proofs.{Moving.DecidedRooms.least_by_decided, Moving.DecidedRoomsBySteps.noted_by_decided}
 use Rattle.offset_allocator.proofs.DecidedChanges.{compacts_decided, extends_decided, frees_decided, grows_decided, resets_decided, retracts_decided, shrinks_decided}
 use Rattle.offset_allocator.proofs.Moving.DecidedBudget.{within_decided}
 use Rattle.offset_allocator.proofs.laws.a_state_decides_each_step.Goals as goal

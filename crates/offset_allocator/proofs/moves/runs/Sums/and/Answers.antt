@@ -1,5 +1,5 @@
 use Rattle.offset_allocator.proofs.{Common.◌∙◌, Common.arith, Common.refl, Moving.Searching.none_left, Moving.Searching.some_left, Moving.Searching.sums_fit, Moving.Searching.and_used, Moving.Searching.and_free}
-use Rattle.offset_allocator.proofs.moves.room_by_steps.Sums.and.Goals as goal
+use Rattle.offset_allocator.proofs.moves.runs.Sums.and.Goals as goal
 
 pub overflow_add-result : goal.overflow_add-result
 overflow_add-result c = let h = c.requires.fits in omega (arith, (sums_fit h.1).0, h.2)

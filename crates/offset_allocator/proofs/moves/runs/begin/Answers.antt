@@ -1,6 +1,6 @@
-use Rattle.offset_allocator.proofs.Common.{◌≡◌, ◌∙◌, List, [], ◌∷◌, ◌++◌, Some, None, length, sym, ap, arith, append-nil, append_assoc, length-append, Node, Block, blocks, first_or, last_or}
+use Rattle.offset_allocator.proofs.Common.{Bool, if◌then◌else◌, ◌≡◌, ◌∙◌, List, [], ◌∷◌, ◌++◌, Some, None, length, sym, ap, arith, append-nil, append_assoc, length-append, Node, Block, blocks, first_or, last_or}
 use Rattle.offset_allocator.proofs.{Linking.Ends.Ended, Linking.Ends.ended, Linking.Ends.last_none, Linking.Places.at_place, Moving.Sliding.walked}
-use Rattle.offset_allocator.proofs.moves.room_by_steps.first_block.Goals as goal
+use Rattle.offset_allocator.proofs.moves.runs.begin.Goals as goal
 
 pub before-at-requires : goal.before-at-requires
 before-at-requires g c = let h = c.requires.space.1 in (walked h (blocks (g.T.Tables.cells c.args.tables.now).chain c.args.last) [] (sym (append-nil _)) h.ends).below
@@ -41,13 +41,15 @@ pub returns-clause-first : goal.returns-clause-first
 returns-clause-first g c =
     let i = c.loop-at.invariant in
     let n = last_none i.front (i.ends ∙ c.in_default.is) in
-    ap (first_or None) (i.is ∙ ap (λ (l : List Block). l ++ i.met) n) ∙ i.first
+    let all = blocks (g.T.Tables.cells c.args.tables.now).chain c.args.last in
+    ap (λ (v : Bool). if v then last_or None all else first_or None all) c.if-back.false ∙ ap (first_or None) (i.is ∙ ap (λ (l : List Block). l ++ i.met) n) ∙ i.first
 
 pub returns-clause-accesses : goal.returns-clause-accesses
 returns-clause-accesses g c =
     let i = c.loop-at.invariant in
     let n = last_none i.front (i.ends ∙ c.in_default.is) in
-    omega (arith, i.counted, ap (λ (l : List Block). length l) (i.is ∙ ap (λ (l : List Block). l ++ i.met) n))
+    let all = blocks (g.T.Tables.cells c.args.tables.now).chain c.args.last in
+    omega (arith, i.counted, ap (λ (l : List Block). length l) (i.is ∙ ap (λ (l : List Block). l ++ i.met) n), ap (λ (v : Bool). if v then 0 else length all) c.if-back.false)
 
 pub loop-at-smaller : goal.loop-at-smaller
 loop-at-smaller g c =

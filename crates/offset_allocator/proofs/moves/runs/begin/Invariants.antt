@@ -1,5 +1,5 @@
 use Rattle.offset_allocator.proofs.Common.{◌≡◌, ◌+◌, ◌-◌, List, ◌++◌, None, Some, length, Block, blocks, first_or, last_or}
-use Rattle.offset_allocator.proofs.moves.room_by_steps.first_block.Given as goal
+use Rattle.offset_allocator.proofs.moves.runs.begin.Given as goal
 
 -- the blocks in front are left, and those in `met` were met
 abbrev pub invariant-loop-at : goal.invariant-loop-at

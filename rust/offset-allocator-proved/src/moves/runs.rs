@@ -1,0 +1,275 @@
+// Printed by rust/erase from crates/offset_allocator/src/moves/runs.rt: change it there.
+
+//! The search for the cheapest of the runs of blocks that serve a request, where their ranges slide together: by
+//! whole steps, or plainly, which is by steps of one unit. It reads the tables, and changes nothing.
+
+use crate::accesses::Accesses;
+use crate::chain;
+use crate::moves::room::RoomCost;
+use crate::tables::Tables;
+
+// Neighbouring blocks in numbers: the whole steps of the free ones in units, how many of these are whole steps,
+// the live units, and how many are live.
+#[derive(Clone, Copy)]
+struct Sums {
+    whole: u32,
+    names: u32,
+    units: u32,
+    ranges: u32,
+}
+
+impl Sums {
+    // With one more block.
+    #[inline(always)]
+    fn and(self, size: u32, used: bool, step: u32) -> Self {
+        if used {
+            return Sums {
+                units: self.units + size,
+                ranges: self.ranges + 1,
+                ..self
+            };
+        }
+        let left = size % step;
+        Sums {
+            whole: self.whole + (size - left),
+            names: if left == 0 {
+                self.names + 1
+            } else {
+                self.names
+            },
+            ..self
+        }
+    }
+
+    // Without the first of them.
+    #[inline(always)]
+    fn without(self, size: u32, used: bool, step: u32) -> Self {
+        if used {
+            return Sums {
+                units: self.units - size,
+                ranges: self.ranges - 1,
+                ..self
+            };
+        }
+        let left = size % step;
+        Sums {
+            whole: self.whole - (size - left),
+            names: if left == 0 {
+                self.names - 1
+            } else {
+                self.names
+            },
+            ..self
+        }
+    }
+
+    // Whether they have so many units in whole steps, and so many free ones that are whole steps.
+    #[inline(always)]
+    fn have(self, need: u32, few: u32) -> bool {
+        self.whole >= need && self.names >= few
+    }
+}
+
+// Neighbouring blocks on a way: the first of them, and their numbers.
+#[derive(Clone, Copy)]
+struct Span {
+    first: u32,
+    size: u32,
+    used: bool,
+    sums: Sums,
+}
+
+// A run of blocks, from a free one to a free one: the names of both, and what it costs to slide it together.
+#[derive(Clone, Copy)]
+pub(crate) struct Run {
+    pub(crate) first: u32,
+    pub(crate) end: u32,
+    pub(crate) cost: RoomCost,
+}
+
+// How many free blocks before the last one of a run have to be whole steps, where steps leave `left` units of
+// that one: it gives its name, and is counted itself where they leave none.
+#[inline(always)]
+fn few_of(left: u32, short: u32) -> u32 {
+    if left == 0 {
+        short
+    } else {
+        short.saturating_sub(1)
+    }
+}
+
+// Whether a cost is less than another.
+#[inline(always)]
+fn is_less(cost: RoomCost, other: RoomCost) -> bool {
+    cost.units < other.units || cost.units == other.units && cost.ranges < other.ranges
+}
+
+// The cheaper of the known run and the one that was found, or the only one. Of two that cost as much it is the
+// one that begins later in space.
+#[inline(always)]
+fn better(known: Option<Run>, found: Run, back: bool) -> Run {
+    match known {
+        None => found,
+        Some(known) => {
+            if back {
+                if is_less(found.cost, known.cost) {
+                    found
+                } else {
+                    known
+                }
+            } else {
+                if is_less(known.cost, found.cost) {
+                    known
+                } else {
+                    found
+                }
+            }
+        }
+    }
+}
+
+// The next block on a way, which goes back to the first block of the space, or on to the last one.
+#[inline(always)]
+fn next<T: Tables>(tables: &T, name: u32, back: bool, count: &mut Accesses) -> Option<u32> {
+    if back {
+        chain::before(tables, name, count)
+    } else {
+        chain::after(tables, name, count)
+    }
+}
+
+// The block that a way begins with.
+#[inline(never)]
+fn begin<T: Tables>(tables: &T, last: u32, back: bool, count: &mut Accesses) -> u32 {
+    if back {
+        return last;
+    }
+    let mut first = last;
+    let mut at = chain::before(tables, last, count);
+    while let Some(name) = at {
+        first = name;
+        at = chain::before(tables, name, count);
+    }
+    first
+}
+
+// Leaves out the first blocks, as long as the others have enough whole steps.
+#[inline(always)]
+fn shorten<T: Tables>(
+    tables: &T,
+    mut span: Span,
+    back: bool,
+    step: u32,
+    need: u32,
+    few: u32,
+    count: &mut Accesses,
+) -> Span {
+    while span
+        .sums
+        .without(span.size, span.used, step)
+        .have(need, few)
+    {
+        let sums = span.sums.without(span.size, span.used, step);
+        let Some(first) = next(tables, span.first, back, count) else {
+            // no other has no step
+            return span;
+        };
+        let first_size = tables.size(first, count);
+        let first_used = chain::is_used(tables, first, count);
+        span = Span {
+            first,
+            size: first_size,
+            used: first_used,
+            sums,
+        };
+    }
+    span
+}
+
+// The last in space of the cheapest runs that serve a request: that give up by steps at least `want` units, and
+// `short` names. Its first block is that on the way, which goes on to the last block, or back to the first one.
+// By steps the way goes on, since the last block of a run gives up all its units. By steps of one unit each does,
+// so it goes back, and needs no walk to the first block. At a free block the span leaves out its first blocks,
+// as long as the others still serve, and then is a run. Where it does not serve, blocks that were left out could
+// help, but such a run has one within it that was found, and costs no less.
+#[inline(always)]
+fn walk<T: Tables>(
+    tables: &T,
+    last: u32,
+    back: bool,
+    step: u32,
+    want: u32,
+    short: u32,
+    count: &mut Accesses,
+) -> Option<Run> {
+    let first = begin(tables, last, back, count);
+    let first_size = tables.size(first, count);
+    let first_used = chain::is_used(tables, first, count);
+    let none = Sums {
+        whole: 0,
+        names: 0,
+        units: 0,
+        ranges: 0,
+    };
+    let mut span = Span {
+        first,
+        size: first_size,
+        used: first_used,
+        sums: none.and(first_size, first_used, step),
+    };
+    let mut run = None;
+    let mut at = next(tables, first, back, count);
+    while let Some(name) = at {
+        let size = tables.size(name, count);
+        let used = chain::is_used(tables, name, count);
+        span.sums = span.sums.and(size, used, step);
+        if !used {
+            let need = want.saturating_sub(size % step);
+            let few = few_of(size % step, short);
+            if span.sums.have(need, few) {
+                span = shorten(tables, span, back, step, need, few, count);
+                let found = Run {
+                    first: span.first,
+                    end: name,
+                    cost: RoomCost {
+                        units: span.sums.units,
+                        ranges: span.sums.ranges,
+                    },
+                };
+                run = Some(better(run, found, back));
+            }
+        }
+        at = next(tables, name, back, count);
+    }
+    run
+}
+
+// The last of the cheapest runs with at least `want` free units, where no free block alone has so many.
+#[inline(never)]
+pub(crate) fn cheapest<T: Tables>(
+    tables: &T,
+    last: u32,
+    want: u32,
+    count: &mut Accesses,
+) -> Option<Run> {
+    let run = walk(tables, last, true, 1, want, 0, count)?;
+    Some(Run {
+        first: run.end,
+        end: run.first,
+        cost: run.cost,
+    })
+}
+
+// The last of the cheapest runs that give up by steps at least `want` units, and `short` names, where no free
+// block alone does.
+#[inline(never)]
+pub(crate) fn cheapest_by<T: Tables>(
+    tables: &T,
+    last: u32,
+    step: u32,
+    want: u32,
+    short: u32,
+    count: &mut Accesses,
+) -> Option<Run> {
+    walk(tables, last, false, step, want, short, count)
+}
