@@ -412,4 +412,4 @@ IN_STEPS = {"made", "moves_are_listed"}
 
 # Attributes and macros that are printed as they are. Any other stops `erase`.
 ATTRIBUTES = {"cold", "doc", "inline", "track_caller"}
-MACROS = {"matches", "unreachable", "write", "writeln"}
+MACROS = {"in_heap", "macro_rules", "matches", "unreachable", "write", "writeln"}

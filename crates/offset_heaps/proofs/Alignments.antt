@@ -6,6 +6,7 @@ use Rattle.std.specs.Int.{◌∣◌}
 use Rattle.std.specs.List.{AllByRecursion}
 use Rattle.offset_allocator.specs.Ranges.{Range}
 use Rattle.offset_allocator.specs.Requests.{blocks_needed}
+use Rattle.offset_guarded.specs.Answers as tickets
 use Rattle.offset_guarded.specs.Guard.{Guard, Ticket, AreAlike, serial_of}
 use Rattle.offset_guarded.specs.Guard as guarded
 use Rattle.offset_guarded.proofs.Guards.{live_fits}
@@ -14,13 +15,12 @@ use Rattle.offset_guarded.proofs.Continued.{alike_range}
 use Rattle.offset_heaps.specs.declared.limits.Limits.{Limits}
 use Rattle.offset_heaps.specs.declared.place.Granted.{Granted}
 use Rattle.offset_heaps.specs.Changing.{Alters, CompactsAll, CompactsSlot}
-use Rattle.offset_heaps.specs.Heaps.{Heaps, Grants, IsBefore, IsSame, KeepsAlignments, heap_at, part, range_in, range_of, slot, step_of, ticket_in}
+use Rattle.offset_heaps.specs.Heaps.{Heaps, GrantsBy, IsSame, KeepsAlignments, heap_at, part, range_in, range_of, slot, step_of, ticket_in}
 use Rattle.offset_guarded.specs.Calls.{Continues}
 use Rattle.offset_heaps.specs.Histories.{AreSteps, BeginsAt, ContinuesIn, IsStep}
 use Rattle.offset_heaps.specs.Places.{Place, place_of, ticket_of}
-use Rattle.offset_heaps.specs.Tight.{GrantsTight}
 use Rattle.offset_heaps.specs.State as state
-use Rattle.offset_heaps.proofs.{Numbers.slot_other, Numbers.slot_same, Numbers.slot_there, Raising.raised_realm}
+use Rattle.offset_heaps.proofs.{Grants.granted, Grants.now, Grants.step_joined, Numbers.slot_other, Numbers.slot_same, Numbers.slot_there, Raising.raised_realm}
 
 -- ---- what is kept in the heap of a number
 abbrev SlotKeeps : Option Guard → Option Guard → Type 0
@@ -61,9 +61,9 @@ now_keep : (hs ks : Heaps) (slots : List (Option Guard)) → ks.slots ≡ slots 
 now_keep hs ks slots e each = slots_keep hs ks (λ j. subst (λ s. SlotKeeps (slot j hs.slots) (slot j s)) (sym e) (each j))
 
 -- a heap is changed in place
-pub alters_keep : (k : ℕ) (P : Guard → Guard → Type 0) (hs ks : Heaps) → (a : Alters k P hs ks) → guarded.KeepsAlignments a.before a.after → KeepsAlignments hs ks
-alters_keep k P hs ks a kept = now_keep hs ks (slice_set hs.slots k (Some a.after)) (ap (λ (h : Heaps). h.slots) a.heaps)
-    (put_slots k hs.slots (Some a.after) (slot_there hs.slots k (ap is_some a.heap)) (subst (λ o. SlotKeeps o (Some a.after)) (sym a.heap) (of_guards a.before a.after kept)))
+pub alters_keep : (k : ℕ) (P : Guard → Guard → Type 0) (hs ks : Heaps) → ((g h : Guard) → P g h → guarded.KeepsAlignments g h) → Alters k P hs ks → KeepsAlignments hs ks
+alters_keep k P hs ks kept a = now_keep hs ks (slice_set hs.slots k (Some a.after)) (ap (λ (h : Heaps). h.slots) a.heaps)
+    (put_slots k hs.slots (Some a.after) (slot_there hs.slots k (ap is_some a.heap)) (subst (λ o. SlotKeeps o (Some a.after)) (sym a.heap) (of_guards a.before a.after (kept a.before a.after a.by))))
 
 compacts_slot : (o new : Option Guard) → CompactsSlot o new → SlotKeeps o new
 compacts_slot None new e = from_none new
@@ -154,12 +154,14 @@ own_kept a n align p g h t s name serial realm divides begins own = (
 realm_made : (limits : Limits) (made k : ℕ) (o : Option Guard) (g : Guard) → o ≡ Some g → state.IsHeapFormed limits made k o → g.realm ≤ made
 realm_made limits made k o g e formed = (subst (state.IsHeapFormed limits made k) e formed).1
 
-pub lasts : (size align a : ℕ) (grant : Granted) (hs ks : Heaps) (later : List Heaps) → state.IsWellFormed hs → Grants size align hs ks grant → a ∣ align → a ∣ grant.offset → AreSteps ks later
+pub lasts : (Call : Ticket → Guard → Guard → Type 0) (size align : ℕ) → ((t : Ticket) (g h : Guard) → Call t g h → tickets.Requests size g h (Some t)) → ((t : Ticket) (g h : Guard) → Call t g h → tickets.Aligns align g h (Some t))
+    → (a : ℕ) (grant : Granted) (hs ks : Heaps) (later : List Heaps) → state.IsWellFormed hs → GrantsBy Call size align hs ks grant → a ∣ align → a ∣ grant.offset → AreSteps ks later
     → AllByRecursion (BeginsAt a grant.place) (ks ∷ later)
-lasts size align a grant hs ks later formed g divides begins steps = all_begin a grant.place ks later (record {
-  made = subst (λ n. grant.place.heap_realm ≤ n) (sym (ap (λ (h : Heaps). h.made) g.heaps)) (made g.heap);
-  slot = subst (KeptIn a grant.place) (sym (ap (slot grant.place.heap) (ap (λ (h : Heaps). h.slots) g.heaps) ∙ slot_same hs.slots grant.place.heap (Some g.after) g.number))
-      (own_kept a size align grant.place g.before g.after (ticket_in grant) g.grants refl refl refl (dvd_trans a divides g.joined.second) begins);
+lasts Call size align asks aligns a grant hs ks later formed g divides begins steps = all_begin a grant.place ks later (record {
+  made = subst (λ n. grant.place.heap_realm ≤ n) (sym (ap (λ (h : Heaps). h.made) g.heaps)) made;
+  slot = subst (KeptIn a grant.place) (sym (now Call size align asks hs ks grant g))
+      (own_kept a size align grant.place (granted Call size align asks hs ks grant g).0 g.after (ticket_in grant) (granted Call size align asks hs ks grant g).1 refl refl refl
+      (dvd_trans a divides (step_joined Call size align asks hs ks grant g aligns)) begins);
 }) steps
   where
     old_made : (b : Bool) → grant.place.heap_realm ≤ hs.made → grant.place.heap_realm ≤ (if b then hs.made + 1 else hs.made)
@@ -170,28 +172,21 @@ lasts size align a grant hs ks later formed g divides begins steps = all_begin a
     new_made true e l = omega (arith, l)
     new_made false e l = absurd (cc)
 
-    made : IsBefore size align hs grant g.before → grant.place.heap_realm ≤ (if grant.is_new then hs.made + 1 else hs.made)
-    made (inl old) = old_made grant.is_new (omega (
-      arith,
-      g.grants.realm.0,
-      raised_realm hs.limits grant.place.heap (blocks_needed align) old.1.0 g.before old.1.2,
-      realm_made hs.limits hs.made grant.place.heap (heap_at grant.place.heap hs) old.1.0 old.1.1 (formed.heaps grant.place.heap),
-    ))
-    made (inr new) = new_made grant.is_new new.0 (elim new.2 [ inl usual ↦ omega (arith, usual.1.realm, g.grants.realm.0) | inr larger ↦ omega (arith, larger.1.realm, g.grants.realm.0) ])
-
-pub lasts_tight : (size align a : ℕ) (grant : Granted) (hs ks : Heaps) (later : List Heaps) → state.IsWellFormed hs → GrantsTight size align hs ks grant → a ∣ align → a ∣ grant.offset → AreSteps ks later
-    → AllByRecursion (BeginsAt a grant.place) (ks ∷ later)
-lasts_tight size align a grant hs ks later formed g divides begins steps = all_begin a grant.place ks later (record {
-  made = omega (
-    arith,
-    g.grants.realm.0,
-    raised_realm hs.limits grant.place.heap (blocks_needed align) g.was g.before g.raised,
-    realm_made hs.limits hs.made grant.place.heap (heap_at grant.place.heap hs) g.was g.heap (formed.heaps grant.place.heap),
-    ap (λ (h : Heaps). h.made) g.heaps,
-  );
-  slot = subst (KeptIn a grant.place) (sym (ap (slot grant.place.heap) (ap (λ (h : Heaps). h.slots) g.heaps) ∙ slot_same hs.slots grant.place.heap (Some g.after) (slot_there hs.slots grant.place.heap (ap is_some g.heap))))
-      (own_kept a size align grant.place g.before g.after (ticket_in grant) g.grants refl refl refl (dvd_trans a divides g.joined.second) begins);
-}) steps
+    made : grant.place.heap_realm ≤ (if grant.is_new then hs.made + 1 else hs.made)
+    made = elim g.step [
+      | inl old ↦
+          let s = old.1 in
+          old_made grant.is_new (omega (
+            arith,
+            (asks (ticket_in grant) s.before g.after s.by).grants.realm.0,
+            raised_realm hs.limits grant.place.heap (blocks_needed align) s.was s.before s.raised,
+            realm_made hs.limits hs.made grant.place.heap (heap_at grant.place.heap hs) s.was s.heap (formed.heaps grant.place.heap),
+          ))
+      | inr new ↦ new_made grant.is_new new.0 (elim new.2 [
+        | inl usual ↦ omega (arith, usual.1.new.realm, usual.1.by.1.request.grants.realm.0)
+        | inr larger ↦ omega (arith, larger.1.new.realm, larger.1.by.1.request.grants.realm.0)
+      ])
+    ]
 
 -- of a grant in the heap of a number
 pub lasts_in : (k n align a : ℕ) (t : Ticket) (P : Guard → Guard → Type 0) (hs ks : Heaps) (later : List Heaps) → state.IsWellFormed hs → ((g h : Guard) → P g h → guarded.Grants n g h t × (align ∣ h.step))

@@ -1,7 +1,7 @@
 -- After a change of one heap, in place.
-use Rattle.std.proofs.Common.{◌≡◌, ℕ, ◌<◌, Bool, false, length, List, Option, Some, None, is_some, slice_set, refl, sym, ap, subst, ◌∙◌, inl, inr}
+use Rattle.std.proofs.Common.{◌≡◌, ℕ, ◌<◌, Bool, true, false, length, List, Option, Some, None, is_some, option_map, slice_set, refl, sym, ap, subst, ◌∙◌, inl, inr}
 use Rattle.std.proofs.lemmas.Bool.{cases_eq}
-use Rattle.offset_allocator.specs.Ranges.{Range}
+use Rattle.offset_allocator.specs.{Ranges.Range}
 use Rattle.offset_allocator.specs.View.{View}
 use Rattle.offset_guarded.specs.Answers as tickets
 use Rattle.offset_guarded.specs.Guard.{Guard, Ticket}
@@ -10,7 +10,7 @@ use Rattle.offset_guarded.specs.Twins.{IsTwin}
 use Rattle.offset_guarded.proofs.Twins.{own_twin, same_twin}
 use Rattle.offset_heaps.specs.declared.limits.Limits.{Limits}
 use Rattle.offset_heaps.specs.Places.{Place, ticket_of}
-use Rattle.offset_heaps.specs.Changing.{Alters, AltersIn, KeepsLive}
+use Rattle.offset_heaps.specs.Changing.{Alters, AltersIn, KeepsLive, KeepsSizes}
 use Rattle.offset_heaps.specs.Heaps.{Heaps, IsSame, KeepsOthers, Puts, heap_at, range_in, range_of, slot}
 use Rattle.offset_heaps.specs.{Slots.Changes, Twins.AreTwins, Twins.IsTwinIn}
 use Rattle.offset_heaps.proofs.Numbers.{slot_other, slot_same, slot_set, slot_there}
@@ -70,6 +70,9 @@ module _ (k : ℕ) (P : Guard → Guard → Type 0) (hs ks : Heaps) (there : k <
       own None = refl
       own (Some g) = (g, refl, own_twin g)
 
+pub sizes_kept : (k : ℕ) (P : Guard → Guard → Type 0) (hs ks : Heaps) → ((g h : Guard) → P g h → guarded.KeepsSizes g h) → Alters k P hs ks → KeepsSizes hs ks
+sizes_kept k P hs ks kept a = kept_of_places k P hs ks (slot_there hs.slots k (ap is_some a.heap)) a (option_map (λ (r : Range). r.size)) (kept a.before a.after a.by)
+
 -- every other place has the range that it had
 pub others_kept : (p : Place) (P : Guard → Guard → Type 0) (hs ks : Heaps) → p.heap < length hs.slots → (a : Alters p.heap P hs ks) → p.realm ≡ hs.realm
     → guarded.KeepsOthers (ticket_of p) a.before a.after → KeepsOthers p hs ks
@@ -87,6 +90,20 @@ unchanged k P hs ks a e =
     let slots : slice_set hs.slots k (Some a.after) ≡ hs.slots = ap (λ (g : Guard). slice_set hs.slots k (Some g)) e ∙ ap (slice_set hs.slots k) (sym a.heap) ∙ slot_set hs.slots k in
     a.heaps ∙ ap (λ s. record hs { slots = s; accesses = ks.accesses }) slots
 
+-- the range of a place of these heaps is freed
+module _ (p : Place) (hs ks : Heaps) (own : p.realm ≡ hs.realm) (a : Alters p.heap (λ g h. tickets.Frees (ticket_of p) g h true) hs ks) where
+  abbrev Freed : Guard → Guard → Type 0
+  Freed g h = tickets.Frees (ticket_of p) g h true
+
+  abbrev there_freed : p.heap < length hs.slots
+  there_freed = slot_there hs.slots p.heap (ap is_some a.heap)
+
+  pub freed_gone : range_of p ks ≡ None
+  freed_gone = same_realm p ks (own ∙ sym (altered_realm p.heap Freed hs ks there_freed a)) ∙ ap (range_in (ticket_of p)) (now p.heap Freed hs ks there_freed a) ∙ a.by.gone
+
+  pub freed_others : KeepsOthers p hs ks
+  freed_others = others_kept p Freed hs ks there_freed a own a.by.others
+
 -- the range of a place of these heaps becomes smaller or larger in place
 module _ (p : Place) (n : ℕ) (Can : View → Type 0) (Step : View → View → Bool → Type 0) (hs ks : Heaps) (r : Option Bool) (own : p.realm ≡ hs.realm)
     (a : Alters p.heap (λ g h. tickets.Resizes (ticket_of p) n Can Step g h r) hs ks) where
@@ -95,12 +112,6 @@ module _ (p : Place) (n : ℕ) (Can : View → Type 0) (Step : View → View →
 
   there : p.heap < length hs.slots
   there = slot_there hs.slots p.heap (ap is_some a.heap)
-
-  was : range_of p hs ≡ guarded.range_of (ticket_of p) a.before
-  was = same_realm p hs own ∙ ap (range_in (ticket_of p)) a.heap
-
-  is : range_of p ks ≡ guarded.range_of (ticket_of p) a.after
-  is = same_realm p ks (own ∙ sym (altered_realm p.heap Change hs ks there a)) ∙ ap (range_in (ticket_of p)) (now p.heap Change hs ks there a)
 
   pub resized_others : KeepsOthers p hs ks
   resized_others = others_kept p Change hs ks there a own a.by.others

@@ -1,17 +1,15 @@
 -- What compacting all heaps leaves, and the moves that a closure is called with.
-use Rattle.std.proofs.Common.{◌≡◌, ℕ, suc, ◌+◌, ◌*◌, ◌<◌, ◌≤◌, Bool, true, false, not, ◌&&◌, ◌||◌, nat_lt, inl, inr, eq-eqb, ne_eqb, List, [], ◌∷◌, ◌++◌, Option, Some, None, IfSome, length, drop, nat_eq, option_map, if◌then◌else◌, refl, sym, ap, subst, ◌∙◌, arith}
+use Rattle.std.proofs.Common.{◌≡◌, ℕ, suc, ◌+◌, ◌*◌, ◌<◌, ◌≤◌, Bool, true, false, not, ◌&&◌, ◌||◌, nat_lt, inl, inr, eq-eqb, ne_eqb, List, [], ◌∷◌, ◌++◌, Option, Some, None, length, drop, nat_eq, option_map, if◌then◌else◌, refl, sym, ap, subst, ◌∙◌, arith}
 use Rattle.std.proofs.Math.Seq.{drop-cons}
 use Rattle.std.specs.List.{FoldsTo}
 use Rattle.offset_allocator.specs.{Moving.Compacting.Move, Ranges.Range, View.View}
 use Rattle.offset_guarded.specs.Guard.{Guard, Ticket}
 use Rattle.offset_guarded.specs.Guard as guarded
-use Rattle.offset_heaps.specs.declared.limits.Limits.{Limits}
 use Rattle.std.proofs.lemmas.Bool.{cases_eq, cases_lt, le-ltb, lt-ltb}
 use Rattle.offset_allocator.specs.Moving.BySteps.{CompactsBy, run_by, used_up}
 use Rattle.offset_heaps.specs.Changing.{CompactsAll, CompactsIn, CompactsSlot, KeepsSizes, can_compact, can_slide, moves_from, moves_in, numbered}
 use Rattle.offset_heaps.specs.Places.{ticket_of}
-use Rattle.offset_heaps.specs.Heaps.{Heaps, IsOfKind, heap_at, range_in, slot}
-use Rattle.offset_heaps.proofs.Sound.{kind_kept}
+use Rattle.offset_heaps.specs.Heaps.{Heaps, heap_at, range_in, slot}
 
 -- ---- whether a heap can be compacted
 or_true : (b : Bool) → (b || true) ≡ true
@@ -60,30 +58,6 @@ compacts g h done is step none serials sizes aligned few = record {
 }
 
 -- ---- what is compacted
--- has its size and node limit
-pub compacted_limits : (g h : Guard) → CompactsIn g h → (h.space.size ≡ g.space.size) × (h.space.max_allocs ≡ g.space.max_allocs)
-compacted_limits g h c = elim (cases_eq g.step 0) [
-  | inl e ↦ let same = c.none e in (ap (λ (z : Guard). z.space.size) same, ap (λ (z : Guard). z.space.max_allocs) same)
-  | inr d ↦ go (can_compact g) (c.step (omega (arith, d)))
-]
-  where
-    go : (b : Bool) → CompactsBy g.step g.space h.space b → (h.space.size ≡ g.space.size) × (h.space.max_allocs ≡ g.space.max_allocs)
-    go true (inl e) = (ap (λ (v : View). v.size) e.1, ap (λ (v : View). v.max_allocs) e.1)
-    go true (inr e) = (ap (λ (v : View). v.size) e.1.view, ap (λ (v : View). v.max_allocs) e.1.view)
-    go false e = (ap (λ (v : View). v.size) e.2, ap (λ (v : View). v.max_allocs) e.2)
-
--- has its realm
-pub realm_compacted : (made : ℕ) (old new : Option Guard) → CompactsSlot old new → IfSome old (λ g. g.realm ≤ made) → IfSome new (λ g. g.realm ≤ made)
-realm_compacted made None new e h = rw e tt
-realm_compacted made (Some before) new r h = rw r.1 (let same : r.0.realm ≡ before.realm = ap (λ (g : Guard). g.realm) r.2.serials in omega (arith, same, h))
-
--- and is of its kind
-pub kind_compacted : (limits : Limits) (k : ℕ) (old new : Option Guard) → CompactsSlot old new → IfSome old (IsOfKind limits k) → IfSome new (IsOfKind limits k)
-kind_compacted limits k None new e h = rw e tt
-kind_compacted limits k (Some before) new r h =
-    let same = compacted_limits before r.0 r.2 in
-    kind_kept limits k (Some before) new before r.0 refl r.1 same.0 same.1 h
-
 -- every place has as many units as it had
 abbrev units_in : Option Range → Option ℕ
 units_in r = option_map (λ (r : Range). r.size) r

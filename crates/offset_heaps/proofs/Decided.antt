@@ -1,139 +1,21 @@
 -- The same call on twins has the same result, and leaves twins.
 use Rattle.std.proofs.Common.{[], ◌∷◌, replicate, if◌then◌else◌}
-use Rattle.std.proofs.Common.{◌≡◌, ℕ, ◌+◌, ◌<◌, ◌≤◌, ◌⊎◌, Bool, true, length, List, Option, Some, None, IfSome, slice_set, refl, sym, ap, ap₂, subst, subst₂, ◌∙◌, inl, inr, arith}
-use Rattle.std.proofs.lemmas.Bool.{cases_lt}
-use Rattle.offset_allocator.specs.{Relations.Aligns, Relations.SameState, Requests.blocks_needed, Requests.units_needed, View.View, View.IsWellFormed, View.free_block, View.push_all}
-use Rattle.offset_allocator.proofs.{Decided.aligns_decided, Decided.tight_decided, Views.ViewTaken.well_alone}
-use Rattle.offset_guarded.specs.Guard.{Guard, Ticket, handle_in}
+use Rattle.std.proofs.Common.{◌≡◌, ℕ, ◌+◌, ◌<◌, ◌≤◌, Bool, true, length, List, Some, IfSome, Option, None, slice_set, refl, sym, ap, ap₂, subst, subst₂, ◌∙◌, inl, inr, arith}
+use Rattle.offset_allocator.specs.{Requests.blocks_needed, View.View, View.IsWellFormed, View.free_block, View.push_all}
+use Rattle.offset_allocator.proofs.Views.ViewTaken.{well_alone}
+use Rattle.offset_guarded.specs.Answers as tickets
+use Rattle.offset_guarded.specs.Answers.Answer.{Requested}
+use Rattle.offset_guarded.specs.Guard.{Guard, Ticket}
 use Rattle.offset_guarded.specs.Twins.{IsTwin}
-use Rattle.offset_guarded.proofs.Twins.{as_twin, grant_twins, joined_twins, own_twin, same_ticket, twin_sym}
+use Rattle.offset_guarded.proofs.{Decided.answers_decided, Twins.joined_twins, Twins.own_twin, Twins.twin_sym}
 use Rattle.offset_heaps.specs.declared.limits.Limits.{Limits}
 use Rattle.offset_heaps.specs.declared.place.Granted.{Granted}
-use Rattle.offset_heaps.specs.declared.refusal.Refusal.{Refusal}
-use Rattle.offset_heaps.specs.declared.refusal.Refusal.TheVariants.{Empty, TooLarge, Full, Memory}
-use Rattle.offset_heaps.specs.Heaps.{Heaps, Grants, IsBefore, IsFirstFit, IsRaisedAsNeeded, IsRaisedWhere, IsNew, IsNext, IsSame, IsSpareLarger, IsSpareUsual, IsUsual, IsWhy, MayEverFit, MustRaise, MustRaiseIn, NoneFits, Puts, raised_limit, heap_at, larger_limit, room_of, slot, ticket_in, usual_room, usual_size}
+use Rattle.offset_heaps.specs.Heaps.{Heaps, GrantsBy, GrantsNew, GrantsOld, IsRaisedAsNeeded, IsNew, IsSame, Puts, heap_at, larger_limit, slot, ticket_in, usual_size}
 use Rattle.offset_heaps.specs.Places.{place_of}
 use Rattle.offset_heaps.specs.State as state
 use Rattle.offset_heaps.specs.Twins.{AreTwins, IsTwinIn}
-use Rattle.offset_heaps.proofs.Doubling.{size_low}
-use Rattle.offset_heaps.proofs.Raising.{raised_formed}
-use Rattle.offset_heaps.proofs.Twins.{none_twins, put_twins, room_twins, some_twin, twins_sym}
-
--- ---- what a request finds
-module _ (hs ks : Heaps) (t : AreTwins hs ks) where
-  usual_twins : (units : ℕ) → IsUsual units hs → IsUsual units ks
-  usual_twins units u = subst (λ (l : Limits). IsUsual units (record hs { limits = l })) (sym t.limits) u
-
-  pub may_twins : (units : ℕ) → MayEverFit units hs → MayEverFit units ks
-  may_twins units m = subst (λ (l : Limits). MayEverFit units (record hs { limits = l })) (sym t.limits) m
-
-  spare_usual_twins : (units k : ℕ) → IsSpareUsual units k hs → IsSpareUsual units k ks
-  spare_usual_twins units k s = (
-    subst (λ (l : Limits). k < l.most) (sym t.limits) s.0,
-    none_twins hs ks t k s.1,
-    subst (λ (l : Limits). units ≤ usual_room l k) (sym t.limits) s.2,
-  )
-
-  spare_larger_twins : (k : ℕ) → IsSpareLarger k hs → IsSpareLarger k ks
-  spare_larger_twins k s = (
-    subst (λ (l : Limits). l.most ≤ k) (sym t.limits) s.0,
-    subst (λ (l : Limits). k < l.most + l.most_larger) (sym t.limits) s.1,
-    none_twins hs ks t k s.2,
-  )
-
-  pub none_fit_twins : (blocks units : ℕ) → NoneFits blocks units hs → NoneFits blocks units ks
-  none_fit_twins blocks units none k = subst (λ n. n < units) (sym (room_twins hs ks t blocks k)) (none k)
-
-  pub first_twins : (blocks units k : ℕ) → IsFirstFit blocks units k hs → IsFirstFit blocks units k ks
-  first_twins blocks units k f = (
-    subst (λ n. units ≤ n) (sym (room_twins hs ks t blocks k)) f.0,
-    λ j l. subst (λ n. n < units) (sym (room_twins hs ks t blocks j)) (f.1 j l),
-  )
-
--- ---- a heap whose node limit has to be raised
-pub must_twin : (limits : Limits) (k blocks : ℕ) (g h : Guard) → IsTwin g h → MustRaise limits k blocks g → MustRaise limits k blocks h
-must_twin limits k blocks g h t must = subst (MustRaise limits k blocks) (sym (as_twin g h t)) must
-
-must_twin_in : (limits : Limits) (k blocks : ℕ) (o p : Option Guard) → IsTwinIn o p → MustRaiseIn limits k blocks o → MustRaiseIn limits k blocks p
-must_twin_in limits k blocks None p t must = absurd must
-must_twin_in limits k blocks (Some g) p t must = subst (MustRaiseIn limits k blocks) (sym t.1) (must_twin limits k blocks g t.0 t.2 must)
-
-pub must_in_twins : (hs ks : Heaps) → AreTwins hs ks → (k blocks : ℕ) → MustRaiseIn hs.limits k blocks (heap_at k hs) → MustRaiseIn ks.limits k blocks (heap_at k ks)
-must_in_twins hs ks t k blocks must =
-    subst (λ (l : Limits). MustRaiseIn l k blocks (heap_at k ks)) (sym t.limits) (must_twin_in hs.limits k blocks (heap_at k hs) (heap_at k ks) (t.heaps k) must)
-
--- under the doubled limit it is a twin of the other one under it
-raised_twin : (limit limit' : ℕ) (g h : Guard) → limit' ≡ limit → IsTwin g h
-    → IsTwin (record g { space = record g.space { max_allocs = limit; accesses = 0 } }) (record h { space = record h.space { max_allocs = limit'; accesses = 0 } })
-raised_twin limit limit' g h same t = record {
-  space = ap (λ (v : View). record v { max_allocs = limit'; accesses = 0 }) t.space ∙ ap (λ (m : ℕ). record g.space { max_allocs = m; accesses = 0 }) same;
-  serials = t.serials;
-  given = t.given;
-  realm = t.realm;
-  step = t.step;
-}
-
-pub where_twins : (Must : Guard → Type 0) (limits : Limits) → ((g h : Guard) → IsTwin g h → Must g → Must h) → (g g' h h' : Guard) → IsTwin g g' → IsTwin g' g
-    → IsRaisedWhere Must limits g h → IsRaisedWhere Must limits g' h' → IsTwin h h'
-where_twins Must limits keeps g g' h h' t s (inl a) (inl b) =
-    subst₂ IsTwin (sym a.1) (sym b.1) (raised_twin (raised_limit limits g) (raised_limit limits g') g g' (ap (raised_limit limits) (as_twin g g' t)) t)
-where_twins Must limits keeps g g' h h' t s (inl a) (inr b) = absurd (b.0 (keeps g g' t a.0))
-where_twins Must limits keeps g g' h h' t s (inr a) (inl b) = absurd (a.0 (keeps g' g s b.0))
-where_twins Must limits keeps g g' h h' t s (inr a) (inr b) = subst₂ IsTwin (sym a.1) (sym b.1) t
-
-pub raised_twins : (limits : Limits) (k blocks : ℕ) (g g' h h' : Guard) → IsTwin g g' → IsTwin g' g → IsRaisedAsNeeded limits k blocks g h → IsRaisedAsNeeded limits k blocks g' h' → IsTwin h h'
-raised_twins limits k blocks = where_twins (MustRaise limits k blocks) limits (must_twin limits k blocks)
-
-pub next_twins : (hs ks : Heaps) → AreTwins hs ks → (units k : ℕ) → IsNext units k hs → IsNext units k ks
-next_twins hs ks t units k n =
-    let s = twins_sym hs ks t in (
-      omega (arith, n.0, t.made),
-      elim n.1 [
-        | inl u ↦ inl (usual_twins hs ks t units u.0, spare_usual_twins hs ks t units k u.1, λ j l a. u.2 j l (spare_usual_twins ks hs s units j a))
-        | inr u ↦ inr (λ a. u.0 (usual_twins ks hs s units a), spare_larger_twins hs ks t k u.1, λ j l a. u.2 j l (spare_larger_twins ks hs s j a))
-      ],
-    )
-
-pub why_twins : (hs ks : Heaps) → AreTwins hs ks → (size align : ℕ) (r : Refusal) → IsWhy size align hs r → IsWhy size align ks r
-why_twins hs ks t size align Empty w = w
-why_twins hs ks t size align TooLarge w =
-    ((w.0.0, none_fit_twins hs ks t (blocks_needed align) (units_needed size align) w.0.1), λ m. w.1 (may_twins ks hs (twins_sym hs ks t) size m))
-why_twins hs ks t size align Full w = (
-  (w.0.0, none_fit_twins hs ks t (blocks_needed align) (units_needed size align) w.0.1),
-  may_twins hs ks t size w.1,
-  λ k n. w.2 k (next_twins ks hs (twins_sym hs ks t) size k n),
-)
-why_twins hs ks t size align Memory (inl w) = inl (
-  (w.0.0, none_fit_twins hs ks t (blocks_needed align) (units_needed size align) w.0.1),
-  (w.1.0, next_twins hs ks t size w.1.0 w.1.1),
-)
-why_twins hs ks t size align Memory (inr w) =
-    inr (w.0, (w.1.0, first_twins hs ks t (blocks_needed align) (units_needed size align) w.1.0 w.1.1, must_in_twins hs ks t w.1.0 (blocks_needed align) w.1.2))
-
--- of the first numbers there is one
-pub one_first : (P : ℕ → Type 0) (k j : ℕ) → P k → ((i : ℕ) → i < k → P i → ⊥) → P j → ((i : ℕ) → i < j → P i → ⊥) → k ≡ j
-one_first P k j a first b least = elim (cases_lt k j) [
-  | inl l ↦ absurd (least k l a)
-  | inr m ↦ elim (cases_lt j k) [
-    | inl l ↦ absurd (first j l b)
-    | inr n ↦ omega (arith, m, n)
-  ]
-]
-
-pub one_fit : (blocks units k j : ℕ) (hs : Heaps) → IsFirstFit blocks units k hs → IsFirstFit blocks units j hs → k ≡ j
-one_fit blocks units k j hs a b = one_first (λ i. units ≤ room_of hs.limits i blocks (heap_at i hs)) k j a.0 (λ i l u. let less = a.1 i l in omega (arith, less, u)) b.0
-    (λ i l u. let less = b.1 i l in omega (arith, less, u))
-
-pub one_next : (units k j : ℕ) (hs : Heaps) → IsNext units k hs → IsNext units j hs → k ≡ j
-one_next units k j hs a b = go a.1 b.1
-  where
-    go : ((IsUsual units hs × IsSpareUsual units k hs × ((i : ℕ) → i < k → IsSpareUsual units i hs → ⊥)) ⊎ ((IsUsual units hs → ⊥) × IsSpareLarger k hs × ((i : ℕ) → i < k → IsSpareLarger i hs → ⊥)))
-        → ((IsUsual units hs × IsSpareUsual units j hs × ((i : ℕ) → i < j → IsSpareUsual units i hs → ⊥)) ⊎ ((IsUsual units hs → ⊥) × IsSpareLarger j hs × ((i : ℕ) → i < j → IsSpareLarger i hs → ⊥)))
-        → k ≡ j
-    go (inl a) (inl b) = one_first (λ i. IsSpareUsual units i hs) k j a.1 a.2 b.1 b.2
-    go (inl a) (inr b) = absurd (b.0 a.0)
-    go (inr a) (inl b) = absurd (a.0 b.0)
-    go (inr a) (inr b) = one_first (λ i. IsSpareLarger i hs) k j a.1 a.2 b.1 b.2
+use Rattle.offset_heaps.proofs.{Doubling.size_low, Finders.raised_twins, Finders.usual_twins, Raising.raised_formed}
+use Rattle.offset_heaps.proofs.Twins.{put_twins, some_twin, twins_sym}
 
 -- ---- new heaps
 one_new : (size max number : ℕ) (g h : Guard) → IsNew size max number g → IsNew size max number h → g ≡ h
@@ -171,78 +53,92 @@ abbrev grant_of : ℕ → ℕ → Ticket → Bool → Granted
 grant_of number realm ticket new = record { place = place_of number realm ticket; offset = ticket.offset; is_new = new }
 
 -- two grants are the same where their numbers, realms and tickets are, and both or none are new
-pub same_grants : (g h : Granted) → g.place.heap ≡ h.place.heap → g.is_new ≡ h.is_new → g.place.realm ≡ h.place.realm → ticket_in g ≡ ticket_in h → g ≡ h
+same_grants : (g h : Granted) → g.place.heap ≡ h.place.heap → g.is_new ≡ h.is_new → g.place.realm ≡ h.place.realm → ticket_in g ≡ ticket_in h → g ≡ h
 same_grants g h number new realm ticket =
     ap₂ (λ (k r : ℕ). grant_of k r (ticket_in g) g.is_new) number realm
     ∙ ap₂ (λ (t : Ticket) (b : Bool). grant_of h.place.heap h.place.realm t b) ticket new
 
-module _ (size align : ℕ) (hs hs' ks ks' : Heaps) (grant grant' : Granted) (small : grant.is_new ≡ true → size ≤ 4294967295) (is : IsKnown hs) (t : AreTwins hs hs') (number : grant.place.heap ≡ grant'.place.heap)
-    (new : grant.is_new ≡ grant'.is_new) (s : Grants size align hs ks grant) (s' : Grants size align hs' ks' grant') where
-  -- the two kinds of new heaps
-  abbrev New : Heaps → Guard → Type 0
-  New hs g = (IsUsual size hs × IsNew (usual_size hs.limits grant.place.heap) hs.limits.first_allocs (hs.made + 1) g)
-      ⊎ ((IsUsual size hs → ⊥) × IsNew size larger_limit (hs.made + 1) g)
+-- a call that grants a ticket grants twins the same one, and leaves twins
+abbrev pub IsDecided : (Ticket → Guard → Guard → Type 0) → Type 0
+IsDecided Call = (g g' h h' : Guard) (t t' : Ticket) → IsWellFormed g.space → IsTwin g g' → Call t g h → Call t' g' h' → (t ≡ t') × IsTwin h h'
 
-  new_there : (g : Guard) → ((IsUsual size hs' × IsNew (usual_size hs'.limits grant'.place.heap) hs'.limits.first_allocs (hs'.made + 1) g)
-      ⊎ ((IsUsual size hs' → ⊥) × IsNew size larger_limit (hs'.made + 1) g)) → New hs' g
-  new_there g n = subst (λ k. (IsUsual size hs' × IsNew (usual_size hs'.limits k) hs'.limits.first_allocs (hs'.made + 1) g)
-      ⊎ ((IsUsual size hs' → ⊥) × IsNew size larger_limit (hs'.made + 1) g)) (sym number) n
+abbrev Asks : (Guard → Guard → Option Ticket → Type 0) → Ticket → Guard → Guard → Type 0
+Asks Call t g h = Call g h (Some t)
 
-  new_back : (g : Guard) → New hs' g → New hs g
-  new_back g (inl n) =
-      inl (
-        usual_twins hs' hs (twins_sym hs hs' t) size n.0,
-        subst₂ (λ (l : Limits) (m : ℕ). IsNew (usual_size l grant.place.heap) l.first_allocs (m + 1) g) t.limits t.made n.1,
-      )
-  new_back g (inr n) = inr (λ u. n.0 (usual_twins hs hs' t size u), subst (λ (m : ℕ). IsNew size larger_limit (m + 1) g) t.made n.1)
+decided : (c : tickets.Call) (Call : Guard → Guard → Option Ticket → Type 0) → ((g h : Guard) (t : Ticket) → Call g h (Some t) → tickets.Answers c g h (Requested (Some t)) []) → IsDecided (Asks Call)
+decided c Call asks g g' h h' t t' known twin x y =
+    let e = answers_decided c g g' h h' known twin (Requested (Some t)) (Requested (Some t')) [] [] (asks g h t x) (asks g' h' t' y) in
+    let same = e.0 in
+    (cc, e.2)
 
-  one_kind : (g h : Guard) → size ≤ 4294967295 → New hs g → New hs h → (g ≡ h) × IsWellFormed g.space
-  one_kind g h fits (inl a) (inl b) =
-      let units : ℕ = usual_size hs.limits grant.place.heap in (
-        one_new units hs.limits.first_allocs (hs.made + 1) g h a.1 b.1,
-        new_formed units hs.limits.first_allocs (hs.made + 1) g a.1 is.limit (omega (arith, size_low hs.limits grant.place.heap, is.size)),
-      )
-  one_kind g h fits (inl a) (inr b) = absurd (b.0 a.0)
-  one_kind g h fits (inr a) (inl b) = absurd (a.0 b.0)
-  one_kind g h fits (inr a) (inr b) = (one_new size larger_limit (hs.made + 1) g h a.1 b.1, new_formed size larger_limit (hs.made + 1) g a.1 (omega arith) fits)
+pub aligned_decided : (size align : ℕ) → IsDecided (λ t g h. tickets.AllocatesAligned size align g h (Some t))
+aligned_decided size align = decided (tickets.Call.Allocate_aligned size align) (tickets.AllocatesAligned size align) (λ g h t x. (Some t, refl, x, refl))
 
-  befores : (g h : Guard) → IsBefore size align hs grant g → IsBefore size align hs' grant' h → IsTwin g h × IsWellFormed g.space
-  befores g h (inl a) (inl b) =
-      let k : ℕ = grant.place.heap in
-      let there : heap_at k hs' ≡ Some b.1.0 = ap (λ k. heap_at k hs') number ∙ b.1.1 in
-      let was = some_twin a.1.0 b.1.0 (heap_at k hs) (heap_at k hs') a.1.1 there (t.heaps k) in
-      let raised = subst₂ (λ (l : Limits) (j : ℕ). IsRaisedAsNeeded l j (blocks_needed align) b.1.0 h) t.limits (sym number) b.1.2 in
-      (raised_twins hs.limits k (blocks_needed align) a.1.0 b.1.0 g h was (twin_sym a.1.0 b.1.0 was) a.1.2 raised, raised_formed hs.limits k (blocks_needed align) a.1.0 g a.1.2 (known_at hs is k a.1.0 a.1.1))
-  befores g h (inl a) (inr b) = absurd (let e = sym a.0 ∙ new ∙ b.0 in cc)
-  befores g h (inr a) (inl b) = absurd (let e = sym b.0 ∙ sym new ∙ a.0 in cc)
-  befores g h (inr a) (inr b) =
-      let one = one_kind g h (small a.0) a.2 (new_back h (new_there h b.2)) in
-      (subst (IsTwin g) one.0 (own_twin g), one.1)
+pub tight_decided : (size align : ℕ) → IsDecided (λ t g h. tickets.AllocatesTightAligned size align g h (Some t))
+tight_decided size align = decided (tickets.Call.Allocate_tight_aligned size align) (tickets.AllocatesTightAligned size align) (λ g h t x. (Some t, refl, x, refl))
 
-  before : IsTwin s.before s'.before × IsWellFormed s.before.space
-  before = befores s.before s'.before s.heap s'.heap
+larger_decided : (size : ℕ) → IsDecided (λ t g h. tickets.AllocatesTight size g h (Some t))
+larger_decided size = decided (tickets.Call.Allocate_tight size) (tickets.AllocatesTight size) (λ g h t x. (Some t, refl, x, refl))
 
-  step : (Some (handle_in (ticket_in grant)) ≡ Some (handle_in (ticket_in grant'))) × SameState s.after.space s'.after.space
-  step = elim s.step [
+-- in heaps that are made, whose steps then take an alignment in
+news_decided : (Call : Ticket → Guard → Guard → Type 0) → IsDecided Call → (size max made align : ℕ) (h h' : Guard) (t t' : Ticket) → 2 ≤ max → size ≤ 4294967295
+    → GrantsNew (Call t) size max made align h → (b : GrantsNew (Call t') size max made align h') → (t ≡ t') × IsTwin h h'
+news_decided Call each size max made align h h' t t' few small a b =
+    let one = one_new size max made a.before b.before a.new b.new in
+    let d = each a.before b.before a.by.0 b.by.0 t t' (new_formed size max made a.before a.new few small) (subst (IsTwin a.before) one (own_twin a.before)) a.by.1 b.by.1 in
+    let m = d.1 in (
+      d.0,
+      subst₂ IsTwin (sym a.by.2.rest) (sym b.by.2.rest) (record {
+        space = m.space;
+        serials = m.serials;
+        given = m.given;
+        realm = m.realm;
+        step = joined_twins align a.by.0 b.by.0 h h' m a.by.2.joined b.by.2.joined;
+      }),
+    )
+
+module _ (Call : Ticket → Guard → Guard → Type 0) (each : IsDecided Call) (size align : ℕ) (hs hs' ks ks' : Heaps) (grant grant' : Granted) (small : grant.is_new ≡ true → size ≤ 4294967295) (is : IsKnown hs) (t : AreTwins hs hs')
+    (number : grant.place.heap ≡ grant'.place.heap) (new : grant.is_new ≡ grant'.is_new) (s : GrantsBy Call size align hs ks grant) (s' : GrantsBy Call size align hs' ks' grant') where
+  abbrev k : ℕ
+  k = grant.place.heap
+
+  abbrev u : Ticket
+  u = ticket_in grant
+
+  abbrev u' : Ticket
+  u' = ticket_in grant'
+
+  olds : GrantsOld (Call u) hs.limits k (blocks_needed align) (heap_at k hs) s.after → GrantsOld (Call u') hs'.limits grant'.place.heap (blocks_needed align) (heap_at grant'.place.heap hs') s'.after → (u ≡ u') × IsTwin s.after s'.after
+  olds a b =
+      let was = some_twin a.was b.was (heap_at k hs) (heap_at k hs') a.heap (ap (λ k. heap_at k hs') number ∙ b.heap) (t.heaps k) in
+      let before = raised_twins hs.limits k (blocks_needed align) a.was b.was a.before b.before was (twin_sym a.was b.was was) a.raised
+      (subst₂ (λ (l : Limits) (j : ℕ). IsRaisedAsNeeded l j (blocks_needed align) b.was b.before) t.limits (sym number) b.raised) in
+      each a.before b.before s.after s'.after u u' (raised_formed hs.limits k (blocks_needed align) a.was a.before a.raised (known_at hs is k a.was a.heap)) before a.by b.by
+
+  both : (u ≡ u') × IsTwin s.after s'.after
+  both = elim s.step [
     | inl a ↦ elim s'.step [
-      | inl b ↦ aligns_decided size (if grant.is_new then 1 else align) s.before.space s'.before.space s.after.space s'.after.space before.1 before.0.space
-          (Some (handle_in (ticket_in grant))) (Some (handle_in (ticket_in grant'))) a.1
-          (subst (λ (b : Bool). Aligns size (if b then 1 else align) s'.before.space s'.after.space (Some (handle_in (ticket_in grant')))) (sym new) b.1)
-      | inr b ↦ absurd (b.1 (usual_twins hs hs' t size (a.0 (new ∙ b.0))))
+      | inl b ↦ olds a.1 b.1
+      | inr b ↦ absurd (let e = sym a.0 ∙ new ∙ b.0 in cc)
     ]
     | inr a ↦ elim s'.step [
-      | inl b ↦ absurd (a.1 (usual_twins hs' hs (twins_sym hs hs' t) size (b.0 (sym new ∙ a.0))))
-      | inr b ↦ tight_decided size 1 s.before.space s'.before.space s.after.space s'.after.space before.1 before.0.space (Some (handle_in (ticket_in grant)))
-          (Some (handle_in (ticket_in grant'))) a.2 b.2
+      | inl b ↦ absurd (let e = sym b.0 ∙ sym new ∙ a.0 in cc)
+      | inr b ↦ elim a.2 [
+        | inl v ↦ elim b.2 [
+          | inl w ↦ news_decided (λ t g h. tickets.AllocatesAligned size 1 g h (Some t)) (aligned_decided size 1) (usual_size hs.limits k) hs.limits.first_allocs (hs.made + 1) align s.after s'.after u u' is.limit
+              (omega (arith, size_low hs.limits k, is.size)) v.1
+              (subst₂ (λ (l : Limits) (m : ℕ). GrantsNew (λ g h. tickets.AllocatesAligned size 1 g h (Some u')) (usual_size l k) l.first_allocs (m + 1) align s'.after) t.limits t.made
+              (subst (λ j. GrantsNew (λ g h. tickets.AllocatesAligned size 1 g h (Some u')) (usual_size hs'.limits j) hs'.limits.first_allocs (hs'.made + 1) align s'.after) (sym number) w.1))
+          | inr w ↦ absurd (w.0 (usual_twins hs hs' t size v.0))
+        ]
+        | inr v ↦ elim b.2 [
+          | inl w ↦ absurd (v.0 (usual_twins hs' hs (twins_sym hs hs' t) size w.0))
+          | inr w ↦ news_decided (λ t g h. tickets.AllocatesTight size g h (Some t)) (larger_decided size) size larger_limit (hs.made + 1) align s.after s'.after u u' (omega arith) (small a.0) v.1
+              (subst (λ (m : ℕ). GrantsNew (λ g h. tickets.AllocatesTight size g h (Some u')) size larger_limit (m + 1) align s'.after) t.made w.1)
+        ]
+      ]
     ]
   ]
-
-  ticket : ticket_in grant ≡ ticket_in grant'
-  ticket = same_ticket size s.before s'.before s.after s'.after (ticket_in grant) (ticket_in grant') before.0 s.grants s'.grants step
-
-  after : IsTwin s.after s'.after
-  after = grant_twins size s.before s'.before s.after s'.after (ticket_in grant) (ticket_in grant') before.0 s.grants s'.grants step
-      (joined_twins align s.before s'.before s.after s'.after before.0 s.joined s'.joined)
 
   there : grant.place.heap < length hs'.slots
   there = subst (λ k. k < length hs'.slots) (sym number) s'.number
@@ -252,13 +148,13 @@ module _ (size align : ℕ) (hs hs' ks ks' : Heaps) (grant grant' : Granted) (sm
 
   pub grants_decided : (grant ≡ grant') × AreTwins ks ks'
   grants_decided = (
-    same_grants grant grant' number new (s.realm ∙ sym t.realm ∙ sym s'.realm) ticket,
+    same_grants grant grant' number new (s.realm ∙ sym t.realm ∙ sym s'.realm) both.0,
     record {
       limits = ap (λ (h : Heaps). h.limits) s'.heaps ∙ t.limits ∙ sym (ap (λ (h : Heaps). h.limits) s.heaps);
       made = ap (λ (h : Heaps). h.made) s'.heaps ∙ ap₂ (λ (b : Bool) (m : ℕ). if b then m + 1 else m) (sym new) t.made ∙ sym (ap (λ (h : Heaps). h.made) s.heaps);
       realm = ap (λ (h : Heaps). h.realm) s'.heaps ∙ t.realm ∙ sym (ap (λ (h : Heaps). h.realm) s.heaps);
       heaps = λ j. subst₂ (λ (a b : List (Option Guard)). IsTwinIn (slot j a) (slot j b)) (sym (ap (λ (h : Heaps). h.slots) s.heaps)) (sym slots')
-          (put_twins grant.place.heap hs.slots hs'.slots (Some s.after) (Some s'.after) s.number there (s'.after, refl, after) t.heaps j);
+          (put_twins grant.place.heap hs.slots hs'.slots (Some s.after) (Some s'.after) s.number there (s'.after, refl, both.1) t.heaps j);
     },
   )
 

@@ -1,104 +1,82 @@
 -- Each call on twins has the same result, and leaves twins.
 use Rattle.std.proofs.Common.{[], ◌∷◌, map, suc}
 use Rattle.std.proofs.Common.{◌≡◌, ℕ, ◌+◌, ◌<◌, ◌≤◌, Bool, true, false, List, Option, Some, None, MatchOption, Result, Ok, Err, IsSome, is_some, if◌then◌else◌, nat_eq, refl, sym, ap, ap₂, subst, subst₂, ◌∙◌, inl, inr, arith, IsTrue, ◌↔◌}
-use Rattle.std.proofs.lemmas.Bool.{cases_Bool, cases_eq, cases_lt}
+use Rattle.std.proofs.lemmas.Bool.{cases_Bool, cases_lt}
 use Rattle.offset_allocator.specs.{Requests.blocks_needed, Requests.units_needed, View.IsWellFormed, View.count_used}
-use Rattle.offset_allocator.specs.declared.moves.room.RoomCost.{RoomCost}
 use Rattle.offset_allocator.proofs.{DecidedChanges.extends_decided, Moving.DecidedSteps.compacts_by_decided}
 use Rattle.offset_allocator.specs.{Moving.BySteps.CompactsBy, Moving.Compacting.Move}
 use Rattle.std.specs.Int.{IsGcd}
 use Rattle.std.proofs.lemmas.Nat.Gcd.{same_from_IsGcd}
-use Rattle.offset_guarded.specs.Guard.{Guard, serial_of}
+use Rattle.offset_guarded.specs.Guard.{Guard, Ticket, serial_of}
 use Rattle.std.specs.declared.alloc.AllocError.{AllocError}
 use Rattle.offset_guarded.specs.Answers as tickets
 use Rattle.offset_guarded.specs.Answers.{Notes}
 use Rattle.offset_guarded.specs.Twins.{IsTwin}
 use Rattle.offset_guarded.proofs.Decided.{answers_decided}
-use Rattle.offset_guarded.proofs.Twins.{as_twin, free_twins, kept_twins, same_twin, slid_twins, twin_sym, twin_trans}
+use Rattle.offset_guarded.proofs.Twins.{as_twin, kept_twins, same_twin, slid_twins, twin_sym, twin_trans}
 use Rattle.offset_heaps.specs.declared.limits.Limits.{Limits}
 use Rattle.offset_heaps.specs.declared.place.Granted.{Granted}
 use Rattle.offset_heaps.specs.declared.refusal.Refusal.{Refusal}
 use Rattle.offset_heaps.specs.declared.refusal.Refusal.TheVariants.{Memory}
 use Rattle.offset_heaps.specs.Changing.{Alters, CompactsAll, CompactsIn, CompactsSlot, IsCompactible, RetractsTo, can_compact}
 use Rattle.offset_heaps.specs.Extending.{CanExtendIn, ExtendsIf, MustExtend}
-use Rattle.offset_heaps.specs.Heaps.{Heaps, Grants, IsFirstFit, IsRaisedWhere, IsNext, IsWhy, NoneFits, Puts, heap_at, is_empty, empties, least_units, live_units_of, numbers, part, slot, step_at, step_of, AreTotals, free_of, largest_room}
+use Rattle.offset_heaps.specs.Heaps.{Heaps, Grants, IsRaisedWhere, IsNext, Puts, heap_at, is_empty, empties, least_units, live_units_of, numbers, part, slot, step_at, step_of, AreTotals, free_of, largest_room}
 use Rattle.offset_heaps.specs.{Heaps.range_of, Heaps.room_of, Heaps.total, Heaps.units_of_heap, Histories.ResetsAll, State.quiet, Twins.AreTwins, Twins.IsTwinIn}
 use Rattle.offset_heaps.specs.declared.totals.Totals.{Totals}
 use Rattle.offset_heaps.specs.Places.{Place, ticket_of}
 use Rattle.offset_heaps.specs.Relocating.{HasLive, IsEmptiest, NoneLive, TakesRange, live_units_at, units_in, size_of, IsOwnAlign, offset_in, offset_of}
 use Rattle.offset_heaps.specs.State as state
-use Rattle.offset_heaps.proofs.{States.slot_quiet, Empties.empty_there, Grants.memory_alone, Grants.none_found, Grants.one_reason, Numbers.slot_there}
-use Rattle.offset_heaps.specs.Calls.{Allocates, TakesAll, Call, Allocate, Allocate_tight, Free, Relocate, Drop_empty, Drop_heap, Give_up, Reset, Shrink, Grow_in_place, Extend_heap, Compact_heap, Compact_all, Make_room, Retract_heap, On_heap, Answered, Drops, DropsEmpty, Frees, GivesUp, IsStarved, ExtendsOne, Relocates, Reply, Requested, Second, Dropped, Was_done, Resized, Extended, Room_made, Takes, TakesAt, TakesWhere, CompactsEach, RelocatesOwn, Relocate_aligned, TakesOn}
-use Rattle.offset_heaps.proofs.Decided.{first_twins, grants_decided, known, known_at, must_in_twins, next_twins, none_fit_twins, one_first, one_fit, one_next, puts_twins, same_twins, where_twins, why_twins}
+use Rattle.offset_heaps.proofs.{States.slot_quiet, Empties.empty_there, Numbers.slot_there}
+use Rattle.offset_heaps.specs.Calls.{Allocates, AllocatesBy, AllocatesTight, TakesAll, Call, Allocate, Allocate_tight, Free, Relocate, Drop_empty, Drop_heap, Give_up, Reset, Shrink, Grow_in_place, Extend_heap, Compact_heap, Compact_all, Make_room, Retract_heap, On_heap, Answered, Drops, DropsEmpty, Frees, GivesUp, IsStarved, ExtendsOne, Relocates, Reply, Requested, Second, Dropped, Was_done, Resized, Extended, Takes, TakesAt, TakesWhere, CompactsEach, RelocatesOwn, Relocate_aligned, TakesOn}
+use Rattle.offset_heaps.proofs.Decided.{IsDecided, aligned_decided, grants_decided, known, known_at, puts_twins, same_twins, tight_decided}
+use Rattle.offset_heaps.proofs.Finders.{IsFinder, fits, holds, must_in_twins, next_twins, one_first, one_next, where_twins, why_twins}
 use Rattle.offset_heaps.proofs.Compacted.{compacts, done_is}
-use Rattle.offset_heaps.proofs.DecidedTight.{tights_decided}
+use Rattle.offset_heaps.proofs.Refusals.{one_reason, refused}
 use Rattle.offset_allocator.specs.Moving.Retracting.{CanRetract}
 use Rattle.offset_heaps.proofs.Limited.{unretracted}
 use Rattle.offset_heaps.proofs.Longer.{range_longer, serials_longer}
 use Rattle.offset_heaps.proofs.Raising.{where_formed}
-use Rattle.offset_heaps.proofs.Twins.{none_twins, option_twin, range_twins, reset_twins, room_twins, some_twin, total_twins, twin_some, twins_sym, twins_trans}
+use Rattle.offset_heaps.proofs.Twins.{in_twin, none_twins, option_twin, range_twins, reset_twins, room_twins, some_twin, total_twins, twin_some, twins_sym, twins_trans}
 
 -- ---- requests
-pub refused : (size align : ℕ) (hs : Heaps) (why : Refusal) (g : Granted) → (size ≡ 0 → ⊥) → IsWhy size align hs why → (why ≡ Memory → ⊥)
-    → (g.is_new ≡ false → IsFirstFit (blocks_needed align) (units_needed size align) g.place.heap hs) → (g.is_new ≡ true → IsNext size g.place.heap hs) → ⊥
-refused size align hs why g some w other found made =
-    let one : 1 ≤ size = elim (cases_eq size 0) [ inl e ↦ absurd (some e) | inr d ↦ omega (arith, d) ] in
-    elim (cases_Bool g.is_new) [
-      | inl e ↦ other (memory_alone size align g.place.heap hs why one (made e) w)
-      | inr e ↦ other (none_found size align g.place.heap hs why one (found e) w).0
-    ]
-
-both_granted : (size align : ℕ) (hs hs' : Heaps) (g h : Granted) → AreTwins hs hs'
-    → (g.is_new ≡ false → IsFirstFit (blocks_needed align) (units_needed size align) g.place.heap hs)
-    → (g.is_new ≡ true → NoneFits (blocks_needed align) (units_needed size align) hs × IsNext size g.place.heap hs)
-    → (h.is_new ≡ false → IsFirstFit (blocks_needed align) (units_needed size align) h.place.heap hs')
-    → (h.is_new ≡ true → NoneFits (blocks_needed align) (units_needed size align) hs' × IsNext size h.place.heap hs')
-    → (g.place.heap ≡ h.place.heap) × (g.is_new ≡ h.is_new)
-both_granted size align hs hs' g h t found made found' made' =
-    let s = twins_sym hs hs' t in
-    let blocks = blocks_needed align in
-    let units = units_needed size align in
-    elim (cases_Bool g.is_new) [
-      | inl e ↦ elim (cases_Bool h.is_new) [
-        | inl f ↦ (one_next size g.place.heap h.place.heap hs (made e).1 (next_twins hs' hs s size h.place.heap (made' f).1), e ∙ sym f)
-        | inr f ↦ absurd (let fit = (first_twins hs' hs s blocks units h.place.heap (found' f)).0 in let less = (made e).0 h.place.heap in omega (arith, fit, less))
+module _ {NoneServes : Heaps → Type 0} {FirstServes : ℕ → Heaps → Type 0} (f : IsFinder NoneServes FirstServes) {Call : Ticket → Guard → Guard → Type 0} (each : IsDecided Call) (size align : ℕ) where
+  -- which heap grants it, and whether it is new
+  both_granted : (hs hs' : Heaps) (g h : Granted) → AreTwins hs hs' → (g.is_new ≡ false → FirstServes g.place.heap hs) → (g.is_new ≡ true → NoneServes hs × IsNext size g.place.heap hs)
+      → (h.is_new ≡ false → FirstServes h.place.heap hs') → (h.is_new ≡ true → NoneServes hs' × IsNext size h.place.heap hs') → (g.place.heap ≡ h.place.heap) × (g.is_new ≡ h.is_new)
+  both_granted hs hs' g h t found made found' made' =
+      let s = twins_sym hs hs' t in
+      let k : ℕ = g.place.heap in
+      let j : ℕ = h.place.heap in
+      elim (cases_Bool g.is_new) [
+        | inl e ↦ elim (cases_Bool h.is_new) [
+          | inl q ↦ (one_next size k j hs (made e).1 (next_twins hs' hs s size j (made' q).1), e ∙ sym q)
+          | inr q ↦ absurd (f.apart j hs (made e).0 (f.first j hs' hs s (found' q)))
+        ]
+        | inr e ↦ elim (cases_Bool h.is_new) [
+          | inl q ↦ absurd (f.apart k hs (f.none hs' hs s (made' q).0) (found e))
+          | inr q ↦ (f.one k j hs (found e) (f.first j hs' hs s (found' q)), e ∙ sym q)
+        ]
       ]
-      | inr e ↦ elim (cases_Bool h.is_new) [
-        | inl f ↦ absurd (let fit = (found e).0 in let less = none_fit_twins hs' hs s blocks units (made' f).0 g.place.heap in omega (arith, fit, less))
-        | inr f ↦ (one_fit blocks units g.place.heap h.place.heap hs (found e) (first_twins hs' hs s blocks units h.place.heap (found' f)), e ∙ sym f)
-      ]
-    ]
 
-pub allocates_decided : (size align : ℕ) (hs hs' ks ks' : Heaps) → size ≤ 4294967295 → state.IsWellFormed hs → AreTwins hs hs' → (r r' : Result Granted Refusal)
-    → Allocates size align hs ks r → Allocates size align hs' ks' r' → (r ≡ Err Memory → ⊥) → (r' ≡ Err Memory → ⊥) → (r ≡ r') × AreTwins ks ks'
-allocates_decided size align hs hs' ks ks' small is t (Err a) (Err b) x y m n = (
-  ap Err (one_reason size align hs a b x.why (why_twins hs' hs (twins_sym hs hs' t) size align b y.why)),
-  same_twins hs hs' ks ks' t x.same y.same,
-)
-allocates_decided size align hs hs' ks ks' small is t (Err a) (Ok h) x y m n = absurd (refused size align hs' a h (λ e. let q = y.empty e in cc) (why_twins hs hs' t size align a x.why)
-    (λ e. m (ap Err e)) y.found (λ e. (y.made e).1))
-allocates_decided size align hs hs' ks ks' small is t (Ok g) (Err b) x y m n =
-    absurd (refused size align hs b g (λ e. let q = x.empty e in cc) (why_twins hs' hs (twins_sym hs hs' t) size align b y.why)
-    (λ e. n (ap Err e)) x.found (λ e. (x.made e).1))
-allocates_decided size align hs hs' ks ks' small is t (Ok g) (Ok h) x y m n =
-    let one = both_granted size align hs hs' g h t x.found x.made y.found y.made in
-    let all = grants_decided size align hs hs' ks ks' g h (λ e. small) (known hs is) t one.0 one.1 x.grants y.grants in
-    (ap Ok all.0, all.1)
+  requests_decided : (hs hs' ks ks' : Heaps) → size ≤ 4294967295 → state.IsWellFormed hs → AreTwins hs hs' → (r r' : Result Granted Refusal) → AllocatesBy NoneServes FirstServes Call size align hs ks r
+      → AllocatesBy NoneServes FirstServes Call size align hs' ks' r' → (r ≡ Err Memory → ⊥) → (r' ≡ Err Memory → ⊥) → (r ≡ r') × AreTwins ks ks'
+  requests_decided hs hs' ks ks' small is t (Err a) (Err b) x y m n =
+      (ap Err (one_reason f size align hs a b x.why (why_twins f hs' hs (twins_sym hs hs' t) size align b y.why)), same_twins hs hs' ks ks' t x.same y.same)
+  requests_decided hs hs' ks ks' small is t (Err a) (Ok h) x y m n = absurd (refused f size align hs' a h (λ e. let q = y.empty e in cc) (why_twins f hs hs' t size align a x.why) (λ e. m (ap Err e)) y.found (λ e. (y.made e).1))
+  requests_decided hs hs' ks ks' small is t (Ok g) (Err b) x y m n =
+      absurd (refused f size align hs b g (λ e. let q = x.empty e in cc) (why_twins f hs' hs (twins_sym hs hs' t) size align b y.why) (λ e. n (ap Err e)) x.found (λ e. (x.made e).1))
+  requests_decided hs hs' ks ks' small is t (Ok g) (Ok h) x y m n =
+      let one = both_granted hs hs' g h t x.found x.made y.found y.made in
+      let all = grants_decided Call each size align hs hs' ks ks' g h (λ e. small) (known hs is) t one.0 one.1 x.grants y.grants in
+      (ap Ok all.0, all.1)
 
--- ---- releases
-pub free_decided : (p : Place) (hs hs' ks ks' : Heaps) → state.IsWellFormed hs → AreTwins hs hs' → (r r' : Bool) → Frees p hs ks r → Frees p hs' ks' r' → (r ≡ r') × AreTwins ks ks'
-free_decided p hs hs' ks ks' is t false false x y = (refl, same_twins hs hs' ks ks' t (x.same refl) (y.same refl))
-free_decided p hs hs' ks ks' is t true false x y = absurd (let e : false ≡ true = y.done.1 (subst (λ o. is_some o ≡ true) (sym (range_twins hs hs' t p)) (x.done.0 refl)) in cc)
-free_decided p hs hs' ks ks' is t false true x y = absurd (let e : false ≡ true = x.done.1 (subst (λ o. is_some o ≡ true) (range_twins hs hs' t p) (y.done.0 refl)) in cc)
-free_decided p hs hs' ks ks' is t true true x y =
-    let f = x.step refl in
-    let k = y.step refl in
-    let before = some_twin f.before k.before (heap_at p.heap hs) (heap_at p.heap hs') f.heap k.heap (t.heaps p.heap) in
-    let after = free_twins p.name f.before k.before f.after k.after (known_at hs (known hs is) p.heap f.before f.heap) before f.step k.step f.serials k.serials in (
-      refl,
-      puts_twins p.heap (Some f.after) (Some k.after) hs hs' ks ks' t (slot_there hs.slots p.heap (ap is_some f.heap)) (slot_there hs'.slots p.heap (ap is_some k.heap))
-          (k.after, refl, after) f.heaps k.heaps,
-    )
+allocates_decided : (size align : ℕ) (hs hs' ks ks' : Heaps) → size ≤ 4294967295 → state.IsWellFormed hs → AreTwins hs hs' → (r r' : Result Granted Refusal) → Allocates size align hs ks r → Allocates size align hs' ks' r'
+    → (r ≡ Err Memory → ⊥) → (r' ≡ Err Memory → ⊥) → (r ≡ r') × AreTwins ks ks'
+allocates_decided size align = requests_decided (fits (blocks_needed align) (units_needed size align)) (aligned_decided size align) size align
+
+tights_decided : (size align : ℕ) (hs hs' ks ks' : Heaps) → size ≤ 4294967295 → state.IsWellFormed hs → AreTwins hs hs' → (r r' : Result Granted Refusal) → AllocatesTight size align hs ks r → AllocatesTight size align hs' ks' r'
+    → (r ≡ Err Memory → ⊥) → (r' ≡ Err Memory → ⊥) → (r ≡ r') × AreTwins ks ks'
+tights_decided size align = requests_decided (holds size align) (tight_decided size align) size align
 
 -- ---- ranges and heaps that are changed in place
 some_twins : (hs ks : Heaps) → AreTwins hs ks → (k : ℕ) → is_some (heap_at k ks) ≡ is_some (heap_at k hs)
@@ -111,8 +89,22 @@ alters_twins k P Q hs hs' ks ks' t a b twin =
 before_twins : (k : ℕ) (P Q : Guard → Guard → Type 0) (hs hs' ks ks' : Heaps) → AreTwins hs hs' → (a : Alters k P hs ks) → (b : Alters k Q hs' ks') → IsTwin a.before b.before
 before_twins k P Q hs hs' ks ks' t a b = some_twin a.before b.before (heap_at k hs) (heap_at k hs') a.heap b.heap (t.heaps k)
 
+free_decided : (p : Place) (hs hs' ks ks' : Heaps) → state.IsWellFormed hs → AreTwins hs hs' → (r r' : Bool) → Frees p hs ks r → Frees p hs' ks' r' → (r ≡ r') × AreTwins ks ks'
+free_decided p hs hs' ks ks' is t false false x y = (refl, same_twins hs hs' ks ks' t (x.same refl) (y.same refl))
+free_decided p hs hs' ks ks' is t true false x y = absurd (let e : false ≡ true = y.done.1 (subst (λ o. is_some o ≡ true) (sym (range_twins hs hs' t p)) (x.done.0 refl)) in cc)
+free_decided p hs hs' ks ks' is t false true x y = absurd (let e : false ≡ true = x.done.1 (subst (λ o. is_some o ≡ true) (range_twins hs hs' t p) (y.done.0 refl)) in cc)
+free_decided p hs hs' ks ks' is t true true x y =
+    let f = x.step refl in
+    let k = y.step refl in
+    let c = tickets.Call.Free (ticket_of p) in
+    let done = tickets.Answer.Was_done true in
+    let P : Guard → Guard → Type 0 = λ g h. tickets.Frees (ticket_of p) g h true in
+    let before = before_twins p.heap P P hs hs' ks ks' t f k in
+    let e = answers_decided c f.before k.before f.after k.after (known_at hs (known hs is) p.heap f.before f.heap) before done done [] [] (true, refl, f.by, refl) (true, refl, k.by, refl) in
+    (refl, alters_twins p.heap P P hs hs' ks ks' t f k e.2)
+
 -- ---- calls of tickets on one heap
-pub on_heap_decided : (k : ℕ) (c : tickets.Call) (hs hs' ks ks' : Heaps) → state.IsWellFormed hs → AreTwins hs hs' → (a a' : tickets.Answer) (ms ms' : List Move)
+on_heap_decided : (k : ℕ) (c : tickets.Call) (hs hs' ks ks' : Heaps) → state.IsWellFormed hs → AreTwins hs hs' → (a a' : tickets.Answer) (ms ms' : List Move)
     → TakesOn k c hs ks a ms → TakesOn k c hs' ks' a' ms' → (a ≡ a') × (ms ≡ ms') × AreTwins ks ks'
 on_heap_decided k c hs hs' ks ks' is t a a' ms ms' x y =
     let P : Guard → Guard → Type 0 = λ g h. tickets.Answers c g h a ms in
@@ -137,16 +129,8 @@ where_decided k c without hs hs' ks ks' is t a a' x y = go (heap_at k hs) refl
         let one = on_heap_decided k c hs hs' ks ks' is t a a' m.0 n.0 m.1 n.1 in
         (one.0, one.2)
 
-pub room_decided : (k size align : ℕ) (hs hs' ks ks' : Heaps) → state.IsWellFormed hs → AreTwins hs hs' → (r r' : Option RoomCost)
-    → TakesWhere k (tickets.Call.Make_room size align) (tickets.Answer.Room_made None) hs ks (tickets.Answer.Room_made r)
-    → TakesWhere k (tickets.Call.Make_room size align) (tickets.Answer.Room_made None) hs' ks' (tickets.Answer.Room_made r') → (r ≡ r') × AreTwins ks ks'
-room_decided k size align hs hs' ks ks' is t r r' x y =
-    let one = where_decided k (tickets.Call.Make_room size align) (tickets.Answer.Room_made None) hs hs' ks ks' is t (tickets.Answer.Room_made r) (tickets.Answer.Room_made r') x y in
-    let e = one.0 in
-    (cc, one.1)
-
 -- and where the range of a place is live
-pub size_decided : (p : Place) (c : tickets.Call) (hs hs' ks ks' : Heaps) → state.IsWellFormed hs → AreTwins hs hs' → (r r' : Option Bool) → TakesAt p c hs ks r → TakesAt p c hs' ks' r' → (r ≡ r') × AreTwins ks ks'
+size_decided : (p : Place) (c : tickets.Call) (hs hs' ks ks' : Heaps) → state.IsWellFormed hs → AreTwins hs hs' → (r r' : Option Bool) → TakesAt p c hs ks r → TakesAt p c hs' ks' r' → (r ≡ r') × AreTwins ks ks'
 size_decided p c hs hs' ks ks' is t None None x y = (refl, same_twins hs hs' ks ks' t (x.not_live refl) (y.not_live refl))
 size_decided p c hs hs' ks ks' is t None (Some d) x y = absurd (let e : false ≡ true = x.live.1 (subst (λ o. is_some o ≡ true) (range_twins hs hs' t p) (y.live.0 refl)) in cc)
 size_decided p c hs hs' ks ks' is t (Some d) None x y = absurd (let e : false ≡ true = y.live.1 (subst (λ o. is_some o ≡ true) (sym (range_twins hs hs' t p)) (x.live.0 refl)) in cc)
@@ -171,7 +155,7 @@ retracts_twins limits k less true true g g' h h' known t x y =
     let e = answers_decided (tickets.Call.Retract less) g g' h h' known t (tickets.Answer.Was_done true) (tickets.Answer.Was_done true) [] [] (true, refl, x.step refl, refl) (true, refl, y.step refl, refl) in
     (refl, e.2)
 
-pub retracts_decided : (k less : ℕ) (hs hs' ks ks' : Heaps) → state.IsWellFormed hs → AreTwins hs hs' → (r r' : Bool) → Alters k (RetractsTo hs.limits k less r) hs ks → Alters k (RetractsTo hs'.limits k less r') hs' ks'
+retracts_decided : (k less : ℕ) (hs hs' ks ks' : Heaps) → state.IsWellFormed hs → AreTwins hs hs' → (r r' : Bool) → Alters k (RetractsTo hs.limits k less r) hs ks → Alters k (RetractsTo hs'.limits k less r') hs' ks'
     → (r ≡ r') × AreTwins ks ks'
 retracts_decided k less hs hs' ks ks' is t r r' x y =
     let P : Guard → Guard → Type 0 = RetractsTo hs.limits k less r in
@@ -183,11 +167,9 @@ retracts_decided k less hs hs' ks ks' is t r r' x y =
 
 -- ---- more units
 can_extend_twins : (k more : ℕ) (hs ks : Heaps) → AreTwins hs ks → CanExtendIn hs.limits k more (heap_at k hs) → CanExtendIn ks.limits k more (heap_at k ks)
-can_extend_twins k more hs ks t can = subst (λ (l : Limits). CanExtendIn l k more (heap_at k ks)) (sym t.limits) (go (heap_at k hs) (heap_at k ks) (t.heaps k) can)
-  where
-    go : (o p : Option Guard) → IsTwinIn o p → CanExtendIn hs.limits k more o → CanExtendIn hs.limits k more p
-    go None p u can = absurd can
-    go (Some g) p u can = subst (CanExtendIn hs.limits k more) (sym u.1) (subst (λ (z : Guard). CanExtendIn hs.limits k more (Some z)) (sym (as_twin g u.0 u.2)) can)
+can_extend_twins k more hs ks t can =
+    let Can : Option Guard → Type 0 = CanExtendIn hs.limits k more in
+    subst (λ (l : Limits). CanExtendIn l k more (heap_at k ks)) (sym t.limits) (in_twin Can (heap_at k hs) (heap_at k ks) (λ g h u x. subst (λ (z : Guard). Can (Some z)) (sym (as_twin g h u)) x) (t.heaps k) can)
 
 can_there : (limits : Limits) (k more : ℕ) (o : Option Guard) → CanExtendIn limits k more o → IsSome o
 can_there limits k more None can = absurd can
@@ -196,7 +178,7 @@ can_there limits k more (Some g) can = refl
 must_extend_twin : (limits : Limits) (k more : ℕ) (g h : Guard) → IsTwin g h → MustExtend limits k more g → MustExtend limits k more h
 must_extend_twin limits k more g h t must = subst (MustExtend limits k more) (sym (as_twin g h t)) must
 
-pub lengthens_decided : (k more : ℕ) (hs hs' ks ks' : Heaps) → state.IsWellFormed hs → AreTwins hs hs' → (r r' : Result Bool AllocError) → ExtendsOne k more hs ks r → ExtendsOne k more hs' ks' r'
+lengthens_decided : (k more : ℕ) (hs hs' ks ks' : Heaps) → state.IsWellFormed hs → AreTwins hs hs' → (r r' : Result Bool AllocError) → ExtendsOne k more hs ks r → ExtendsOne k more hs' ks' r'
     → ((e : AllocError) → r ≡ Err e → ⊥) → ((e : AllocError) → r' ≡ Err e → ⊥) → (r ≡ r') × AreTwins ks ks'
 lengthens_decided k more hs hs' ks ks' is t (Err e) r' x y m n = absurd (m e refl)
 lengthens_decided k more hs hs' ks ks' is t (Ok d) (Err e) x y m n = absurd (n e refl)
@@ -273,17 +255,14 @@ compacted_twins (Some g) o' p p' twin f f' =
     let k : CompactsSlot (Some twin.0) p' = subst (λ o. CompactsSlot o p') twin.1 f' in
     twin_some f.0 k.0 p p' f.1 k.1 (compact_twins g twin.0 f.0 k.0 twin.2 f.2 k.2)
 
-compacts_all_twins : (hs hs' ks ks' : Heaps) → AreTwins hs hs' → CompactsAll hs ks → CompactsAll hs' ks' → AreTwins ks ks'
-compacts_all_twins hs hs' ks ks' t x y = record {
-  limits = ap (λ (h : Heaps). h.limits) y.rest ∙ t.limits ∙ sym (ap (λ (h : Heaps). h.limits) x.rest);
-  made = ap (λ (h : Heaps). h.made) y.rest ∙ t.made ∙ sym (ap (λ (h : Heaps). h.made) x.rest);
-  realm = ap (λ (h : Heaps). h.realm) y.rest ∙ t.realm ∙ sym (ap (λ (h : Heaps). h.realm) x.rest);
-  heaps = λ k. compacted_twins (heap_at k hs) (heap_at k hs') (heap_at k ks) (heap_at k ks') (t.heaps k) (x.heaps k) (y.heaps k);
-}
+-- all slots change, and nothing else
+slots_twins : (hs hs' ks ks' : Heaps) → AreTwins hs hs' → ks ≡ record hs { slots = ks.slots; accesses = ks.accesses } → ks' ≡ record hs' { slots = ks'.slots; accesses = ks'.accesses }
+    → ((k : ℕ) → IsTwinIn (heap_at k ks) (heap_at k ks')) → AreTwins ks ks'
+slots_twins hs hs' ks ks' t e f heaps = subst₂ AreTwins (sym e) (sym f) (record { limits = t.limits; made = t.made; realm = t.realm; heaps = heaps })
 
-compactible_twin : (o p : Option Guard) → IsTwinIn o p → IsCompactible o → IsCompactible p
-compactible_twin None p t c = subst IsCompactible (sym t) tt
-compactible_twin (Some g) p t c = subst IsCompactible (sym t.1) (can_twin g t.0 t.2 ∙ c)
+compacts_all_twins : (hs hs' ks ks' : Heaps) → AreTwins hs hs' → CompactsAll hs ks → CompactsAll hs' ks' → AreTwins ks ks'
+compacts_all_twins hs hs' ks ks' t x y =
+    slots_twins hs hs' ks ks' t x.rest y.rest (λ k. compacted_twins (heap_at k hs) (heap_at k hs') (heap_at k ks) (heap_at k ks') (t.heaps k) (x.heaps k) (y.heaps k))
 
 pub compacts_all_decided : (hs hs' ks ks' : Heaps) → AreTwins hs hs' → (r r' : Bool) → CompactsEach hs ks r → CompactsEach hs' ks' r' → (r ≡ r') × AreTwins ks ks'
 compacts_all_decided hs hs' ks ks' t r r' x y = (one r r' x.done y.done, compacts_all_twins hs hs' ks ks' t x.step y.step)
@@ -292,10 +271,10 @@ compacts_all_decided hs hs' ks ks' t r r' x y = (one r r' x.done y.done, compact
     All h = (k : ℕ) → IsCompactible (heap_at k h)
 
     there : All hs → All hs'
-    there all k = compactible_twin (heap_at k hs) (heap_at k hs') (t.heaps k) (all k)
+    there all k = in_twin IsCompactible (heap_at k hs) (heap_at k hs') (λ g h u can. can_twin g h u ∙ can) (t.heaps k) (all k)
 
     back : All hs' → All hs
-    back all k = compactible_twin (heap_at k hs') (heap_at k hs) ((twins_sym hs hs' t).heaps k) (all k)
+    back all k = in_twin IsCompactible (heap_at k hs') (heap_at k hs) (λ g h u can. can_twin g h u ∙ can) ((twins_sym hs hs' t).heaps k) (all k)
 
     one : (r r' : Bool) → IsTrue r ↔ All hs → IsTrue r' ↔ All hs' → r ≡ r'
     one true true f k = refl
@@ -323,14 +302,15 @@ module _ (p : Place) (hs ks : Heaps) (t : AreTwins hs ks) where
     },
   )
 
-pub relocates_decided : (p : Place) (align : ℕ) (hs hs' ks ks' : Heaps) → state.IsWellFormed hs → AreTwins hs hs' → (r r' : Option Granted) → Relocates p align hs ks r → Relocates p align hs' ks' r' → (r ≡ r') × AreTwins ks ks'
+relocates_decided : (p : Place) (align : ℕ) (hs hs' ks ks' : Heaps) → state.IsWellFormed hs → AreTwins hs hs' → (r r' : Option Granted) → Relocates p align hs ks r → Relocates p align hs' ks' r' → (r ≡ r') × AreTwins ks ks'
 relocates_decided p align hs hs' ks ks' is t None None x y = (refl, same_twins hs hs' ks ks' t (x.same refl) (y.same refl))
 relocates_decided p align hs hs' ks ks' is t None (Some h) x y = absurd (x.none.0 refl h.place.heap (takes_twins p hs' hs (twins_sym hs hs' t) align h.place.heap y.first.0))
 relocates_decided p align hs hs' ks ks' is t (Some g) None x y = absurd (y.none.0 refl g.place.heap (takes_twins p hs hs' t align g.place.heap x.first.0))
 relocates_decided p align hs hs' ks ks' is t (Some g) (Some h) x y =
     let s = twins_sym hs hs' t in
     let number = one_first (TakesRange p align hs) g.place.heap h.place.heap x.first.0 x.first.1 (takes_twins p hs' hs s align h.place.heap y.first.0) (λ i l u. y.first.1 i l (takes_twins p hs hs' t align i u)) in
-    let all = grants_decided (size_of p hs) align hs hs' ks ks' g h (λ e. absurd (let new : false ≡ true = sym x.found ∙ e in cc)) (known hs is) t number (x.found ∙ sym y.found) x.grants
+    let Call : Ticket → Guard → Guard → Type 0 = λ t g h. tickets.AllocatesAligned (size_of p hs) align g h (Some t) in
+    let all = grants_decided Call (aligned_decided (size_of p hs) align) (size_of p hs) align hs hs' ks ks' g h (λ e. absurd (let new : false ≡ true = sym x.found ∙ e in cc)) (known hs is) t number (x.found ∙ sym y.found) x.grants
     (subst (λ n. Grants n align hs' ks' h) (size_twins p hs hs' t) y.grants) in
     (ap Some all.0, all.1)
 
@@ -341,7 +321,7 @@ step_twins k hs hs' t = option_twin (part step_of) (heap_at k hs) (heap_at k hs'
 own_twins : (p : Place) (align : ℕ) (hs hs' : Heaps) → AreTwins hs hs' → IsOwnAlign p hs' align → IsOwnAlign p hs align
 own_twins p align hs hs' t own = subst₂ (λ (n s : ℕ). IsGcd n s align) (ap offset_in (range_twins hs hs' t p)) (step_twins p.heap hs hs' t) own
 
-pub relocates_own_decided : (p : Place) (hs hs' ks ks' : Heaps) → state.IsWellFormed hs → AreTwins hs hs' → (r r' : Option Granted) → RelocatesOwn p hs ks r → RelocatesOwn p hs' ks' r' → (r ≡ r') × AreTwins ks ks'
+relocates_own_decided : (p : Place) (hs hs' ks ks' : Heaps) → state.IsWellFormed hs → AreTwins hs hs' → (r r' : Option Granted) → RelocatesOwn p hs ks r → RelocatesOwn p hs' ks' r' → (r ≡ r') × AreTwins ks ks'
 relocates_own_decided p hs hs' ks ks' is t r r' x y = elim (cases_lt 0 (step_at p.heap hs)) [
   | inr lack ↦ stays (x.none (omega (arith, lack))) (y.none (omega (arith, lack, step_twins p.heap hs hs' t)))
   | inl some ↦ elim (cases_Bool (is_some (range_of p hs))) [
@@ -405,21 +385,13 @@ drops_empty_decided keep hs hs' ks ks' t (Some k) (Some j) x y =
     )
 
 -- ---- resets
-pub resets_decided : (hs hs' ks ks' : Heaps) → state.IsWellFormed hs → AreTwins hs hs' → ResetsAll hs ks → ResetsAll hs' ks' → AreTwins ks ks'
-resets_decided hs hs' ks ks' is t x y = record {
-  limits = ap (λ (h : Heaps). h.limits) y.rest ∙ t.limits ∙ sym (ap (λ (h : Heaps). h.limits) x.rest);
-  made = ap (λ (h : Heaps). h.made) y.rest ∙ t.made ∙ sym (ap (λ (h : Heaps). h.made) x.rest);
-  realm = ap (λ (h : Heaps). h.realm) y.rest ∙ t.realm ∙ sym (ap (λ (h : Heaps). h.realm) x.rest);
-  heaps = λ k. reset_twins (heap_at k hs) (heap_at k hs') (heap_at k ks) (heap_at k ks') ((known hs is).heaps k) (t.heaps k) (x.heaps k) (y.heaps k);
-}
+resets_decided : (hs hs' ks ks' : Heaps) → state.IsWellFormed hs → AreTwins hs hs' → ResetsAll hs ks → ResetsAll hs' ks' → AreTwins ks ks'
+resets_decided hs hs' ks ks' is t x y =
+    slots_twins hs hs' ks ks' t x.rest y.rest (λ k. reset_twins (heap_at k hs) (heap_at k hs') (heap_at k ks) (heap_at k ks') ((known hs is).heaps k) (t.heaps k) (x.heaps k) (y.heaps k))
 
 -- ---- the emptiest heap
 lives_twins : (hs ks : Heaps) → AreTwins hs ks → (k : ℕ) → HasLive (heap_at k hs) → HasLive (heap_at k ks)
-lives_twins hs ks t k = go (heap_at k hs) (heap_at k ks) (t.heaps k)
-  where
-    go : (o p : Option Guard) → IsTwinIn o p → HasLive o → HasLive p
-    go None p u live = absurd live
-    go (Some g) p u live = subst HasLive (sym u.1) (subst (λ n. 1 ≤ n) (sym (ap (λ (z : Guard). count_used z.space.blocks) (as_twin g u.0 u.2))) live)
+lives_twins hs ks t k = in_twin HasLive (heap_at k hs) (heap_at k ks) (λ g h u live. subst (λ (z : Guard). HasLive (Some z)) (sym (as_twin g h u)) live) (t.heaps k)
 
 not_fewer : (hs hs' : Heaps) (n k j : ℕ) → AreTwins hs hs' → IsEmptiest n hs.slots k → IsEmptiest n hs'.slots j → k < j → ⊥
 not_fewer hs hs' n k j t x y l =
@@ -479,7 +451,7 @@ totals_decided hs hs' t r r' x y =
     ∙ ap (λ (a : ℕ). let z : Totals = record r' { largest_free_region = a } in z) largest
 
 -- ---- lists of calls
-takes_decided : (c : Call) (hs hs' ks ks' : Heaps) → state.IsWellFormed hs → AreTwins hs hs' → (r r' : Reply) → Takes c hs ks r → Takes c hs' ks' r' → (IsStarved r → ⊥) → (IsStarved r' → ⊥)
+pub takes_decided : (c : Call) (hs hs' ks ks' : Heaps) → state.IsWellFormed hs → AreTwins hs hs' → (r r' : Reply) → Takes c hs ks r → Takes c hs' ks' r' → (IsStarved r → ⊥) → (IsStarved r' → ⊥)
     → (r ≡ r') × AreTwins ks ks'
 takes_decided (Allocate size align) hs hs' ks ks' is t r r' x y m n =
     let e = allocates_decided size align hs hs' ks ks' x.2 is t x.0 y.0 x.3 y.3 (λ q. m (inl (x.1 ∙ ap Requested q))) (λ q. n (inl (y.1 ∙ ap Requested q))) in
@@ -501,7 +473,10 @@ takes_decided (Extend_heap k more) hs hs' ks ks' is t r r' x y m n =
     (x.1 ∙ ap Extended e.0 ∙ sym y.1, e.1)
 takes_decided (Compact_heap k) hs hs' ks ks' is t r r' x y m n = let e = compacts_one_decided k hs hs' ks ks' t x.0 y.0 x.2 y.2 in (x.1 ∙ ap Was_done e.0 ∙ sym y.1, e.1)
 takes_decided Compact_all hs hs' ks ks' is t r r' x y m n = let e = compacts_all_decided hs hs' ks ks' t x.0 y.0 x.2 y.2 in (x.1 ∙ ap Was_done e.0 ∙ sym y.1, e.1)
-takes_decided (Make_room k size align) hs hs' ks ks' is t r r' x y m n = let e = room_decided k size align hs hs' ks ks' is t x.0 y.0 x.2 y.2 in (x.1 ∙ ap Room_made e.0 ∙ sym y.1, e.1)
+takes_decided (Make_room k size align) hs hs' ks ks' is t r r' x y m n =
+    let e = where_decided k (tickets.Call.Make_room size align) (tickets.Answer.Room_made None) hs hs' ks ks' is t (tickets.Answer.Room_made x.0) (tickets.Answer.Room_made y.0) x.2 y.2 in
+    let same = e.0 in
+    (cc, e.1)
 takes_decided (Retract_heap k less) hs hs' ks ks' is t r r' x y m n = let e = retracts_decided k less hs hs' ks ks' is t x.0 y.0 x.2 y.2 in (x.1 ∙ ap Was_done e.0 ∙ sym y.1, e.1)
 takes_decided (On_heap k c) hs hs' ks ks' is t r r' x y m n = let e = on_heap_decided k c hs hs' ks ks' is t x.0 y.0 x.1 y.1 x.3 y.3 in (x.2 ∙ ap₂ Answered e.0 e.1 ∙ sym y.2, e.2)
 

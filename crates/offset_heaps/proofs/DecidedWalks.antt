@@ -8,13 +8,13 @@ use Rattle.offset_allocator.specs.{Ranges.Range, View.Handle, View.IsWellFormed,
 use Rattle.offset_allocator.specs.Ranges as named
 use Rattle.offset_allocator.proofs.{Reporting.AlongLive.all_met, Reporting.AlongLive.backward, Tallies.hit_cases, Tallies.tally_append}
 use Rattle.offset_guarded.proofs.Guards.{live_name}
-use Rattle.offset_guarded.specs.Guard.{Guard, Ticket}
+use Rattle.offset_guarded.specs.Guard.{Guard}
 use Rattle.offset_guarded.specs.Twins.{IsTwin}
 use Rattle.offset_heaps.specs.Places.{Place, ticket_of}
-use Rattle.offset_heaps.specs.{Heaps.Heaps, Heaps.IsLive, Heaps.heap_at, Heaps.range_in, Relocating.last_live_in, Relocating.live_before_in, Relocating.place_in, Twins.AreTwins}
+use Rattle.offset_heaps.specs.{Heaps.Heaps, Heaps.IsLive, Heaps.heap_at, Heaps.range_in, Relocating.found_in, Relocating.last_live_in, Relocating.live_before_in, Relocating.place_in, Twins.AreTwins}
 use Rattle.offset_heaps.specs.Twins.{IsTwinIn}
 use Rattle.offset_heaps.specs.State as state
-use Rattle.offset_heaps.proofs.Decided.{known}
+use Rattle.offset_heaps.proofs.Decided.{known, known_at}
 
 -- ---- walks
 module _ (P : Handle → Type 0) (next : ℕ → Option Handle) where
@@ -76,22 +76,18 @@ placed_twin k realm g h t (Some a) live =
     ap₂ (λ (s m : ℕ). let p : Option Place = Some (record { heap = k; realm = realm; name = a.name; serial = s; heap_realm = m }) in p)
     (t.serials a.name live) t.realm
 
-last_in : (k realm : ℕ) (o p : Option Guard) → IfSome o (λ g. IsWellFormed g.space) → IsTwinIn o p → last_live_in k realm p ≡ last_live_in k realm o
-last_in k realm None p w t = ap (last_live_in k realm) t
-last_in k realm (Some g) p w t =
-    ap (last_live_in k realm) t.1
-    ∙ ap (λ (v : View). option_map (place_in k realm t.0) (last_live v)) t.2.space
-    ∙ placed_twin k realm g t.0 t.2 (last_live g.space) (last_is_live g.space w)
-
-before_in : (k realm : ℕ) (u : Ticket) (o p : Option Guard) → IfSome o (λ g. IsWellFormed g.space) → IsSome (range_in u o) → IsTwinIn o p → live_before_in k realm u p ≡ live_before_in k realm u o
-before_in k realm u None p w live t = ap (live_before_in k realm u) t
-before_in k realm u (Some g) p w live t =
-    ap (live_before_in k realm u) t.1
-    ∙ ap (λ (v : View). option_map (place_in k realm t.0) (live_before u.name v)) t.2.space
-    ∙ placed_twin k realm g t.0 t.2 (live_before u.name g.space) (before_is_live g.space w u.name (live_name u g live))
+found_twin : (find : View → Option Handle) → ((v : View) (n : ℕ) → find (record v { accesses = n }) ≡ find v) → (k realm : ℕ) (o p : Option Guard) → ((g : Guard) → o ≡ Some g → IfSome (find g.space) (IsLiveHandle g.space))
+    → IsTwinIn o p → found_in find k realm p ≡ found_in find k realm o
+found_twin find same k realm None p live t = ap (found_in find k realm) t
+found_twin find same k realm (Some g) p live t =
+    ap (found_in find k realm) t.1
+    ∙ ap (option_map (place_in k realm t.0)) (ap find t.2.space ∙ same g.space t.0.space.accesses)
+    ∙ placed_twin k realm g t.0 t.2 (find g.space) (live g refl)
 
 pub last_decided : (k : ℕ) (hs hs' : Heaps) → state.IsWellFormed hs → AreTwins hs hs' → last_live_in k hs'.realm (heap_at k hs') ≡ last_live_in k hs.realm (heap_at k hs)
-last_decided k hs hs' is t = ap (λ r. last_live_in k r (heap_at k hs')) t.realm ∙ last_in k hs.realm (heap_at k hs) (heap_at k hs') ((known hs is).heaps k) (t.heaps k)
+last_decided k hs hs' is t =
+    ap (λ r. last_live_in k r (heap_at k hs')) t.realm
+    ∙ found_twin last_live (λ v n. refl) k hs.realm (heap_at k hs) (heap_at k hs') (λ g e. last_is_live g.space (known_at hs (known hs is) k g e)) (t.heaps k)
 
 only_if : (b : Bool) (o : Option Range) → IsSome (if b then o else None) → IsSome o
 only_if true o h = h
@@ -101,5 +97,6 @@ pub before_decided : (p : Place) (hs hs' : Heaps) → state.IsWellFormed hs → 
     → live_before_in p.heap hs'.realm (ticket_of p) (heap_at p.heap hs') ≡ live_before_in p.heap hs.realm (ticket_of p) (heap_at p.heap hs)
 before_decided p hs hs' is t live =
     ap (λ r. live_before_in p.heap r (ticket_of p) (heap_at p.heap hs')) t.realm
-    ∙ before_in p.heap hs.realm (ticket_of p) (heap_at p.heap hs) (heap_at p.heap hs') ((known hs is).heaps p.heap)
-    (only_if (nat_eq p.realm hs.realm) (range_in (ticket_of p) (heap_at p.heap hs)) live) (t.heaps p.heap)
+    ∙ found_twin (live_before p.name) (λ v n. refl) p.heap hs.realm (heap_at p.heap hs) (heap_at p.heap hs')
+    (λ g e. before_is_live g.space (known_at hs (known hs is) p.heap g e) p.name (live_name (ticket_of p) g (subst (λ o. IsSome (range_in (ticket_of p) o)) e (only_if (nat_eq p.realm hs.realm) (range_in (ticket_of p) (heap_at p.heap hs)) live))))
+    (t.heaps p.heap)

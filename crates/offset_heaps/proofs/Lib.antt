@@ -5,13 +5,13 @@ pub mod Compacted
 pub mod Counting
 pub mod Decided
 pub mod DecidedCalls
-pub mod DecidedTight
 pub mod DecidedWalks
 pub mod Doubling
 pub mod EachOnce
 pub mod Empties
 pub mod Emptiest
 pub mod FaultPlaces
+pub mod Finders
 pub mod Finding
 pub mod Foretold
 pub mod Grants

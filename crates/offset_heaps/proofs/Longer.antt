@@ -1,21 +1,16 @@
 -- Heaps whose space becomes larger in place.
-use Rattle.std.proofs.Common.{◌≡◌, ◌↔◌, ℕ, suc, ◌+◌, ◌<◌, ◌≤◌, ◌⊎◌, Bool, true, false, List, [], ◌∷◌, ◌++◌, Option, Some, None, IfSome, length, length-append, reverse, if◌then◌else◌, refl, sym, ap, subst, ◌∙◌, inl, inr, arith}
+use Rattle.std.proofs.Common.{◌≡◌, ◌↔◌, ℕ, suc, ◌+◌, ◌<◌, ◌≤◌, ◌⊎◌, Bool, true, false, List, [], ◌∷◌, ◌++◌, Some, None, length, length-append, reverse, if◌then◌else◌, refl, sym, ap, subst, ◌∙◌, inl, inr, arith}
 use Rattle.std.proofs.lemmas.Bool.{cases_Bool}
-use Rattle.offset_allocator.specs.{Relations.CanExtend, Relations.Extends, Reporting.Listing.Placed, Reporting.Listing.listing, Reporting.Listing.placed, Reporting.Listing.placed_at, Requests.AdmitsBlocks, View.Block, View.Handle, View.IsWellFormed, View.View, View.units}
+use Rattle.offset_allocator.specs.{Relations.CanExtend, Reporting.Listing.Placed, Reporting.Listing.listing, Reporting.Listing.placed, Reporting.Listing.placed_at, Requests.AdmitsBlocks, View.Block, View.Handle, View.IsWellFormed, View.View, View.units}
 use Rattle.offset_allocator.proofs.Reporting.Nearby.{back}
 use Rattle.offset_guarded.specs.Guard.{Guard}
 use Rattle.offset_guarded.specs.Guard as guarded
 use Rattle.offset_guarded.specs.Answers as tickets
 use Rattle.offset_guarded.proofs.Twins.{range_twin, same_twin}
 use Rattle.offset_heaps.specs.declared.limits.Limits.{Limits}
-use Rattle.offset_heaps.specs.Extending.{CanExtendIn, EndsFree, ExtendsIf, ExtendsIn, MustExtend}
+use Rattle.offset_heaps.specs.Extending.{CanExtendIn, EndsFree, ExtendsIf, MustExtend}
 use Rattle.offset_heaps.specs.Heaps.{IsOfKind, IsRaisedWhere, raised_limit, top_limit}
-use Rattle.offset_heaps.proofs.{Raising.where_kind, Raising.where_same, Rooms.admitted, Rooms.top_above, Rooms.top_usual}
-
--- ---- what becomes of a space
-extended_limit : (more : ℕ) (v w : View) → Extends more v w true → w.max_allocs ≡ v.max_allocs
-extended_limit more v w (inl s) = ap (λ (z : View). z.max_allocs) s.1
-extended_limit more v w (inr s) = ap (λ (z : View). z.max_allocs) s.2.view
+use Rattle.offset_heaps.proofs.{Limited.extends, Limited.kind_kept, Limited.same_limited, Raising.where_kind, Raising.where_same, Rooms.admitted, Rooms.top_above, Rooms.top_usual}
 
 -- ---- whether the last block is free
 abbrev LastFree : List Block → Type 0
@@ -133,36 +128,10 @@ serials_longer limits k more true g h e =
 serials_longer limits k more false g h e = (refused_same limits k more g h e).1
 
 -- ---- the heap is of its kind, and keeps its realm
-extended_kind : (limits : Limits) (k more : ℕ) (g h : Guard) → ExtendsIn limits k more g h → IsOfKind limits k g → IsOfKind limits k h
-extended_kind limits k more g h e kind =
-    let limit = extended_limit more e.between.space h.space e.by.step in
-    let between = where_kind (MustExtend limits k more) limits k (may limits k more) g e.between e.raised kind in
-    let size : h.space.size ≡ g.space.size + more = e.by.size refl ∙ ap (λ n. n + more) (longer_same limits k more (λ (z : Guard). z.space.size) (λ limit g. refl) g e.between e.raised) in
-    elim between [
-      | inl u ↦ elim kind [
-        | inl v ↦ inl (u.0, omega (arith, size, v.1), (omega (arith, limit, u.2.0), omega (arith, limit, u.2.1)))
-        | inr l ↦ absurd (omega (arith, u.0, l.0))
-      ]
-      | inr l ↦ elim kind [
-        | inl v ↦ absurd (omega (arith, v.0, l.0))
-        | inr m ↦ inr (l.0, omega (arith, size, m.1), limit ∙ l.2)
-      ]
-    ]
-
-pub kind_longer : (limits : Limits) (k more : ℕ) (done : Bool) (old new : Option Guard) (before after : Guard) → old ≡ Some before → new ≡ Some after
-    → ExtendsIf limits k more done before after → IfSome old (IsOfKind limits k) → IfSome new (IsOfKind limits k)
-kind_longer limits k more done old new before after was is e kind = rw is (go done e (subst (λ o. IfSome o (IsOfKind limits k)) was kind))
-  where
-    go : (done : Bool) → ExtendsIf limits k more done before after → IsOfKind limits k before → IsOfKind limits k after
-    go true e kind = extended_kind limits k more before after e kind
-    go false e kind =
-        let same = (refused_same limits k more before after e).0 in
-        let size = ap (λ (z : View). z.size) same in
-        let limit = ap (λ (z : View). z.max_allocs) same in
-        elim kind [
-          | inl u ↦ inl (u.0, omega (arith, size, u.1), (omega (arith, limit, u.2.0), omega (arith, limit, u.2.1)))
-          | inr l ↦ inr (l.0, omega (arith, size, l.1), limit ∙ l.2)
-        ]
+pub kind_longer : (limits : Limits) (k more : ℕ) (done : Bool) (g h : Guard) → ExtendsIf limits k more done g h → IsOfKind limits k g → IsOfKind limits k h
+kind_longer limits k more true g h e kind =
+    kind_kept limits k e.between h (extends more e.between h true e.by).space (where_kind (MustExtend limits k more) limits k (may limits k more) g e.between e.raised kind)
+kind_longer limits k more false g h e kind = kind_kept limits k g h (same_limited g h (refused_same limits k more g h e)).space kind
 
 pub realm_longer : (limits : Limits) (k more : ℕ) (done : Bool) (g h : Guard) → ExtendsIf limits k more done g h → h.realm ≡ g.realm
 realm_longer limits k more done g h e = (serials_longer limits k more done g h e).realm

@@ -11,9 +11,8 @@ use Rattle.offset_guarded.proofs.Guards.{live_fits}
 use Rattle.offset_guarded.specs.Guard.{Guard, Ticket}
 use Rattle.offset_heaps.specs.declared.limits.Limits.{Limits}
 use Rattle.offset_heaps.specs.Places.{Place, ticket_of}
-use Rattle.offset_heaps.specs.Heaps.{Heaps, AreAlike, KeepsOtherHeaps, KeepsOthers, FreesIn, IsLive, Puts, heap_at, is_empty, range_in, range_of, slot}
-use Rattle.offset_heaps.specs.Slots as of
-use Rattle.offset_heaps.specs.Slots.{Changes, KeepsOthersIn}
+use Rattle.offset_heaps.specs.Heaps.{Heaps, AreAlike, KeepsOtherHeaps, KeepsOthers, IsLive, heap_at, is_empty, range_in, range_of, slot}
+use Rattle.offset_heaps.specs.Slots.{KeepsOthersIn}
 use Rattle.offset_heaps.proofs.Numbers.{slot_other, slot_same}
 
 -- what the fields show
@@ -42,12 +41,8 @@ module _ (hs ks : Heaps) (k : ℕ) (o : Option Guard) (put_slots : ks.slots ≡ 
   pub put_others : KeepsOtherHeaps k hs ks
   put_others p n = at p ∙ ap (λ q. range_if (nat_eq p.realm hs.realm) (range_in (ticket_of p) q)) (slot_other hs.slots k p.heap o n)
 
-  pub put_here : k < length hs.slots → (p : Place) → p.heap ≡ k → range_of p ks ≡ range_if (nat_eq p.realm hs.realm) (range_in (ticket_of p) o)
+  put_here : k < length hs.slots → (p : Place) → p.heap ≡ k → range_of p ks ≡ range_if (nat_eq p.realm hs.realm) (range_in (ticket_of p) o)
   put_here l p e = at p ∙ ap (λ q. range_if (nat_eq p.realm hs.realm) (range_in (ticket_of p) q)) (ap (λ j. slot j (slice_set hs.slots k o)) e ∙ slot_same hs.slots k o l)
-
-  -- one ticket of the heap is freed
-  pub put_gone : k < length hs.slots → (p : Place) → p.heap ≡ k → range_in (ticket_of p) o ≡ None → range_of p ks ≡ None
-  put_gone l p e none = put_here l p e ∙ none_if (nat_eq p.realm hs.realm) (range_in (ticket_of p) o) none
 
   pub put_keeps : k < length hs.slots → (p : Place) → p.heap ≡ k → p.realm ≡ hs.realm → KeepsOthersIn (ticket_of p) (slot k hs.slots) o → KeepsOthers p hs ks
   put_keeps l p e r keeps q apart = elim (cases_eq q.heap k) [
@@ -60,37 +55,6 @@ module _ (hs ks : Heaps) (k : ℕ) (o : Option Guard) (put_slots : ks.slots ≡ 
       | inr other ↦ ap (λ b. range_if b (range_in (ticket_of q) (heap_at q.heap ks))) (ne_eqb q.realm ks.realm (λ e. other (e ∙ put_realm))) ∙ sym (other_realm q hs other)
     ]
   ]
-
--- what a call of free leaves
-abbrev pub Freed : Ticket → Option Guard → Option Guard → Type 0
-Freed t o q = (range_in t q ≡ None) × KeepsOthersIn t o q × of.FreesSlot t o q
-
-module _ (p : Place) (hs ks : Heaps) (l : p.heap < length hs.slots) (change : Changes p.heap (Freed (ticket_of p)) hs.slots ks.slots)
-    (rest : ks ≡ record hs { slots = ks.slots; accesses = ks.accesses }) where
-  puts : Puts p.heap change.now hs ks
-  puts = rest ∙ ap (λ s. record hs { slots = s; accesses = ks.accesses }) change.slots
-
-  realm : ks.realm ≡ hs.realm
-  realm = ap (λ (h : Heaps). h.realm) rest
-
-  pub freed_gone : range_of p ks ≡ None
-  freed_gone = put_gone hs ks p.heap change.now change.slots realm l p refl change.by.0
-
-  pub freed_others : p.realm ≡ hs.realm → KeepsOthers p hs ks
-  freed_others r = put_keeps hs ks p.heap change.now change.slots realm l p refl r change.by.1
-
-  pub freed_step : FreesIn p hs ks
-  freed_step = let by = change.by.2 in record {
-    before = by.before;
-    after = by.after;
-    heap = by.was;
-    step = by.step;
-    gone = by.gone;
-    others = by.others;
-    serials = by.serials;
-    accesses = by.accesses;
-    heaps = subst (λ o. Puts p.heap o hs ks) by.is puts;
-  }
 
 -- a live place is one whose ticket is
 pub live_place : (p : Place) (hs : Heaps) → p.realm ≡ hs.realm → IsSome (range_in (ticket_of p) (heap_at p.heap hs)) → IsLive p hs

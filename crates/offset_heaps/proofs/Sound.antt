@@ -1,13 +1,12 @@
 -- The index stays right when the heap of one number changes.
-use Rattle.std.proofs.Common.{◌≡◌, ◌≢◌, ℕ, ◌+◌, ◌^◌, ◌<◌, ◌≤◌, ◌⊎◌, length, List, Option, Some, None, IfSome, replicate, slice_set, refl, sym, ap, ◌∙◌, subst, inl, inr, arith}
+use Rattle.std.proofs.Common.{◌≡◌, ◌≢◌, ℕ, ◌+◌, ◌^◌, ◌<◌, ◌≤◌, ◌⊎◌, length, List, Option, Some, None, IfSome, replicate, slice_set, sym, ap, ◌∙◌, subst, inl, inr, arith}
 use Rattle.std.proofs.lemmas.Bool.{cases_eq, cases_lt, le-ltb}
 use Rattle.std.proofs.lemmas.List.{get_or-replicate, get_or_past, length-replicate, length-set}
-use Rattle.offset_allocator.specs.View.{View}
 use Rattle.offset_guarded.specs.Guard.{Guard}
 use Rattle.offset_heaps.specs.declared.limits.Limits.{Limits}
 use Rattle.offset_heaps.specs.declared.index.Index.{Index}
-use Rattle.offset_heaps.specs.{Heaps.IsOfKind, Heaps.slot, Heaps.room_of, Heaps.usual_size, Slots.Changes, Slots.ResetsIn, Soundness.IsNoted, Soundness.IsSound, Soundness.IsWide, Soundness.empty_key, Soundness.spare_of, Maxima.cell}
-use Rattle.offset_heaps.proofs.Numbers.{slot_other, slot_same}
+use Rattle.offset_heaps.specs.{Heaps.IsOfKind, Heaps.slot, Heaps.room_of, Slots.Changes, Soundness.IsNoted, Soundness.IsSound, Soundness.IsWide, Soundness.empty_key, Soundness.spare_of, Maxima.cell}
+use Rattle.offset_heaps.proofs.Numbers.{slot_other, slot_past, slot_same}
 
 pub wide_put : (slots : List (Option Guard)) (index : Index) (k : ℕ) (o : Option Guard) → IsWide slots index → IsWide (slice_set slots k o) index
 wide_put slots index k o w =
@@ -81,16 +80,6 @@ pub realm_kept : (made : ℕ) (old new : Option Guard) (before after : Guard) �
     → IfSome old (λ g. g.realm ≤ made) → IfSome new (λ g. g.realm ≤ made)
 realm_kept made old new before after was is same below = rw is (let l = rw was at below in omega (arith, l, same))
 
--- and the same size and node limit
-pub kind_kept : (limits : Limits) (k : ℕ) (old new : Option Guard) (before after : Guard) → old ≡ Some before → new ≡ Some after → after.space.size ≡ before.space.size
-    → after.space.max_allocs ≡ before.space.max_allocs
-    → IfSome old (IsOfKind limits k) → IfSome new (IsOfKind limits k)
-kind_kept limits k old new before after was is size limit kind = rw is (same (subst (λ o. IfSome o (IsOfKind limits k)) was kind))
-  where
-    same : IsOfKind limits k before → IsOfKind limits k after
-    same (inl u) = inl (u.0, subst (λ n. usual_size limits k ≤ n) (sym size) u.1, (omega (arith, limit, u.2.0), omega (arith, limit, u.2.1)))
-    same (inr l) = let some = l.1 in inr (l.0, omega (arith, size, some), limit ∙ l.2)
-
 -- with no heap and keys of 0, what is behind the last number is noted
 pub empty_cell : (p k : ℕ) → cell k (replicate p 0) ≡ 0
 empty_cell p k = elim (cases_lt k p) [
@@ -104,18 +93,40 @@ empty_slot n k = elim (cases_lt k n) [
   | inr past ↦ get_or_past (replicate n None) k None (let same = length-replicate {A = Option Guard} n None in omega arith)
 ]
 
-pub noted_past : (limits : Limits) (n p k : ℕ) (index : Index) → index.one.keys ≡ replicate p 0 → index.two.keys ≡ index.one.keys → index.spare.keys ≡ index.one.keys → index.empty.keys ≡ index.one.keys
-    → limits.most + limits.most_larger ≤ k → IsNoted limits (replicate n None) index k
-noted_past limits n p k index one two spare empty past =
+-- before any number is noted, what is behind the last one is
+past_noted : (limits : Limits) (p k : ℕ) (slots : List (Option Guard)) (index : Index) → index.one.keys ≡ replicate p 0 → index.two.keys ≡ index.one.keys → index.spare.keys ≡ index.one.keys
+    → index.empty.keys ≡ index.one.keys → length slots ≡ limits.most + limits.most_larger → limits.most + limits.most_larger ≤ k → IsNoted limits slots index k
+past_noted limits p k slots index one two spare empty count past =
     let zero_key : cell k index.one.keys ≡ 0 = ap (cell k) one ∙ empty_cell p k in
-    let none : slot k (replicate n None) ≡ None = empty_slot n k in
-    let before : limits.most ≤ k = omega arith in
+    let none : slot k slots ≡ None = slot_past slots k (omega (arith, count, past)) in
+    let before : limits.most ≤ k = omega (arith, past) in
     record {
       one = rw none zero_key;
       two = rw none (ap (cell k) two ∙ zero_key);
       spare = rw (none, le-ltb k limits.most before, le-ltb k (limits.most + limits.most_larger) past) (ap (cell k) spare ∙ zero_key);
       empty = rw none (ap (cell k) empty ∙ zero_key);
     }
+
+pub started_at : (limits : Limits) (p : ℕ) (slots : List (Option Guard)) (index : Index) → length slots ≡ limits.most + limits.most_larger → limits.most + limits.most_larger ≤ p
+    → index.one.keys ≡ replicate p 0 → (index.two.keys ≡ index.one.keys) × (index.two.height ≡ index.one.height) → (index.spare.keys ≡ index.one.keys) × (index.spare.height ≡ index.one.height)
+    → (index.empty.keys ≡ index.one.keys) × (index.empty.height ≡ index.one.height)
+    → IsWide slots index × ((k : ℕ) → limits.most + limits.most_larger ≤ k → IsNoted limits slots index k)
+started_at limits p slots index count room one two spare empty =
+    let wide : length index.one.keys ≡ p = ap length one ∙ length-replicate {A = ℕ} p 0 in
+    let wide_two : length index.two.keys ≡ length index.one.keys = ap length two.0 in
+    let wide_spare : length index.spare.keys ≡ length index.one.keys = ap length spare.0 in
+    let wide_empty : length index.empty.keys ≡ length index.one.keys = ap length empty.0 in (
+      record {
+        one = omega (arith, wide, count, room);
+        two = omega (arith, wide, wide_two, count, room);
+        spare = omega (arith, wide, wide_spare, count, room);
+        empty = omega (arith, wide, wide_empty, count, room);
+        level_two = two.1;
+        level_spare = spare.1;
+        level_empty = empty.1;
+      },
+      λ k past. past_noted limits p k slots index one two.0 spare.0 empty.0 count past,
+    )
 
 pub noted_more : (limits : Limits) (slots : List (Option Guard)) (old new : Index) (n count : ℕ) → IsNoted limits slots new n
     → ((k : ℕ) → (k ≡ n → ⊥) → IsNoted limits slots old k → IsNoted limits slots new k) → ((k : ℕ) → (k < n) ⊎ (count ≤ k) → IsNoted limits slots old k)
@@ -128,27 +139,6 @@ noted_more limits slots old new n count here others known k within = elim (cases
     nearer : k ≢ n → (k < n + 1) ⊎ (count ≤ k) → (k < n) ⊎ (count ≤ k)
     nearer d (inl l) = inl (omega arith)
     nearer d (inr l) = inr l
-
-pub started : (limits : Limits) (n p : ℕ) (slots : List (Option Guard)) (index : Index) → slots ≡ replicate n None → limits.most + limits.most_larger ≡ n → n ≤ p
-    → index.one.keys ≡ replicate p 0 → (index.two.keys ≡ index.one.keys) × (index.two.height ≡ index.one.height) → (index.spare.keys ≡ index.one.keys) × (index.spare.height ≡ index.one.height)
-    → (index.empty.keys ≡ index.one.keys) × (index.empty.height ≡ index.one.height) → IsWide slots index × ((k : ℕ) → n ≤ k → IsNoted limits slots index k)
-started limits n p slots index none count room one two spare empty =
-    let few : length slots ≡ n = ap length none ∙ length-replicate {A = Option Guard} n None in
-    let wide : length index.one.keys ≡ p = ap length one ∙ length-replicate {A = ℕ} p 0 in
-    let wide_two : length index.two.keys ≡ length index.one.keys = ap length two.0 in
-    let wide_spare : length index.spare.keys ≡ length index.one.keys = ap length spare.0 in
-    let wide_empty : length index.empty.keys ≡ length index.one.keys = ap length empty.0 in (
-      record {
-        one = omega arith;
-        two = omega arith;
-        spare = omega arith;
-        empty = omega arith;
-        level_two = two.1;
-        level_spare = spare.1;
-        level_empty = empty.1;
-      },
-      λ k past. rw none (noted_past limits n p k index one two.0 spare.0 empty.0 (omega arith)),
-    )
 
 -- a heap that was made has the next realm
 pub realm_new : (made : ℕ) (o : Option Guard) → IfSome o (λ g. g.realm ≡ made) → IfSome o (λ g. g.realm ≤ made)
@@ -173,13 +163,3 @@ noted_changed P limits slots now n old new change noted here others k = elim (ca
   | inl e ↦ rw e here
   | inr d ↦ others k d (rw change.slots (noted_other limits slots old n k change.now d (noted k)))
 ]
-
--- what is reset has its realm
-pub realm_reset : (made : ℕ) (old new : Option Guard) → ResetsIn old new → IfSome old (λ g. g.realm ≤ made) → IfSome new (λ g. g.realm ≤ made)
-realm_reset made None new e h = rw e tt
-realm_reset made (Some before) new r h = rw r.1 (let same : r.0.realm ≡ before.realm = ap (λ (g : Guard). g.realm) r.2.serials in omega (arith, same, h))
-
-pub kind_reset : (limits : Limits) (k : ℕ) (old new : Option Guard) → ResetsIn old new → IfSome old (IsOfKind limits k) → IfSome new (IsOfKind limits k)
-kind_reset limits k None new e h = rw e tt
-kind_reset limits k (Some before) new r h =
-    kind_kept limits k (Some before) new before r.0 refl r.1 (ap (λ (v : View). v.size) r.2.step.view) (ap (λ (v : View). v.max_allocs) r.2.step.view) h

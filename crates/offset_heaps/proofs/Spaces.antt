@@ -1,18 +1,16 @@
 -- What each call leaves of a heap is what calls of tickets make of it.
-use Rattle.std.proofs.Common.{◌≡◌, ℕ, ◌+◌, ◌*◌, ◌%◌, ◌<◌, ◌≤◌, ◌⊎◌, Bool, true, false, List, [], ◌∷◌, ◌++◌, Option, Some, None, IfSome, IsSome, is_some, Result, Ok, Err, length, nat_eq, slice_set, if◌then◌else◌, refl, sym, ap, subst, ◌∙◌, inl, inr, arith}
-use Rattle.std.proofs.Math.Nat.{dvd_refl, one-dvd}
+use Rattle.std.proofs.Common.{◌≡◌, ℕ, ◌+◌, ◌<◌, ◌≤◌, ◌⊎◌, Bool, true, false, List, [], ◌∷◌, ◌++◌, Option, Some, None, IfSome, is_some, Result, Ok, Err, length, slice_set, if◌then◌else◌, refl, sym, ap, subst, ◌∙◌, inl, inr, arith}
 use Rattle.std.proofs.lemmas.Bool.{cases_Bool, cases_eq, cases_lt}
 use Rattle.std.specs.List.{AllByRecursion}
 use Rattle.std.specs.declared.alloc.AllocError.{AllocError}
-use Rattle.offset_allocator.specs.{Classes.down, Moving.BySteps.moves_by, Moving.Compacting.Move, Relations.Aligns, Relations.IsFresh, Requests.blocks_needed, Requests.units_needed, Tight.AlignsTight, Tight.CanHold, Tight.listed_from, View.Handle, View.IsWellFormed, View.View, View.bin_at, View.units}
-use Rattle.offset_allocator.proofs.{Moving.Begins.aligned_can, Padding.reaches, Raised.under, Raised.well_under, Served.multiple, Sound.well_counted, Views.ViewTaken.well_alone}
+use Rattle.offset_allocator.specs.{Moving.BySteps.moves_by, Moving.Compacting.Move, Relations.IsFresh, Requests.blocks_needed, View.IsWellFormed, View.View}
+use Rattle.offset_allocator.proofs.{Raised.under, Raised.well_under, Sound.well_counted, Views.ViewTaken.well_alone}
 use Rattle.offset_guarded.specs.Answers as tickets
 use Rattle.offset_guarded.specs.Answers.{GoesByTheStep, IsAdmitted, Notes}
 use Rattle.offset_guarded.specs.Calls.{Continues, Event, Happens}
 use Rattle.offset_guarded.specs.Calls.Event.{Called, Raised}
-use Rattle.offset_guarded.specs.Guard.{Guard, HasSerialLeft, Ticket, handle_in}
+use Rattle.offset_guarded.specs.Guard.{Guard, Ticket}
 use Rattle.offset_guarded.specs.Guard as guarded
-use Rattle.offset_guarded.specs.Step.{IsJoined}
 use Rattle.offset_guarded.proofs.{Continued.happened, Divisors.divisor_of_some, Noted.notes_all, Offsets.same_aligned}
 use Rattle.offset_heaps.specs.declared.limits.Limits.{Limits}
 use Rattle.offset_heaps.specs.declared.place.Granted.{Granted}
@@ -21,13 +19,13 @@ use Rattle.offset_heaps.specs.Calls as calls
 use Rattle.offset_heaps.specs.Calls.{Call, Reply, Allocate, Allocate_tight, Free, Relocate, Relocate_aligned, Drop_empty, Drop_heap, Give_up, Reset, Shrink, Grow_in_place, Extend_heap, Compact_heap, Compact_all, Make_room, Retract_heap, On_heap, TakesOn, TakesWhere, TakesAt, TakesAll, Takes}
 use Rattle.offset_heaps.specs.Changing.{Alters, CompactsSlot, RetractsTo, can_compact}
 use Rattle.offset_heaps.specs.Extending.{ExtendsHeap, ExtendsIf, MustExtend}
-use Rattle.offset_heaps.specs.Heaps.{Heaps, FreesIn, Grants, IsBefore, IsLive, IsNew, IsRaisedWhere, IsSame, IsUsual, MustRaise, Puts, heap_at, larger_limit, range_in, range_of, raised_limit, room_of, slot, step_at, ticket_in, usual_size}
+use Rattle.offset_heaps.specs.Heaps.{Heaps, GrantsBy, GrantsNew, IsRaisedWhere, IsSame, MustRaise, Puts, heap_at, larger_limit, range_of, raised_limit, slot, step_at, ticket_in, usual_size}
 use Rattle.offset_heaps.specs.Histories.{ContinuesIn, IsStep}
 use Rattle.offset_heaps.specs.Places.{Place, ticket_of}
-use Rattle.offset_heaps.specs.Slots.{CanHoldIn, ResetsIn}
+use Rattle.offset_heaps.specs.Relocating.{size_of}
+use Rattle.offset_heaps.specs.Slots.{ResetsIn}
 use Rattle.offset_heaps.specs.Spaces.{AreFormed, DoesAll, GoesByTheSteps, GoesOn, IsSpace, IsValid}
-use Rattle.offset_heaps.specs.Tight.{GrantsTight}
-use Rattle.offset_heaps.proofs.{Grants.restepped, Numbers.slot_other, Numbers.slot_past, Numbers.slot_same, Numbers.slot_set, Numbers.slot_there, Rooms.new_holds, Rooms.room_left}
+use Rattle.offset_heaps.proofs.Numbers.{slot_other, slot_past, slot_same, slot_set, slot_there}
 
 -- ---- what becomes of one heap
 -- calls of tickets, or a raised limit, that go by the step: what they leave continues what there was
@@ -53,10 +51,6 @@ after_raise : (Must : Guard → Type 0) (limits : Limits) (may : (g : Guard) →
 after_raise Must limits may g b h (inl up) t = (raised_first (raised_limit limits g) g b h up.1 t.0, (Raised (raised_limit limits g) ∷ t.1.0, (b, (omega (arith, may g up.0), up.1), t.1.1), ((λ v w. raised_formed (raised_limit limits g) g b (omega (arith, may g up.0)) up.1 v), t.1.2)))
 after_raise Must limits may g b h (inr kept) t = subst (λ (z : Guard). Turns z h) kept.1 t
 
-left_raised : (Must : Guard → Type 0) (limits : Limits) (g b : Guard) → IsRaisedWhere Must limits g b → HasSerialLeft g → HasSerialLeft b
-left_raised Must limits g b (inl up) left = omega (arith, ap (λ (z : Guard). z.given) up.1, left)
-left_raised Must limits g b (inr kept) left = omega (arith, ap (λ (z : Guard). z.given) kept.1, left)
-
 -- ---- and of the heap of a number
 abbrev IsNewSpace : Guard → Type 0
 IsNewSpace h = (is : IsSpace h) × (IsWellFormed h.space → IsWellFormed is.fresh.space) × AreFormed is.fresh is.events h is.done
@@ -78,178 +72,79 @@ record Evolve (hs ks : Heaps) : Type 0 where
   made : hs.made ≤ ks.made
   heaps : (k : ℕ) → Evolves hs.made (heap_at k hs) (heap_at k ks)
 
--- ---- a request that is granted
-requested : (n : ℕ) (g h : Guard) (t : Ticket) → guarded.Grants n g h t → tickets.Requests n g h (Some t)
-requested n g h t grants = record { grants = grants; same = λ e. absurd (cc); serials = λ e. absurd (cc) }
+-- ---- grants
+-- the size and the limit of a space stay
+abbrev IsAsLarge : View → View → Type 0
+IsAsLarge v w = (w.size ≡ v.size) × (w.max_allocs ≡ v.max_allocs)
 
-aligned_act : (n align : ℕ) (g h : Guard) (t : Ticket) → HasSerialLeft g → 1 ≤ align → guarded.Grants n g h t → IsJoined g.step align h.step → Aligns n align g.space h.space (Some (handle_in t))
-    → h.space.accesses ≤ g.space.accesses + 128 → tickets.Answers (tickets.Call.Allocate_aligned n align) g h (tickets.Answer.Requested (Some t)) []
-aligned_act n align g h t left some grants joined step few = (
-  Some t,
-  refl,
-  record {
-    request = requested n g h t grants;
-    aligns = record { aligned = multiple n align g.space h.space (Some (handle_in t)) some step; joined = joined };
-    can_grant = (λ _. (left, aligned_can n align g.space h.space (handle_in t) some step), λ _. refl);
-    step = λ _. step;
-    accesses_max = few;
-  },
-  refl,
-)
+aligned_large : (n align : ℕ) (t : Ticket) (g h : Guard) → tickets.AllocatesAligned n align g h (Some t) → IsAsLarge g.space h.space
+aligned_large n align t g h a = let s = a.step (a.can_grant.0 refl).0 in (ap (λ (z : View). z.size) s.1.view, ap (λ (z : View). z.max_allocs) s.1.view)
 
--- a tight one too
-tight_multiple : (n align : ℕ) (v w : View) (h : Handle) → 1 ≤ align → AlignsTight n align v w (Some h) → h.offset % align ≡ 0
-tight_multiple n align v w h some (inl a) = multiple n align v w (Some h) some a
-tight_multiple n align v w h some (inr f) = let s = f.1.1.3 in subst (λ (z : Handle). z.offset % align ≡ 0) (sym s.grant) (rw s.padded (reaches align (units s.before) some))
-
-tight_holds : (n align : ℕ) (v w : View) (h : Handle) → AlignsTight n align v w (Some h) → CanHold n align v
-tight_holds n align v w h (inl a) =
-    let s = a.1 in
-    (a.0, (record { before = s.before; block = s.block; after = s.after }, s.blocks, s.free, omega (arith, s.whole, s.padded)))
-tight_holds n align v w h (inr f) =
-    let s = f.1.1.3 in
-    (f.1.0, (record { before = s.before; block = s.block; after = s.after }, s.blocks, s.free, omega (arith, s.whole, s.padded)))
-
-tight_act : (n align : ℕ) (g h : Guard) (t : Ticket) → HasSerialLeft g → 1 ≤ align → guarded.Grants n g h t → IsJoined g.step align h.step → AlignsTight n align g.space h.space (Some (handle_in t))
-    → h.space.accesses ≤ g.space.accesses + 140 + 6 * length (listed_from (down n) g.space.bins) → tickets.Answers (tickets.Call.Allocate_tight_aligned n align) g h (tickets.Answer.Requested (Some t)) []
-tight_act n align g h t left some grants joined step few = (
-  Some t,
-  refl,
-  record {
-    request = requested n g h t grants;
-    aligns = record { aligned = tight_multiple n align g.space h.space (handle_in t) some step; joined = joined };
-    can_hold = (λ _. (left, tight_holds n align g.space h.space (handle_in t) step), λ _. refl);
-    step = λ _. step;
-    accesses_max = few;
-  },
-  refl,
-)
-
--- both leave the size and the limit of a space
-aligned_size : (n align : ℕ) (v w : View) (h : Handle) → Aligns n align v w (Some h) → (w.size ≡ v.size) × (w.max_allocs ≡ v.max_allocs)
-aligned_size n align v w h a = (ap (λ (z : View). z.size) a.1.view, ap (λ (z : View). z.max_allocs) a.1.view)
-
-tight_size : (n align : ℕ) (v w : View) (h : Handle) → AlignsTight n align v w (Some h) → (w.size ≡ v.size) × (w.max_allocs ≡ v.max_allocs)
-tight_size n align v w h (inl a) = aligned_size n align v w h a
-tight_size n align v w h (inr f) = let s = f.1.1.3 in (ap (λ (z : View). z.size) s.view, ap (λ (z : View). z.max_allocs) s.view)
+tight_large : (n : ℕ) (t : Ticket) (g h : Guard) → tickets.AllocatesTight n g h (Some t) → IsAsLarge g.space h.space
+tight_large n t g h a = elim (a.step (a.can_hold.0 refl).0) [
+  | inl s ↦ (ap (λ (z : View). z.size) s.1.view, ap (λ (z : View). z.max_allocs) s.1.view)
+  | inr f ↦ let s = f.1.1.3 in (ap (λ (z : View). z.size) s.view, ap (λ (z : View). z.max_allocs) s.view)
+]
 
 -- so a fresh one was well formed
-fresh_formed : (size limit : ℕ) (v w : View) → IsFresh size limit v → (w.size ≡ v.size) × (w.max_allocs ≡ v.max_allocs) → IsWellFormed w → IsWellFormed v
+fresh_formed : (size limit : ℕ) (v w : View) → IsFresh size limit v → IsAsLarge v w → IsWellFormed w → IsWellFormed v
 fresh_formed size limit v w f same formed =
     let n = ap (λ (z : View). z.size) f.view in
     let m = ap (λ (z : View). z.max_allocs) f.view in
     subst IsWellFormed (sym f.view) (well_alone (record v { max_allocs = limit }) f.name size 0 [] (omega (arith, formed.few_used, same.1, m)) f.below (omega (arith, formed.fits, same.0, n)))
 
--- ---- grants
--- a fresh heap takes the alignment of its first grant into its step afterwards
-module _ (size align made : ℕ) (g h : Guard) (step : g.step ≡ 1) (joined : IsJoined g.step align h.step) where
-  abbrev between : Guard
-  between = record h { step = g.step }
+-- a heap that was made, after its first grant, whose alignment its step then takes in
+made_space : (c : tickets.Call) (a : tickets.Answer) (New : Guard → Guard → Type 0) (size limit made align : ℕ) (h : Guard) → IsAdmitted c → ((v w : Guard) → New v w → tickets.Answers c v w a [])
+    → ((v w : Guard) → New v w → IsAsLarge v.space w.space) → 1 ≤ align → GrantsNew New size limit made align h → IsNewSpace h
+made_space c a New size limit made align h admitted answered large some s =
+    let before : IsWellFormed h.space → IsWellFormed s.by.0.space = subst (λ (z : Guard). IsWellFormed z.space → IsWellFormed s.by.0.space) (sym s.by.2.rest) (λ w. w) in (
+      record {
+        fresh = s.before;
+        size = size;
+        limit = limit;
+        realm = made;
+        new = s.new;
+        events = Called c a [] ∷ Called (tickets.Call.Raise_step align) tickets.Answer.Nothing [] ∷ [];
+        done = (s.by.0, (admitted, answered s.before s.by.0 s.by.1), (h, (some, (refl, s.by.2, refl)), refl));
+      },
+      (λ w. fresh_formed size limit s.before.space s.by.0.space s.new.space (large s.before s.by.0 s.by.1) (before w)),
+      ((λ v w. before w), ((λ v w. w), tt)),
+    )
 
-  one : IsJoined g.step 1 between.step
-  one = record { fits = omega (arith, step); first = dvd_refl g.step; second = one-dvd g.step; least = λ n few a b. a }
+made_realm : (n : ℕ) (g m h : Guard) (t : Ticket) (align : ℕ) → tickets.Requests n g m (Some t) → tickets.RaisesStep align m h → h.realm ≡ g.realm
+made_realm n g m h t align asks raises = ap (λ (z : Guard). z.realm) raises.rest ∙ asks.grants.realm.1
 
-  restep : tickets.Answers (tickets.Call.Raise_step align) between h tickets.Answer.Nothing []
-  restep = (refl, record { joined = joined; rest = refl }, refl)
-
-module _ (size align : ℕ) (hs ks : Heaps) (grant : Granted) (s : Grants size align hs ks grant) (some : 1 ≤ align)
-    (left : (was : Guard) → grant.is_new ≡ false → heap_at grant.place.heap hs ≡ Some was → HasSerialLeft was) where
+-- a request, which a call of tickets grants in a heap that was there
+module _ (c : tickets.Call) (Call : Ticket → Guard → Guard → Type 0) (answers : (t : Ticket) (g h : Guard) → Call t g h → tickets.Answers c g h (tickets.Answer.Requested (Some t)) []) (admitted : IsAdmitted c)
+    (goes : (g : Guard) → GoesByTheStep c g) (size align : ℕ) (hs ks : Heaps) (grant : Granted) (s : GrantsBy Call size align hs ks grant) (some : 1 ≤ align) where
   abbrev k : ℕ
   k = grant.place.heap
 
   abbrev t : Ticket
   t = ticket_in grant
 
-  old : (was : Guard) → grant.is_new ≡ false → heap_at k hs ≡ Some was → HasSerialLeft s.before → tickets.Answers (tickets.Call.Allocate_aligned size align) s.before s.after (tickets.Answer.Requested (Some t)) []
-  old was not at spare = elim s.step [
-    | inl a ↦
-        let step : Aligns size align s.before.space s.after.space (Some (handle_in t)) = subst (λ (b : Bool). Aligns size (if b then 1 else align) s.before.space s.after.space (Some (handle_in t))) not a.1 in
-        aligned_act size align s.before s.after t spare some s.grants s.joined step a.2
-    | inr b ↦ absurd (let e : true ≡ false = sym b.0 ∙ not in cc)
-  ]
-
-  usual : (size' limit made : ℕ) → grant.is_new ≡ true → heap_at k hs ≡ None → IsUsual size hs → IsNew size' limit made s.before → IsNewSpace s.after
-  usual size' limit made new none is fresh =
-      let mid = between size align made s.before s.after fresh.step s.joined in
-      (record {
-        fresh = s.before;
-        size = size';
-        limit = limit;
-        realm = made;
-        new = fresh;
-        events = Called (tickets.Call.Allocate_aligned size 1) (tickets.Answer.Requested (Some t)) [] ∷ Called (tickets.Call.Raise_step align) tickets.Answer.Nothing [] ∷ [];
-        done = (mid, (omega arith, first mid refl (one size align made s.before s.after fresh.step s.joined)), (s.after, (some, restep size align made s.before s.after fresh.step s.joined), refl));
-      }, fresh_formed size' limit s.before.space s.after.space fresh.space sized, ((λ v w. w), ((λ v w. w), tt)))
-    where
-      sized : (s.after.space.size ≡ s.before.space.size) × (s.after.space.max_allocs ≡ s.before.space.max_allocs)
-      sized = elim s.step [ inl a ↦ aligned_size size _ s.before.space s.after.space (handle_in t) a.1 | inr b ↦ absurd (b.1 is) ]
-
-      spare : HasSerialLeft s.before
-      spare = let none = fresh.serials.0 in omega (arith, none)
-
-      first : (mid : Guard) → mid ≡ record s.after { step = s.before.step } → IsJoined s.before.step 1 mid.step → tickets.Answers (tickets.Call.Allocate_aligned size 1) s.before mid (tickets.Answer.Requested (Some t)) []
-      first mid e j = elim s.step [
-        | inl a ↦
-            let step : Aligns size 1 s.before.space s.after.space (Some (handle_in t)) = subst (λ (b : Bool). Aligns size (if b then 1 else align) s.before.space s.after.space (Some (handle_in t))) new a.1 in
-            aligned_act size 1 s.before mid t spare (omega arith) (restepped size s.before s.after mid t s.grants (e ∙ ap (λ (n : ℕ). record s.after { step = n }) (sym (ap (λ (z : Guard). z.step) e)))) j
-            (subst (λ (z : Guard). Aligns size 1 s.before.space z.space (Some (handle_in t))) (sym e) step)
-            (subst (λ (z : Guard). z.space.accesses ≤ s.before.space.accesses + 128) (sym e) a.2)
-        | inr b ↦ absurd (b.1 is)
-      ]
-
-  larger : (made : ℕ) → grant.is_new ≡ true → heap_at k hs ≡ None → (IsUsual size hs → ⊥) → IsNew size larger_limit made s.before → IsNewSpace s.after
-  larger made new none not fresh =
-      let mid = between size align made s.before s.after fresh.step s.joined in
-      (record {
-        fresh = s.before;
-        size = size;
-        limit = larger_limit;
-        realm = made;
-        new = fresh;
-        events = Called (tickets.Call.Allocate_tight size) (tickets.Answer.Requested (Some t)) [] ∷ Called (tickets.Call.Raise_step align) tickets.Answer.Nothing [] ∷ [];
-        done = (mid, (tt, first mid refl), (s.after, (some, restep size align made s.before s.after fresh.step s.joined), refl));
-      }, fresh_formed size larger_limit s.before.space s.after.space fresh.space sized, ((λ v w. w), ((λ v w. w), tt)))
-    where
-      sized : (s.after.space.size ≡ s.before.space.size) × (s.after.space.max_allocs ≡ s.before.space.max_allocs)
-      sized = elim s.step [ inl a ↦ absurd (not (a.0 new)) | inr b ↦ tight_size size 1 s.before.space s.after.space (handle_in t) b.2 ]
-
-      holds : HasSerialLeft s.before × CanHold size 1 s.before.space
-      holds = new_holds size s.before fresh.space fresh.serials.0
-
-      first : (mid : Guard) → mid ≡ record s.after { step = s.before.step } → tickets.Answers (tickets.Call.Allocate_tight size) s.before mid (tickets.Answer.Requested (Some t)) []
-      first mid e = elim s.step [
-        | inl a ↦ absurd (not (a.0 new))
-        | inr b ↦ (
-          Some t,
-          refl,
-          record {
-            request = requested size s.before mid t (restepped size s.before s.after mid t s.grants (e ∙ ap (λ (n : ℕ). record s.after { step = n }) (sym (ap (λ (z : Guard). z.step) e))));
-            can_hold = (λ _. holds, λ _. refl);
-            step = λ _. subst (λ (z : Guard). AlignsTight size 1 s.before.space z.space (Some (handle_in t))) (sym e) b.2;
-            same_step = ap (λ (z : Guard). z.step) e;
-            accesses_max = subst (λ (z : Guard). z.space.accesses ≤ s.before.space.accesses + 140 + 6 * length (bin_at s.before.space.bins (down size))) (sym e) b.3;
-          },
-          refl,
-        )
-      ]
-
-  realm : s.after.realm ≡ s.before.realm
-  realm = s.grants.realm.1
-
   granted_here : Evolves hs.made (heap_at k hs) (Some s.after)
-  granted_here = go s.heap
-    where
-      go : IsBefore size align hs grant s.before → Evolves hs.made (heap_at k hs) (Some s.after)
-      go (inl o) =
-          let was : Guard = o.1.0 in
-          let Must : Guard → Type 0 = MustRaise hs.limits k (blocks_needed align) in
-          let spare = left_raised Must hs.limits was s.before o.1.2 (left was o.0 o.1.1) in
-          turned hs.made k hs was s.after o.1.1 (after_raise Must hs.limits (λ g must. must.1) was s.before s.after o.1.2
-          (turn (tickets.Call.Allocate_aligned size align) (tickets.Answer.Requested (Some t)) [] s.before s.after some tt (old was o.0 o.1.1 spare)))
-      go (inr n) = subst (λ o. Evolves hs.made o (Some s.after)) (sym n.1) (elim n.2 [
-        | inl u ↦ (usual (usual_size hs.limits k) hs.limits.first_allocs (hs.made + 1) n.0 n.1 u.0 u.1, (let e = u.1.realm in omega (arith, e, realm)))
-        | inr l ↦ (larger (hs.made + 1) n.0 n.1 l.0 l.1, (let e = l.1.realm in omega (arith, e, realm)))
-      ])
+  granted_here = elim s.step [
+    | inl o ↦
+        let b = o.1 in
+        let Must : Guard → Type 0 = MustRaise hs.limits k (blocks_needed align) in
+        turned hs.made k hs b.was s.after b.heap (after_raise Must hs.limits (λ g must. must.1) b.was b.before s.after b.raised
+        (turn c (tickets.Answer.Requested (Some t)) [] b.before s.after admitted (goes b.before) (answers t b.before s.after b.by)))
+    | inr n ↦ subst (λ o. Evolves hs.made o (Some s.after)) (sym n.1) (elim n.2 [
+      | inl u ↦
+          let b = u.1 in (
+            made_space (tickets.Call.Allocate_aligned size 1) (tickets.Answer.Requested (Some t)) (λ g h. tickets.AllocatesAligned size 1 g h (Some t)) (usual_size hs.limits k) hs.limits.first_allocs (hs.made + 1) align s.after
+                (omega arith) (λ v w a. (Some t, refl, a, refl)) (λ v w a. aligned_large size 1 t v w a) some b,
+            omega (arith, b.new.realm, made_realm size b.before b.by.0 s.after t align b.by.1.request b.by.2),
+          )
+      | inr l ↦
+          let b = l.1 in (
+            made_space (tickets.Call.Allocate_tight size) (tickets.Answer.Requested (Some t)) (λ g h. tickets.AllocatesTight size g h (Some t)) size larger_limit (hs.made + 1) align s.after
+                tt (λ v w a. (Some t, refl, a, refl)) (λ v w a. tight_large size t v w a) some b,
+            omega (arith, b.new.realm, made_realm size b.before b.by.0 s.after t align b.by.1.request b.by.2),
+          )
+    ])
+  ]
 
 -- ---- all heaps
 same_evolve : (hs ks : Heaps) → IsSame hs ks → Evolve hs ks
@@ -303,51 +198,32 @@ more_made : (b : Bool) (n : ℕ) → n ≤ (if b then n + 1 else n)
 more_made true n = omega arith
 more_made false n = omega arith
 
-grants_evolve : (size align : ℕ) (hs ks : Heaps) (grant : Granted) → (s : Grants size align hs ks grant) → 1 ≤ align
-    → ((was : Guard) → grant.is_new ≡ false → heap_at grant.place.heap hs ≡ Some was → HasSerialLeft was) → Evolve hs ks
-grants_evolve size align hs ks grant s some left = record {
-  realm = ap (λ (h : Heaps). h.realm) s.heaps;
-  made = let m = more_made grant.is_new hs.made in let e = ap (λ (h : Heaps). h.made) s.heaps in omega (arith, m, e);
-  heaps = put_evolves grant.place.heap hs ks (Some s.after) (ap (λ (h : Heaps). h.slots) s.heaps) s.number (granted_here size align hs ks grant s some left);
-}
+-- a request, which a call of tickets grants in a heap that was there
+module _ (c : tickets.Call) (Call : Ticket → Guard → Guard → Type 0) (answers : (t : Ticket) (g h : Guard) → Call t g h → tickets.Answers c g h (tickets.Answer.Requested (Some t)) []) (admitted : IsAdmitted c)
+    (goes : (g : Guard) → GoesByTheStep c g) (size align : ℕ) (hs ks : Heaps) (some : 1 ≤ align) where
+  grants_evolve : (grant : Granted) → GrantsBy Call size align hs ks grant → Evolve hs ks
+  grants_evolve grant s = record {
+    realm = ap (λ (h : Heaps). h.realm) s.heaps;
+    made = let m = more_made grant.is_new hs.made in let e = ap (λ (h : Heaps). h.made) s.heaps in omega (arith, m, e);
+    heaps = put_evolves grant.place.heap hs ks (Some s.after) (ap (λ (h : Heaps). h.slots) s.heaps) s.number (granted_here c Call answers admitted goes size align hs ks grant s some);
+  }
 
-tight_evolve : (size align : ℕ) (hs ks : Heaps) (grant : Granted) → (s : GrantsTight size align hs ks grant) → 1 ≤ align → HasSerialLeft s.was → Evolve hs ks
-tight_evolve size align hs ks grant s some left =
-    let Must : Guard → Type 0 = MustRaise hs.limits grant.place.heap (blocks_needed align) in
-    let t : Ticket = ticket_in grant in
-    alters_evolve grant.place.heap (λ g h. (g ≡ s.was) × (h ≡ s.after)) hs ks (record { before = s.was; after = s.after; heap = s.heap; by = (refl, refl); heaps = s.heaps })
-    (after_raise Must hs.limits (λ g must. must.1) s.was s.before s.after s.raised (turn (tickets.Call.Allocate_tight_aligned size align) (tickets.Answer.Requested (Some t)) [] s.before s.after some tt
-    (tight_act size align s.before s.after t (left_raised Must hs.limits s.was s.before s.raised left) some s.grants s.joined s.step s.accesses)))
+  requested_evolve : {NoneServes : Heaps → Type 0} {FirstServes : ℕ → Heaps → Type 0} (r : Result Granted Refusal) → calls.AllocatesBy NoneServes FirstServes Call size align hs ks r → Evolve hs ks
+  requested_evolve (Err e) x = same_evolve hs ks x.same
+  requested_evolve (Ok g) x = grants_evolve g x.grants
 
--- ---- room, and what is live
-has_left : (size blocks k : ℕ) (hs : Heaps) (was : Guard) → 1 ≤ size → heap_at k hs ≡ Some was → size ≤ room_of hs.limits k blocks (heap_at k hs) → HasSerialLeft was
-has_left size blocks k hs was some at fits = (room_left hs.limits k blocks size was some (subst (λ o. size ≤ room_of hs.limits k blocks o) at fits)).0
+-- what is done or changes nothing
+done_evolve : (hs ks : Heaps) (r : Bool) → (r ≡ false → IsSame hs ks) → (r ≡ true → Evolve hs ks) → Evolve hs ks
+done_evolve hs ks true same step = step refl
+done_evolve hs ks false same step = same_evolve hs ks (same refl)
 
-live_in : (p : Place) (hs : Heaps) (g : Guard) → heap_at p.heap hs ≡ Some g → IsLive p hs → guarded.IsLive (ticket_of p) g
-live_in p hs g at live = subst (λ o. IsSome (range_in (ticket_of p) o)) at (go (nat_eq p.realm hs.realm) live)
-  where
-    go : (b : Bool) → IsSome (if b then range_in (ticket_of p) (heap_at p.heap hs) else None) → IsSome (range_in (ticket_of p) (heap_at p.heap hs))
-    go true l = l
-    go false l = absurd (cc)
-
-frees_evolve : (p : Place) (hs ks : Heaps) → IsLive p hs → FreesIn p hs ks → Evolve hs ks
-frees_evolve p hs ks live f =
-    let by : tickets.Frees (ticket_of p) f.before f.after true = record {
-      done = (λ _. live_in p hs f.before f.heap live, λ _. refl);
-      gone = f.gone;
-      others = f.others;
-      same = λ e. absurd (let no : true ≡ false = e in cc);
-      step = λ _. f.step;
-      serials = f.serials;
-      accesses_max = f.accesses;
-    } in
-    alters_evolve p.heap (λ g h. (g ≡ f.before) × (h ≡ f.after)) hs ks (record { before = f.before; after = f.after; heap = f.heap; by = (refl, refl); heaps = f.heaps })
-    (turn (tickets.Call.Free (ticket_of p)) (tickets.Answer.Was_done true) [] f.before f.after tt tt (true, refl, by, refl))
+frees_evolve : (p : Place) (hs ks : Heaps) → Alters p.heap (λ g h. tickets.Frees (ticket_of p) g h true) hs ks → Evolve hs ks
+frees_evolve p hs ks f = alters_evolve p.heap (λ g h. tickets.Frees (ticket_of p) g h true) hs ks f (turn (tickets.Call.Free (ticket_of p)) (tickets.Answer.Was_done true) [] f.before f.after tt tt (true, refl, f.by, refl))
 
 relocates_evolve : (p : Place) (align : ℕ) (hs ks : Heaps) (r : Option Granted) → 1 ≤ align → calls.Relocates p align hs ks r → Evolve hs ks
 relocates_evolve p align hs ks None some x = same_evolve hs ks (x.same refl)
 relocates_evolve p align hs ks (Some g) some x =
-    grants_evolve _ align hs ks g x.grants some (λ was not at. has_left _ (blocks_needed align) g.place.heap hs was (omega arith) at x.first.0.1.room)
+    grants_evolve (tickets.Call.Allocate_aligned (size_of p hs) align) (λ t g h. tickets.AllocatesAligned (size_of p hs) align g h (Some t)) (λ t g h a. (Some t, refl, a, refl)) some (λ g. tt) (size_of p hs) align hs ks some g x.grants
 
 own_evolve : (p : Place) (hs ks : Heaps) (r : Option Granted) → calls.RelocatesOwn p hs ks r → Evolve hs ks
 own_evolve p hs ks None x = same_evolve hs ks (x.same refl)
@@ -407,28 +283,11 @@ compact_slot made (Some g) new r = subst (Evolves made (Some g)) (sym r.1) (turn
 
 -- ---- each call
 evolve : (c : Call) (hs ks : Heaps) (r : Reply) → IsValid c → GoesByTheSteps c hs → Takes c hs ks r → Evolve hs ks
-evolve (Allocate size align) hs ks r some goes x = go x.0 x.3
-  where
-    go : (a : Result Granted Refusal) → calls.Allocates size align hs ks a → Evolve hs ks
-    go (Err e) y = same_evolve hs ks y.same
-    go (Ok g) y =
-        let one : 1 ≤ size = elim (cases_eq size 0) [ inl e ↦ absurd (let no = y.empty e in cc) | inr d ↦ omega (arith, d) ] in
-        grants_evolve size align hs ks g y.grants some (λ was not at. has_left (units_needed size align) (blocks_needed align) g.place.heap hs was (omega (arith, one, some)) at (y.found not).0)
-evolve (Allocate_tight size align) hs ks r some goes x = go x.0 x.3
-  where
-    go : (a : Result Granted Refusal) → calls.AllocatesTight size align hs ks a → Evolve hs ks
-    go (Err e) y = same_evolve hs ks y.same
-    go (Ok g) y = elim (cases_Bool g.is_new) [
-      | inl new ↦ grants_evolve size align hs ks g (y.grants new) some (λ was not at. absurd (let e : true ≡ false = sym new ∙ not in cc))
-      | inr not ↦
-          let s = y.fills not in
-          tight_evolve size align hs ks g s some (subst (λ o. CanHoldIn hs.limits g.place.heap size align o) s.heap (y.found not).0).0
-    ]
-evolve (Free p) hs ks r some goes x = go x.0 x.2
-  where
-    go : (b : Bool) → calls.Frees p hs ks b → Evolve hs ks
-    go true y = frees_evolve p hs ks (y.done.0 refl) (y.step refl)
-    go false y = same_evolve hs ks (y.same refl)
+evolve (Allocate size align) hs ks r some goes x =
+    requested_evolve (tickets.Call.Allocate_aligned size align) (λ t g h. tickets.AllocatesAligned size align g h (Some t)) (λ t g h a. (Some t, refl, a, refl)) some (λ g. tt) size align hs ks some x.0 x.3
+evolve (Allocate_tight size align) hs ks r some goes x =
+    requested_evolve (tickets.Call.Allocate_tight_aligned size align) (λ t g h. tickets.AllocatesTightAligned size align g h (Some t)) (λ t g h a. (Some t, refl, a, refl)) some (λ g. tt) size align hs ks some x.0 x.3
+evolve (Free p) hs ks r some goes x = done_evolve hs ks x.0 x.2.same (λ e. frees_evolve p hs ks (x.2.step e))
 evolve (Relocate p) hs ks r some goes x = own_evolve p hs ks x.0 x.2
 evolve (Relocate_aligned p align) hs ks r some goes x = relocates_evolve p align hs ks x.0 some x.2
 evolve (Drop_empty keep) hs ks r some goes x = go x.0 x.2
@@ -436,16 +295,8 @@ evolve (Drop_empty keep) hs ks r some goes x = go x.0 x.2
     go : (o : Option ℕ) → calls.DropsEmpty keep hs ks o → Evolve hs ks
     go None y = same_evolve hs ks (y.same refl)
     go (Some k) y = drop_evolve k hs ks y.heaps
-evolve (Drop_heap k) hs ks r some goes x = go x.0 x.2
-  where
-    go : (b : Bool) → calls.Drops k hs ks b → Evolve hs ks
-    go true y = drop_evolve k hs ks (y.heaps refl)
-    go false y = same_evolve hs ks (y.same refl)
-evolve (Give_up k) hs ks r some goes x = go x.0 x.2
-  where
-    go : (b : Bool) → calls.GivesUp k hs ks b → Evolve hs ks
-    go true y = drop_evolve k hs ks (y.heaps refl)
-    go false y = same_evolve hs ks (y.same refl)
+evolve (Drop_heap k) hs ks r some goes x = done_evolve hs ks x.0 x.2.same (λ e. drop_evolve k hs ks (x.2.heaps e))
+evolve (Give_up k) hs ks r some goes x = done_evolve hs ks x.0 x.2.same (λ e. drop_evolve k hs ks (x.2.heaps e))
 evolve Reset hs ks r some goes x = record {
   realm = ap (λ (h : Heaps). h.realm) x.1.rest;
   made = omega (arith, ap (λ (h : Heaps). h.made) x.1.rest);

@@ -5,106 +5,61 @@ use Rattle.std.proofs.Math.Nat.{add-mul, mul-add, mul_comm}
 use Rattle.std.proofs.lemmas.Bool.{cases_lt}
 use Rattle.std.proofs.lemmas.Nat.{mul-le}
 use Rattle.std.specs.List.{AllByRecursion}
-use Rattle.offset_allocator.specs.{Ranges.Range, Relations.Splits, View.Block, View.Handle, View.IsWellFormed, View.Place as Position, View.View, View.count_named, View.count_used, View.free_block, View.free_part, View.one, View.place_of, View.units}
-use Rattle.offset_allocator.specs.{View.padding_to, View.used_units, Requests.blocks_needed, Requests.units_needed}
+use Rattle.offset_allocator.specs.{Ranges.Range, Relations.Splits, View.Block, View.Handle, View.IsWellFormed, View.Place as Position, View.View, View.count_named, View.free_block, View.free_part, View.one, View.place_of, View.tally, View.units}
+use Rattle.offset_allocator.specs.{View.padding_to, Requests.blocks_needed, Requests.units_needed}
 use Rattle.offset_allocator.specs.Ranges as named
 use Rattle.offset_allocator.specs.Relations as space
-use Rattle.offset_allocator.proofs.{Always.adds_up, Moving.Runs.count_used-append, Moving.Runs.used_units-append, Ranges.beside, Reading.range_at, Views.ViewPlaces.place_here}
+use Rattle.offset_allocator.proofs.{Always.adds_up, Ranges.beside, Reading.range_at, Tallies.tally_append, Views.ViewPlaces.place_here}
+use Rattle.offset_guarded.specs.Answers as tickets
 use Rattle.offset_guarded.specs.Guard.{Guard, handle_in}
 use Rattle.offset_guarded.specs.Guard as guarded
 use Rattle.offset_heaps.specs.Calls.{GoAll, Goes}
+use Rattle.offset_heaps.specs.Changing.{Alters}
 use Rattle.offset_heaps.specs.Places.{Place, ticket_from, ticket_of}
-use Rattle.offset_heaps.specs.Heaps.{Heaps, FreesIn, Grants, heap_at, live_units_of, numbers, part, range_in, range_of, units_of_heap, slot, total}
+use Rattle.offset_heaps.specs.Heaps.{Heaps, Grants, GrantsOld, heap_at, live_units_of, numbers, part, range_in, range_of, units_of_heap, slot, total}
 use Rattle.offset_heaps.specs.Relocating.{TakesRange, live_units_at, most_ranks, rank, ranges_of, ranks, ranks_from, square_of, squares, units_in, size_of}
 use Rattle.offset_heaps.specs.State as state
 use Rattle.offset_heaps.proofs.Decided.{known, known_at}
 use Rattle.offset_heaps.proofs.{Numbers.slot_other, Numbers.slot_there, Raising.must_in}
 
--- ---- the live units of one heap
-used_part : (x n : ℕ) → used_units (free_part x n) ≡ 0
-used_part x zero = refl
-used_part x (suc n) = refl
+-- ---- what the live blocks of one heap add up to: their units, or how many they are
+module _ (own : Block → ℕ) (idle : (b : Block) → b.used ≡ false → own b ≡ 0) where
+  free_added : (x n : ℕ) → tally own (free_part x n) ≡ 0
+  free_added x zero = refl
+  free_added x (suc n) = let none = idle (free_block x (suc n)) refl in omega (arith, none)
 
-idle_units : (bs : List Block) → AllByRecursion (λ b. b.used ≡ false) bs → used_units bs ≡ 0
-idle_units [] idle = refl
-idle_units (b ∷ bs) idle =
-    let rest = idle_units bs idle.1 in
-    let here = ap (λ (u : Bool). (if u then b.size else 0) + used_units bs) idle.0 in
-    omega (arith, rest, here)
+  idle_added : (bs : List Block) → AllByRecursion (λ b. b.used ≡ false) bs → tally own bs ≡ 0
+  idle_added [] free = refl
+  idle_added (b ∷ bs) free = omega (arith, idle b free.0, idle_added bs free.1)
 
-splits_units : (needed n : ℕ) (at : ℕ → ℕ) (v w : View) (h : Handle) → Splits needed n at v w h → used_units w.blocks ≡ used_units v.blocks + n
-splits_units needed n at v w h s =
-    let was = ap used_units s.blocks ∙ used_units-append s.before (s.block ∷ s.after) in
-    let free = ap (λ (u : Bool). (if u then s.block.size else 0) + used_units s.after) s.free in
-    let now = ap (λ (v : View). used_units v.blocks) s.view ∙ used_units-append s.before (s.parts ++ s.after) in
-    let parts = used_units-append s.parts s.after in
-    let made = ap used_units s.made ∙ used_units-append (free_part s.padding_name s.padding) (record s.block { size = n; used = true } ∷ free_part s.remainder_name s.remainder) in
-    omega (arith, was, free, now, parts, made, used_part s.padding_name s.padding, used_part s.remainder_name s.remainder)
+  splits_added : (needed n : ℕ) (at : ℕ → ℕ) (v w : View) (h : Handle) → (s : Splits needed n at v w h) → tally own w.blocks ≡ tally own v.blocks + own (record s.block { size = n; used = true })
+  splits_added needed n at v w h s =
+      let was = ap (tally own) s.blocks ∙ tally_append own s.before (s.block ∷ s.after) in
+      let now = ap (λ (v : View). tally own v.blocks) s.view ∙ tally_append own s.before (s.parts ++ s.after) in
+      let made = ap (tally own) s.made ∙ tally_append own (free_part s.padding_name s.padding) (record s.block { size = n; used = true } ∷ free_part s.remainder_name s.remainder) in
+      omega (arith, was, idle s.block s.free, now, tally_append own s.parts s.after, made, free_added s.padding_name s.padding, free_added s.remainder_name s.remainder)
 
-module _ (x : ℕ) (v w : View) (f : space.Frees x v w) where
-  abbrev front : List Block
-  front = f.before ++ f.left
+  frees_added : (x : ℕ) (v w : View) (f : space.Frees x v w) → tally own w.blocks + own f.block ≡ tally own v.blocks
+  frees_added x v w f =
+      let was = ap (tally own) f.blocks ∙ tally_append own f.before ((f.left ++ (f.block ∷ f.right)) ++ f.after) in
+      let merged : Block = free_block x (units (f.left ++ (f.block ∷ f.right))) in
+      let now = ap (λ (v : View). tally own v.blocks) f.view ∙ tally_append own f.before (merged ∷ f.after) in
+      omega (arith, was, tally_append own (f.left ++ (f.block ∷ f.right)) f.after, tally_append own f.left (f.block ∷ f.right), tally_append own f.left f.right, idle_added (f.left ++ f.right) f.free, now, idle merged refl)
 
-  abbrev behind : List Block
-  behind = f.right ++ f.after
-
-  parted : v.blocks ≡ front ++ f.block ∷ behind
-  parted = f.blocks ∙ ap (λ (bs : List Block). f.before ++ bs) (append_assoc f.left (f.block ∷ f.right) f.after) ∙ sym (append_assoc f.before f.left (f.block ∷ behind))
-
-  freed_units : used_units w.blocks + f.block.size ≡ used_units v.blocks
-  freed_units =
-      let was = ap used_units parted ∙ used_units-append front (f.block ∷ behind) in
-      let own = ap (λ (u : Bool). (if u then f.block.size else 0) + used_units behind) f.used in
-      let left = used_units-append f.before f.left in
-      let right = used_units-append f.right f.after in
-      let idle = idle_units (f.left ++ f.right) f.free in
-      let both = used_units-append f.left f.right in
-      let now = ap (λ (v : View). used_units v.blocks) f.view ∙ used_units-append f.before (free_block x (units (f.left ++ (f.block ∷ f.right))) ∷ f.after) in
-      omega (arith, was, own, left, right, idle, both, now)
-
-  freed_size : IsWellFormed v → units_in (named.range_of x v) ≡ f.block.size
-  freed_size w =
-      let once = ap (count_named x) parted in
-      let most = w.distinct x in
-      let alone = beside x front f.block behind (sym f.named) (omega (arith, once, most)) in
-      ap (λ (o : Option Position). units_in (range_at o)) (ap (place_of x) parted ∙ place_here x front f.block behind alone.0 (sym f.named))
-      ∙ ap (λ (u : Bool). units_in (if u then Some (record { offset = units front; size = f.block.size }) else None)) f.used
+freed_size : (x : ℕ) (v w : View) (f : space.Frees x v w) → IsWellFormed v → units_in (named.range_of x v) ≡ f.block.size
+freed_size x v w f known =
+    let front : List Block = f.before ++ f.left in
+    let behind : List Block = f.right ++ f.after in
+    let parted : v.blocks ≡ front ++ f.block ∷ behind = f.blocks ∙ ap (λ (bs : List Block). f.before ++ bs) (append_assoc f.left (f.block ∷ f.right) f.after) ∙ sym (append_assoc f.before f.left (f.block ∷ behind)) in
+    let once = ap (count_named x) parted in
+    let most = known.distinct x in
+    let alone = beside x front f.block behind (sym f.named) (omega (arith, once, most)) in
+    ap (λ (o : Option Position). units_in (range_at o)) (ap (place_of x) parted ∙ place_here x front f.block behind alone.0 (sym f.named))
+    ∙ ap (λ (u : Bool). units_in (if u then Some (record { offset = units front; size = f.block.size }) else None)) f.used
 
 some_if : (b : Bool) (o : Option Range) → IsSome (if b then o else None) → (if b then o else None) ≡ o
 some_if true o some = refl
 some_if false o some = absurd (cc)
-
--- ---- how many ranges are live in one heap
-count_part : (x n : ℕ) → count_used (free_part x n) ≡ 0
-count_part x zero = refl
-count_part x (suc n) = refl
-
-idle_count : (bs : List Block) → AllByRecursion (λ b. b.used ≡ false) bs → count_used bs ≡ 0
-idle_count [] idle = refl
-idle_count (b ∷ bs) idle =
-    let rest = idle_count bs idle.1 in
-    let here = ap (λ (u : Bool). one u + count_used bs) idle.0 in
-    omega (arith, rest, here)
-
-splits_count : (needed n : ℕ) (at : ℕ → ℕ) (v w : View) (h : Handle) → Splits needed n at v w h → count_used w.blocks ≡ count_used v.blocks + 1
-splits_count needed n at v w h s =
-    let was = ap count_used s.blocks ∙ count_used-append s.before (s.block ∷ s.after) in
-    let free = ap (λ (u : Bool). one u + count_used s.after) s.free in
-    let now = ap (λ (v : View). count_used v.blocks) s.view ∙ count_used-append s.before (s.parts ++ s.after) in
-    let parts = count_used-append s.parts s.after in
-    let made = ap count_used s.made ∙ count_used-append (free_part s.padding_name s.padding) (record s.block { size = n; used = true } ∷ free_part s.remainder_name s.remainder) in
-    omega (arith, was, free, now, parts, made, count_part s.padding_name s.padding, count_part s.remainder_name s.remainder)
-
-freed_count : (x : ℕ) (v w : View) (f : space.Frees x v w) → count_used w.blocks + 1 ≡ count_used v.blocks
-freed_count x v w f =
-    let was = ap count_used (parted x v w f) ∙ count_used-append (f.before ++ f.left) (f.block ∷ (f.right ++ f.after)) in
-    let own = ap (λ (u : Bool). one u + count_used (f.right ++ f.after)) f.used in
-    let left = count_used-append f.before f.left in
-    let right = count_used-append f.right f.after in
-    let idle = idle_count (f.left ++ f.right) f.free in
-    let both = count_used-append f.left f.right in
-    let now = ap (λ (v : View). count_used v.blocks) f.view ∙ count_used-append f.before (free_block x (units (f.left ++ (f.block ∷ f.right))) ∷ f.after) in
-    omega (arith, was, own, left, right, idle, both, now)
 
 -- ---- sums over heaps
 pub total_put : (f : Guard → ℕ) (slots : List (Option Guard)) (k : ℕ) (o : Option Guard) → k < length slots → total f (slice_set slots k o) + part f (slot k slots) ≡ total f slots + part f o
@@ -187,16 +142,25 @@ module _ (p q : Place) (hs ks : Heaps) (known_well : state.IsWellFormed hs) (goe
   takes : TakesRange p goes.align hs q.heap
   takes = goes.grants.first.0
 
-  f : FreesIn p ls ks
+  abbrev Asks : Guard → Guard → Type 0
+  Asks g h = tickets.AllocatesAligned (size_of p hs) goes.align g h (Some (ticket_from goes.offset q))
+
+  o : GrantsOld Asks hs.limits q.heap (blocks_needed goes.align) (heap_at q.heap hs) s.after
+  o = elim s.step [ inl old ↦ old.1 | inr new ↦ absurd (let e : false ≡ true = new.0 in cc) ]
+
+  asked : space.Aligns (size_of p hs) goes.align o.before.space s.after.space (Some (handle_in (ticket_from goes.offset q)))
+  asked = o.by.step (o.by.can_grant.0 refl).0
+
+  f : Alters p.heap (λ g h. tickets.Frees (ticket_of p) g h true) ls ks
   f = goes.frees.step refl
 
-  to : heap_at q.heap hs ≡ Some s.before
-  to = elim s.heap [
-    | inl old ↦ elim old.1.2 [
-      | inl up ↦ absurd (takes.1.stays (must_in hs.limits q.heap (blocks_needed goes.align) (heap_at q.heap hs) old.1.0 old.1.1 up.0))
-      | inr kept ↦ old.1.1 ∙ ap Some (sym kept.1)
-    ]
-    | inr new ↦ absurd (let e : false ≡ true = new.0 in cc)
+  freed_by : space.Frees p.name f.before.space f.after.space
+  freed_by = f.by.step refl
+
+  to : heap_at q.heap hs ≡ Some o.before
+  to = elim o.raised [
+    | inl up ↦ absurd (takes.1.stays (must_in hs.limits q.heap (blocks_needed goes.align) (heap_at q.heap hs) o.was o.heap up.0))
+    | inr kept ↦ o.heap ∙ ap Some (sym kept.1)
   ]
 
   slots : ls.slots ≡ slice_set hs.slots q.heap (Some s.after)
@@ -205,35 +169,30 @@ module _ (p q : Place) (hs ks : Heaps) (known_well : state.IsWellFormed hs) (goe
   from : heap_at p.heap hs ≡ Some f.before
   from = sym (slot_other hs.slots q.heap p.heap (Some s.after) (λ e. takes.1.other (sym e))) ∙ sym (ap (slot p.heap) slots) ∙ f.heap
 
-  grown : live_units_of s.after ≡ live_units_of s.before + size_of p hs
-  grown = elim s.step [
-    | inl a ↦ splits_units (units_needed (size_of p hs) goes.align) (size_of p hs) (padding_to goes.align) s.before.space s.after.space (handle_in (ticket_from goes.offset q)) a.1.1
-    | inr a ↦ absurd (let e : false ≡ true = a.0 in cc)
-  ]
+  grown : live_units_of s.after ≡ live_units_of o.before + size_of p hs
+  grown = splits_added (λ b. if b.used then b.size else 0) (λ b e. ap (λ (u : Bool). if u then b.size else 0) e) (units_needed (size_of p hs) goes.align) (size_of p hs) (padding_to goes.align) o.before.space s.after.space
+      (handle_in (ticket_from goes.offset q)) asked.1
 
-  grown_size : units_of_heap s.after ≡ units_of_heap s.before
-  grown_size = elim s.step [
-    | inl a ↦ ap (λ (v : View). v.size) a.1.1.view
-    | inr a ↦ absurd (let e : false ≡ true = a.0 in cc)
-  ]
+  grown_size : units_of_heap s.after ≡ units_of_heap o.before
+  grown_size = ap (λ (v : View). v.size) asked.1.view
 
   -- the units of the range are those of the block that is freed
   here : range_of p hs ≡ guarded.range_of (ticket_of p) f.before
   here = some_if (nat_eq p.realm hs.realm) (range_in (ticket_of p) (heap_at p.heap hs)) takes.0 ∙ ap (range_in (ticket_of p)) from
 
-  freed : size_of p hs ≡ f.step.block.size
+  freed : size_of p hs ≡ freed_by.block.size
   freed =
       ap units_in here
       ∙ ap units_in (some_if (guarded.fits (ticket_of p) f.before) (named.range_of p.name f.before.space) (subst IsSome here takes.0))
-      ∙ freed_size p.name f.before.space f.after.space f.step (known_at hs (known hs known_well) p.heap f.before from)
+      ∙ freed_size p.name f.before.space f.after.space freed_by (known_at hs (known hs known_well) p.heap f.before from)
 
   lost : live_units_of f.after + size_of p hs ≡ live_units_of f.before
-  lost = omega (arith, freed, freed_units p.name f.before.space f.after.space f.step)
+  lost = omega (arith, freed, frees_added (λ b. if b.used then b.size else 0) (λ b e. ap (λ (u : Bool). if u then b.size else 0) e) p.name f.before.space f.after.space freed_by, ap (λ (u : Bool). if u then freed_by.block.size else 0) freed_by.used)
 
   lost_size : units_of_heap f.after ≡ units_of_heap f.before
-  lost_size = ap (λ (v : View). v.size) f.step.view
+  lost_size = ap (λ (v : View). v.size) freed_by.view
 
-  both_put : (g : Guard → ℕ) → total g ks.slots + g f.before + g s.before ≡ total g hs.slots + g s.after + g f.after
+  both_put : (g : Guard → ℕ) → total g ks.slots + g f.before + g o.before ≡ total g hs.slots + g s.after + g f.after
   both_put g =
       let first = total_put g hs.slots q.heap (Some s.after) s.number in
       let second = total_put g ls.slots p.heap (Some f.after) (slot_there ls.slots p.heap (ap is_some f.heap)) in
@@ -246,7 +205,7 @@ module _ (p q : Place) (hs ks : Heaps) (known_well : state.IsWellFormed hs) (goe
   pub squares_grow : squares ks ≡ squares hs + 2 * (size_of p hs * (live_units_at q.heap hs - live_units_at p.heap hs)) + 2 * (size_of p hs * size_of p hs)
   squares_grow =
       let source : live_units_at p.heap hs ≡ live_units_of f.before = ap (part live_units_of) from in
-      let target : live_units_at q.heap hs ≡ live_units_of s.before = ap (part live_units_of) to in
+      let target : live_units_at q.heap hs ≡ live_units_of o.before = ap (part live_units_of) to in
       let full = takes.1.full in
       gained (live_units_at p.heap hs) (live_units_at q.heap hs) (live_units_of f.after) (live_units_of s.after) (size_of p hs) (squares hs) (squares ks) (omega (arith, lost, source)) (omega (arith, grown, target))
       full (omega (arith, both_put square_of, ap (λ n. n * n) source, ap (λ n. n * n) target))
@@ -261,14 +220,12 @@ module _ (p q : Place) (hs ks : Heaps) (known_well : state.IsWellFormed hs) (goe
   sizes_stay = omega (arith, both_put square_most, ap (λ n. n * n) grown_size, ap (λ n. n * n) lost_size)
 
   -- ---- ranks
-  one_more : ranges_of s.after ≡ ranges_of s.before + 1
-  one_more = elim s.step [
-    | inl a ↦ splits_count (units_needed (size_of p hs) goes.align) (size_of p hs) (padding_to goes.align) s.before.space s.after.space (handle_in (ticket_from goes.offset q)) a.1.1
-    | inr a ↦ absurd (let e : false ≡ true = a.0 in cc)
-  ]
+  one_more : ranges_of s.after ≡ ranges_of o.before + 1
+  one_more = splits_added (λ b. one b.used) (λ b e. ap one e) (units_needed (size_of p hs) goes.align) (size_of p hs) (padding_to goes.align) o.before.space s.after.space
+      (handle_in (ticket_from goes.offset q)) asked.1
 
   one_less : ranges_of f.after + 1 ≡ ranges_of f.before
-  one_less = freed_count p.name f.before.space f.after.space f.step
+  one_less = let less = frees_added (λ b. one b.used) (λ b e. ap one e) p.name f.before.space f.after.space freed_by in omega (arith, less, ap one freed_by.used)
 
   ranges_stay : total ranges_of ks.slots ≡ total ranges_of hs.slots
   ranges_stay = omega (arith, both_put ranges_of, one_more, one_less)
@@ -279,7 +236,7 @@ module _ (p q : Place) (hs ks : Heaps) (known_well : state.IsWellFormed hs) (goe
   pub most_stays : most_ranks ks ≡ most_ranks hs
   most_stays = ap₂ (λ a b. a * (b * 2 ^ 32)) ranges_stay count_stays
 
-  ranks_put_both : ranks ks + weigh (numbers hs) p.heap f.before + weigh (numbers hs) q.heap s.before ≡ ranks hs + weigh (numbers hs) q.heap s.after + weigh (numbers hs) p.heap f.after
+  ranks_put_both : ranks ks + weigh (numbers hs) p.heap f.before + weigh (numbers hs) q.heap o.before ≡ ranks hs + weigh (numbers hs) q.heap s.after + weigh (numbers hs) p.heap f.after
   ranks_put_both =
       let n : ℕ = numbers hs in
       let first = ranks_at n hs.slots q.heap (Some s.after) s.number in
@@ -295,13 +252,13 @@ module _ (p q : Place) (hs ks : Heaps) (known_well : state.IsWellFormed hs) (goe
   ranks_grow none =
       let n : ℕ = numbers hs in
       let a : ℕ = live_units_of f.before in
-      let b : ℕ = live_units_of s.before in
+      let b : ℕ = live_units_of o.before in
       let source : live_units_at p.heap hs ≡ a = ap (part live_units_of) from in
       let target : live_units_at q.heap hs ≡ b = ap (part live_units_of) to in
       let left : rank n p.heap f.after ≡ rank n p.heap f.before = ap (λ m. n * m + (n - p.heap)) (let e : live_units_of f.after ≡ a = omega (arith, lost, none) in e) in
-      let come : rank n q.heap s.after ≡ rank n q.heap s.before = ap (λ m. n * m + (n - q.heap)) (let e : live_units_of s.after ≡ b = omega (arith, grown, none) in e) in
+      let come : rank n q.heap s.after ≡ rank n q.heap o.before = ap (λ m. n * m + (n - q.heap)) (let e : live_units_of s.after ≡ b = omega (arith, grown, none) in e) in
       let below : q.heap < n = omega (arith, s.number, known_well.count) in
-      let more : rank n p.heap f.before < rank n q.heap s.before = elim (takes.1.before none) [
+      let more : rank n p.heap f.before < rank n q.heap o.before = elim (takes.1.before none) [
         | inl fuller ↦
             let up : n * (a + 1) ≤ n * b = mul-le-mul_left n (omega (arith, fuller, source, target)) in
             omega (arith, up, mul-add n a 1, below)
@@ -309,8 +266,8 @@ module _ (p q : Place) (hs ks : Heaps) (known_well : state.IsWellFormed hs) (goe
             let up : n * a ≤ n * b = mul-le-mul_left n (let full = takes.1.full in omega (arith, full, source, target)) in
             omega (arith, up, lower, below)
       ] in
-      let grown_by : weigh n q.heap s.after ≡ weigh n q.heap s.before + rank n q.heap s.before =
-      ap₂ (λ r m. r * m) one_more come ∙ add-mul (ranges_of s.before) 1 (rank n q.heap s.before) ∙ ap (λ m. weigh n q.heap s.before + m) (let e : 1 * rank n q.heap s.before ≡ rank n q.heap s.before = omega arith in e) in
+      let grown_by : weigh n q.heap s.after ≡ weigh n q.heap o.before + rank n q.heap o.before =
+      ap₂ (λ r m. r * m) one_more come ∙ add-mul (ranges_of o.before) 1 (rank n q.heap o.before) ∙ ap (λ m. weigh n q.heap o.before + m) (let e : 1 * rank n q.heap o.before ≡ rank n q.heap o.before = omega arith in e) in
       let lost_by : weigh n p.heap f.before ≡ weigh n p.heap f.after + rank n p.heap f.before =
       ap (λ r. r * rank n p.heap f.before) (sym one_less) ∙ add-mul (ranges_of f.after) 1 (rank n p.heap f.before)
       ∙ ap₂ (λ r m. r + m) (ap (λ m. ranges_of f.after * m) (sym left)) (let e : 1 * rank n p.heap f.before ≡ rank n p.heap f.before = omega arith in e) in

@@ -1,9 +1,9 @@
 -- The bytes of a state, and the heaps that they are of.
-use Rattle.std.proofs.Common.{◌≡◌, ℕ, zero, suc, ◌+◌, ◌*◌, ◌-◌, ◌^◌, ◌<◌, ◌≤◌, [], ◌∷◌, ◌++◌, length, List, Option, Some, None, IfSome, map, replicate, slice_set, take, drop, get_or, refl, sym, ap}
-use Rattle.std.proofs.Common.{ap₂, ◌∙◌, subst, inl, inr, arith, length-append, ext_get_or, le-ltb}
+use Rattle.std.proofs.Common.{◌≡◌, ℕ, zero, suc, ◌+◌, ◌*◌, ◌-◌, ◌^◌, ◌<◌, ◌≤◌, [], ◌∷◌, ◌++◌, length, List, Option, Some, None, IfSome, map, slice_set, take, drop, get_or, refl, sym, ap}
+use Rattle.std.proofs.Common.{ap₂, ◌∙◌, subst, inl, inr, arith, length-append, ext_get_or}
 use Rattle.std.proofs.lemmas.Bool.{cases_eq, cases_lt}
 use Rattle.std.proofs.Math.Seq.{drop-append_seam, take-add, take-append_seam}
-use Rattle.std.proofs.lemmas.List.{drop-drop, get_or_append_left, get_or-append-add, get_or_push, take_all, length-drop, length-map, length-replicate, take-append-le, drop-append-le, length-take-le}
+use Rattle.std.proofs.lemmas.List.{drop-drop, get_or_append_left, get_or-append-add, get_or_push, take_all, length-drop, length-map, take-append-le, drop-append-le, length-take-le}
 use Rattle.std.proofs.lemmas.List.{take-append-drop}
 use Rattle.offset_allocator.specs.Saving.State.{words_in}
 use Rattle.offset_allocator.proofs.{Saving.Restored.one_view, Saving.Bytes.same_bytes}
@@ -18,42 +18,7 @@ use Rattle.offset_heaps.specs.declared.index.Index.{Index}
 use Rattle.offset_heaps.specs.declared.restore.Header.{Header}
 use Rattle.offset_heaps.specs.{Heaps.Heaps, Heaps.IsOfKind, Heaps.slot, Maxima.cell, Soundness.IsNoted, Soundness.IsSound, Soundness.IsWide, State.quiet, State.state_form, State.state_version}
 use Rattle.offset_heaps.specs.State.{AreRead, AreStatesOf, IsAdmitted, IsHeader, IsHeapAdmitted, IsHeapAt, IsHeapFormed, IsHeapState, IsRestored, IsStateOf, IsWellFormed, SameHeaps, heaps_numbers}
-use Rattle.offset_heaps.proofs.{Numbers.slot_other, Numbers.slot_past, Numbers.slot_same, Places.shown, Sound.empty_cell}
-
--- before any number is noted, what is behind the last one is
-past_noted : (limits : Limits) (p k : ℕ) (slots : List (Option Guard)) (index : Index) → index.one.keys ≡ replicate p 0 → index.two.keys ≡ index.one.keys → index.spare.keys ≡ index.one.keys
-    → index.empty.keys ≡ index.one.keys → length slots ≡ limits.most + limits.most_larger → limits.most + limits.most_larger ≤ k → IsNoted limits slots index k
-past_noted limits p k slots index one two spare empty count past =
-    let zero_key : cell k index.one.keys ≡ 0 = ap (cell k) one ∙ empty_cell p k in
-    let none : slot k slots ≡ None = slot_past slots k (omega (arith, count, past)) in
-    let before : limits.most ≤ k = omega (arith, past) in
-    record {
-      one = rw none zero_key;
-      two = rw none (ap (cell k) two ∙ zero_key);
-      spare = rw (none, le-ltb k limits.most before, le-ltb k (limits.most + limits.most_larger) past) (ap (cell k) spare ∙ zero_key);
-      empty = rw none (ap (cell k) empty ∙ zero_key);
-    }
-
-pub started_at : (limits : Limits) (p : ℕ) (slots : List (Option Guard)) (index : Index) → length slots ≡ limits.most + limits.most_larger → limits.most + limits.most_larger ≤ p
-    → index.one.keys ≡ replicate p 0 → (index.two.keys ≡ index.one.keys) × (index.two.height ≡ index.one.height) → (index.spare.keys ≡ index.one.keys) × (index.spare.height ≡ index.one.height)
-    → (index.empty.keys ≡ index.one.keys) × (index.empty.height ≡ index.one.height)
-    → IsWide slots index × ((k : ℕ) → limits.most + limits.most_larger ≤ k → IsNoted limits slots index k)
-started_at limits p slots index count room one two spare empty =
-    let wide : length index.one.keys ≡ p = ap length one ∙ length-replicate {A = ℕ} p 0 in
-    let wide_two : length index.two.keys ≡ length index.one.keys = ap length two.0 in
-    let wide_spare : length index.spare.keys ≡ length index.one.keys = ap length spare.0 in
-    let wide_empty : length index.empty.keys ≡ length index.one.keys = ap length empty.0 in (
-      record {
-        one = omega (arith, wide, count, room);
-        two = omega (arith, wide, wide_two, count, room);
-        spare = omega (arith, wide, wide_spare, count, room);
-        empty = omega (arith, wide, wide_empty, count, room);
-        level_two = two.1;
-        level_spare = spare.1;
-        level_empty = empty.1;
-      },
-      λ k past. past_noted limits p k slots index one two.0 spare.0 empty.0 count past,
-    )
+use Rattle.offset_heaps.proofs.{Limited.quiet_limited, Limited.sound_all, Numbers.slot_other, Numbers.slot_past, Numbers.slot_same, Places.shown}
 
 -- the heaps of which no access was counted
 pub slot_quiet : (k : ℕ) (slots : List (Option Guard)) → slot k (map quiet slots) ≡ quiet (slot k slots)
@@ -74,31 +39,10 @@ put_more P slots n o l here before k below = elim (cases_eq k n) [
 ]
 
 -- copies are as sound
-realm_quiet : (made : ℕ) (o : Option Guard) → IfSome o (λ g. g.realm ≤ made) → IfSome (quiet o) (λ g. g.realm ≤ made)
-realm_quiet made None h = tt
-realm_quiet made (Some g) h = h
-
-kind_quiet : (limits : Limits) (k : ℕ) (o : Option Guard) → IfSome o (IsOfKind limits k) → IfSome (quiet o) (IsOfKind limits k)
-kind_quiet limits k None h = tt
-kind_quiet limits k (Some g) h = h
-
 pub copied_sound : (max : ℕ) (slots copies : List (Option Guard)) (limits : Limits) (made : ℕ) (old new : Index) → IsSound max slots limits made old → copies ≡ map quiet slots
     → IsWide copies new → ((k : ℕ) → IsNoted limits copies new k) → ((bits : ℕ) → length copies ≤ 2 ^ bits → new.one.height ≤ bits) → IsSound max copies limits made new
-copied_sound max slots copies limits made old new is same wide noted low =
-    let long : length copies ≡ length slots = ap length same ∙ length-map slots quiet in
-    record {
-      wide = wide;
-      noted = noted;
-      numbers = long ∙ is.numbers;
-      few = rw long is.few;
-      low = low;
-      limit_min = is.limit_min;
-      limit_max = is.limit_max;
-      limit_first = is.limit_first;
-      size_first = is.size_first;
-      realms = λ k. rw (same, slot_quiet k slots) (realm_quiet made (slot k slots) (is.realms k));
-      kinds = λ k. rw (same, slot_quiet k slots) (kind_quiet limits k (slot k slots) (is.kinds k));
-    }
+copied_sound max slots copies limits made old new is same wide noted low = sound_all max slots copies limits made old new is (ap length same ∙ length-map slots quiet) wide noted low
+    (λ k. rw (same, slot_quiet k slots) (quiet_limited (slot k slots)))
 
 -- the states of the first n heaps
 pub record ArePushed (n : ℕ) (slots : List (Option Guard)) (places bytes : List ℕ) : Type 0 where

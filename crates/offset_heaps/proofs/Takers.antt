@@ -2,7 +2,8 @@
 use Rattle.std.proofs.Common.{◌≡◌, ℕ, ◌%◌, ◌<◌, ◌≤◌, length, List, max, Option, Some, None, IfSome, IsSome, MatchOption, refl, sym, ap, ◌∙◌, subst, inl, inr, arith}
 use Rattle.std.proofs.lemmas.Bool.{cases_lt}
 use Rattle.offset_allocator.specs.Requests.{blocks_needed, units_needed}
-use Rattle.offset_guarded.specs.Guard.{Guard}
+use Rattle.offset_guarded.specs.Answers as tickets
+use Rattle.offset_guarded.specs.Guard.{Guard, Ticket}
 use Rattle.offset_heaps.specs.declared.limits.Limits.{Limits}
 use Rattle.offset_heaps.specs.Places.{Place, ticket_of}
 use Rattle.offset_heaps.specs.Heaps.{Heaps, Grants, IsSame, heap_at, live_units_of, part, range_in, room_of, slot, step_at, step_of}
@@ -12,7 +13,7 @@ use Rattle.offset_allocator.specs.Ranges.{Range}
 use Rattle.std.proofs.Math.Nat.{dvd_of_mod-eq-zero, dvd_trans}
 use Rattle.std.specs.Int.{◌∣◌, IsGcd}
 use Rattle.offset_heaps.specs.Relocating.{IsOwnAlign, TakesUnits, TakesRange, live_units_at, offset_in, offset_of, units_in, size_of}
-use Rattle.offset_heaps.proofs.{Grants.granted_since, Numbers.room_there, Numbers.slot_same, Places.same_realm}
+use Rattle.offset_heaps.proofs.{Grants.granted_since, Grants.now, Grants.step_joined, Numbers.room_there, Places.same_realm}
 
 -- before the first heap that has room, and behind the last number, none takes a range
 pub all_takers : (limits : Limits) (own size align live from count : ℕ) (slots : List (Option Guard)) (r : Option ℕ) → length slots ≡ count
@@ -58,7 +59,7 @@ own_here p hs d here own = subst (λ (o : Option Range). IfSome d (IsGcd (offset
 
 grants_since : (n align : ℕ) (hs ks ls : Heaps) (r : Option Granted) → IsSame hs ks → IfSome r (Grants n align ks ls) → IfSome r (Grants n align hs ls)
 grants_since n align hs ks ls None same g = tt
-grants_since n align hs ks ls (Some grant) same g = granted_since n align hs ks ls grant same g
+grants_since n align hs ks ls (Some grant) same g = granted_since (λ t g h. tickets.AllocatesAligned n align g h (Some t)) n align hs ks ls grant same g
 
 -- a count of accesses changes nothing of it
 pub relocates_since : (p : Place) (align : ℕ) (hs ks ls : Heaps) (r : Option Granted) → IsSame hs ks → Relocates p align ks ls r → Relocates p align hs ls r
@@ -78,5 +79,6 @@ pub relocated_aligned : (p : Place) (align : ℕ) (hs ls : Heaps) (n : ℕ) (r :
 relocated_aligned p align hs ls n None own begins g = tt
 relocated_aligned p align hs ls n (Some grant) own begins g = λ a d o.
     let divides : a ∣ align = own.2 a o d in
-    let now : heap_at grant.place.heap ls ≡ Some g.after = ap (λ (h : Heaps). slot grant.place.heap h.slots) g.heaps ∙ slot_same hs.slots grant.place.heap (Some g.after) g.number in
-    (dvd_trans a divides (dvd_of_mod-eq-zero align begins), subst (λ o. a ∣ part step_of o) (sym now) (dvd_trans a divides g.joined.second))
+    let Call : Ticket → Guard → Guard → Type 0 = λ t g h. tickets.AllocatesAligned n align g h (Some t) in
+    let here : heap_at grant.place.heap ls ≡ Some g.after = now Call n align (λ t g h a. a.request) hs ls grant g in
+    (dvd_trans a divides (dvd_of_mod-eq-zero align begins), subst (λ o. a ∣ part step_of o) (sym here) (dvd_trans a divides (step_joined Call n align (λ t g h a. a.request) hs ls grant g (λ t g h a. a.aligns))))

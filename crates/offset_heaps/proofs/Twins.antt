@@ -34,6 +34,10 @@ pub option_twin : {A : Type 0} (f : Option Guard → A) (o p : Option Guard) →
 option_twin f None p s t = ap f t
 option_twin f (Some g) p s t = ap f t.1 ∙ s g t.0 t.2
 
+pub in_twin : (P : Option Guard → Type 0) (o p : Option Guard) → ((g h : Guard) → IsTwin g h → P (Some g) → P (Some h)) → IsTwinIn o p → P o → P p
+in_twin P None p each t x = subst P (sym t) x
+in_twin P (Some g) p each t x = subst P (sym t.1) (each g t.0 t.2 x)
+
 twin_in_sym : (o p : Option Guard) → IsTwinIn o p → IsTwinIn p o
 twin_in_sym None p t = subst (λ p. IsTwinIn p None) (sym t) refl
 twin_in_sym (Some g) p t = subst (λ p. IsTwinIn p (Some g)) (sym t.1) (g, refl, twin_sym g t.0 t.2)

@@ -3,13 +3,15 @@ use Rattle.std.specs.Prelude.{◌≡◌, ℕ, ◌≤◌, ◌⊎◌, Option, None
 use Rattle.offset_allocator.specs.Requests.{blocks_needed, units_needed}
 use Rattle.offset_heaps.specs.declared.refusal.Refusal.{Refusal}
 use Rattle.offset_heaps.specs.declared.refusal.Refusal.TheVariants.{TooLarge, Full, Memory}
-use Rattle.offset_heaps.specs.Heaps.{Heaps, IsFirstFit, IsNext, IsUnmet, IsWhy, MayEverFit}
+use Rattle.offset_heaps.specs.Heaps.{Heaps, IsFirstFit, IsNext, IsUnmet, IsWhy, MayEverFit, NoneFits}
 
--- a request would be granted, if memory is given: some heap has room, or another may be made
+-- a request would be granted, if memory is given: some heap serves it, or another may be made
+abbrev pub IsServedBy : (Heaps → Type 0) → (ℕ → Heaps → Type 0) → ℕ → Heaps → Type 0
+IsServedBy NoneServes FirstServes size hs = (1 ≤ size) × (((k : ℕ) × FirstServes k hs) ⊎ (IsUnmet NoneServes size hs × ((k : ℕ) × IsNext size k hs)))
+
+-- where a heap serves it that has room
 abbrev pub IsServed : ℕ → ℕ → Heaps → Type 0
-IsServed size align hs = (1 ≤ size)
-    × (((k : ℕ) × IsFirstFit (blocks_needed align) (units_needed size align) k hs)
-    ⊎ (IsUnmet size align hs × ((k : ℕ) × IsNext size k hs)))
+IsServed size align hs = IsServedBy (NoneFits (blocks_needed align) (units_needed size align)) (IsFirstFit (blocks_needed align) (units_needed size align)) size hs
 
 -- it would be refused for this, even if memory is given
 abbrev pub IsRefusedFor : ℕ → ℕ → Heaps → Refusal → Type 0

@@ -5,44 +5,45 @@ use Rattle.offset_allocator.specs.Moving.Compacting.{Move}
 use Rattle.offset_allocator.specs.Requests.{blocks_needed, units_needed}
 use Rattle.offset_allocator.specs.declared.moves.room.RoomCost.{RoomCost}
 use Rattle.offset_guarded.specs.Answers as tickets
+use Rattle.offset_guarded.specs.Guard.{Guard, Ticket}
 use Rattle.offset_heaps.specs.Changing.{Alters, CompactsAll, IsCompactible, RetractsTo}
 use Rattle.offset_heaps.specs.Extending.{CanExtendIn, ExtendsHeap}
 use Rattle.offset_heaps.specs.declared.place.Granted.{Granted}
 use Rattle.offset_heaps.specs.declared.refusal.Refusal.{Refusal}
 use Rattle.offset_heaps.specs.declared.refusal.Refusal.TheVariants.{Empty, Memory}
-use Rattle.offset_heaps.specs.Heaps.{Heaps, FreesIn, Grants, IsFirstFit, IsLive, IsNext, IsSame, IsWhy, NoneFits, Puts, empties, heap_at, is_empty, step_at}
+use Rattle.offset_heaps.specs.Heaps.{Heaps, Grants, GrantsBy, IsFirstFit, IsLive, IsNext, IsSame, IsWhyBy, NoneFits, Puts, empties, heap_at, is_empty, step_at}
 use Rattle.offset_heaps.specs.Histories.{ResetsAll}
 use Rattle.offset_heaps.specs.Places.{Place, ticket_of}
 use Rattle.offset_heaps.specs.Relocating.{IsOwnAlign, IsTaker, NoneTakes, size_of}
 use Rattle.offset_heaps.specs.State.{IsWellFormed}
-use Rattle.offset_heaps.specs.Tight.{GrantsTight, IsFirstHolding, IsWhyTight, NoneHolds}
+use Rattle.offset_heaps.specs.Tight.{IsFirstHolding, NoneHolds}
 use Rattle.offset_heaps.specs.Twins.{AreTwins}
 
--- `allocate_aligned`, and with the alignment 1 `allocate`
-pub record Allocates (size align : ℕ) (hs ks : Heaps) (r : Result Granted Refusal) : Type 0 where
+-- a request, where one fact says that no heap serves it, and one that the heap of a number is the first that does, which then
+-- grants it by a call of tickets
+pub record AllocatesBy (NoneServes : Heaps → Type 0) (FirstServes : ℕ → Heaps → Type 0) (Call : Ticket → Guard → Guard → Type 0) (size align : ℕ) (hs ks : Heaps) (r : Result Granted Refusal) : Type 0 where
   pub empty : size ≡ 0 → r ≡ Err Empty
-  pub why : IfErr r (IsWhy size align hs)
+  pub why : IfErr r (IsWhyBy NoneServes FirstServes size align hs)
   pub same : OnErr r (IsSame hs ks)
-  pub found : IfOk r (λ g. g.is_new ≡ false → IsFirstFit (blocks_needed align) (units_needed size align) g.place.heap hs)
-  pub made : IfOk r (λ g. g.is_new ≡ true
-      → NoneFits (blocks_needed align) (units_needed size align) hs × IsNext size g.place.heap hs)
-  pub grants : IfOk r (Grants size align hs ks)
+  pub found : IfOk r (λ g. g.is_new ≡ false → FirstServes g.place.heap hs)
+  pub made : IfOk r (λ g. g.is_new ≡ true → NoneServes hs × IsNext size g.place.heap hs)
+  pub grants : IfOk r (GrantsBy Call size align hs ks)
+
+-- `allocate_aligned`, and with the alignment 1 `allocate`
+abbrev pub Allocates : ℕ → ℕ → Heaps → Heaps → Result Granted Refusal → Type 0
+Allocates size align hs ks r = AllocatesBy (NoneFits (blocks_needed align) (units_needed size align)) (IsFirstFit (blocks_needed align) (units_needed size align))
+    (λ t g h. tickets.AllocatesAligned size align g h (Some t)) size align hs ks r
 
 -- `allocate_tight_aligned`, and with the alignment 1 `allocate_tight`
-pub record AllocatesTight (size align : ℕ) (hs ks : Heaps) (r : Result Granted Refusal) : Type 0 where
-  pub empty : size ≡ 0 → r ≡ Err Empty
-  pub why : IfErr r (IsWhyTight size align hs)
-  pub same : OnErr r (IsSame hs ks)
-  pub found : IfOk r (λ g. g.is_new ≡ false → IsFirstHolding size align g.place.heap hs)
-  pub made : IfOk r (λ g. g.is_new ≡ true → NoneHolds size align hs × IsNext size g.place.heap hs)
-  pub fills : IfOk r (λ g. g.is_new ≡ false → GrantsTight size align hs ks g)
-  pub grants : IfOk r (λ g. g.is_new ≡ true → Grants size align hs ks g)
+abbrev pub AllocatesTight : ℕ → ℕ → Heaps → Heaps → Result Granted Refusal → Type 0
+AllocatesTight size align hs ks r =
+    AllocatesBy (NoneHolds size align) (IsFirstHolding size align) (λ t g h. tickets.AllocatesTightAligned size align g h (Some t)) size align hs ks r
 
 -- `free`
 pub record Frees (p : Place) (hs ks : Heaps) (r : Bool) : Type 0 where
   pub done : IsTrue r ↔ IsLive p hs
   pub same : r ≡ false → IsSame hs ks
-  pub step : r ≡ true → FreesIn p hs ks
+  pub step : r ≡ true → Alters p.heap (λ g h. tickets.Frees (ticket_of p) g h true) hs ks
 
 -- `relocate_aligned`
 pub record Relocates (p : Place) (align : ℕ) (hs ks : Heaps) (r : Option Granted) : Type 0 where

@@ -4,13 +4,12 @@ use Rattle.std.specs.Int.{◌∣◌}
 use Rattle.std.specs.Prelude.{slice_index_or, slice_set, max, min, sum, if◌then◌else◌}
 use Rattle.offset_allocator.specs.Classes.{value, down}
 use Rattle.offset_allocator.specs.Ranges.{Range}
-use Rattle.offset_allocator.specs.Relations.{Aligns, Frees, IsFresh}
+use Rattle.offset_allocator.specs.Relations.{IsFresh}
 use Rattle.offset_allocator.specs.Reporting.FreeSizes.{largest}
 use Rattle.offset_allocator.specs.Requests.{blocks_needed, units_needed}
-use Rattle.offset_allocator.specs.Tight.{AlignsTight}
-use Rattle.offset_allocator.specs.View.{bin_at, free_sizes, count_used, used_units}
-use Rattle.offset_guarded.specs.Guard.{Guard, Ticket, handle_in, last_serial}
-use Rattle.offset_guarded.specs.Step.{IsJoined}
+use Rattle.offset_allocator.specs.View.{free_sizes, count_used, used_units}
+use Rattle.offset_guarded.specs.Answers as tickets
+use Rattle.offset_guarded.specs.Guard.{Guard, Ticket, last_serial}
 use Rattle.offset_guarded.specs.Guard as guarded
 use Rattle.offset_heaps.specs.declared.place.Granted.{Granted}
 use Rattle.offset_heaps.specs.declared.limits.Limits.{Limits}
@@ -126,23 +125,29 @@ IsRaisedWhere Must limits g h = (Must g × guarded.IsRaised (raised_limit limits
 abbrev pub IsRaisedAsNeeded : Limits → ℕ → ℕ → Guard → Guard → Type 0
 IsRaisedAsNeeded limits k blocks g h = IsRaisedWhere (MustRaise limits k blocks) limits g h
 
--- no heap has room for a request of at least one unit
-abbrev pub IsUnmet : ℕ → ℕ → Heaps → Type 0
-IsUnmet size align hs = (1 ≤ size) × NoneFits (blocks_needed align) (units_needed size align) hs
-
 -- some heap may ever have that many units: a usual one, or a larger one, where there may be any
 abbrev pub MayEverFit : ℕ → Heaps → Type 0
 MayEverFit size hs = IsUsual size hs ⊎ (1 ≤ hs.limits.most_larger)
 
--- why a request is refused. Empty: it is for no unit. TooLarge: no heap has room, and none may ever be large enough. Full:
--- no heap has room, and though one may be large enough, none may be made for it now. Memory: none has room, and one may be
--- made; or the limit of the first one that has room has to be raised; but the memory for that was refused
+-- no heap serves a request of at least one unit
+abbrev pub IsUnmet : (Heaps → Type 0) → ℕ → Heaps → Type 0
+IsUnmet NoneServes size hs = (1 ≤ size) × NoneServes hs
+
+-- why a request is refused, where one fact says that no heap serves it, and one that the heap of a number is the first that
+-- does. Empty: it is for no unit. TooLarge: no heap serves it, and none may ever be large enough. Full: no heap serves it, and
+-- though one may be large enough, none may be made for it now. Memory: none serves it, and one may be made; or the limit of
+-- the first one that serves it has to be raised; but the memory for that was refused
+abbrev pub IsWhyBy : (Heaps → Type 0) → (ℕ → Heaps → Type 0) → ℕ → ℕ → Heaps → Refusal → Type 0
+IsWhyBy NoneServes FirstServes size align hs Empty = size ≡ 0
+IsWhyBy NoneServes FirstServes size align hs TooLarge = IsUnmet NoneServes size hs × (MayEverFit size hs → ⊥)
+IsWhyBy NoneServes FirstServes size align hs Full = IsUnmet NoneServes size hs × MayEverFit size hs × ((k : ℕ) → IsNext size k hs → ⊥)
+IsWhyBy NoneServes FirstServes size align hs Memory = (IsUnmet NoneServes size hs × ((k : ℕ) × IsNext size k hs))
+    ⊎ ((1 ≤ size) × ((k : ℕ) × FirstServes k hs × MustRaiseIn hs.limits k (blocks_needed align) (heap_at k hs)))
+
+-- a heap serves it that has room
 abbrev pub IsWhy : ℕ → ℕ → Heaps → Refusal → Type 0
-IsWhy size align hs Empty = size ≡ 0
-IsWhy size align hs TooLarge = IsUnmet size align hs × (MayEverFit size hs → ⊥)
-IsWhy size align hs Full = IsUnmet size align hs × MayEverFit size hs × ((k : ℕ) → IsNext size k hs → ⊥)
-IsWhy size align hs Memory = (IsUnmet size align hs × ((k : ℕ) × IsNext size k hs))
-    ⊎ ((1 ≤ size) × ((k : ℕ) × IsFirstFit (blocks_needed align) (units_needed size align) k hs × MustRaiseIn hs.limits k (blocks_needed align) (heap_at k hs)))
+IsWhy size align hs r =
+    IsWhyBy (NoneFits (blocks_needed align) (units_needed size align)) (IsFirstFit (blocks_needed align) (units_needed size align)) size align hs r
 
 -- a refusal for room
 abbrev pub IsForRoom : Result Granted Refusal → Type 0
@@ -183,35 +188,40 @@ abbrev pub IsOfKind : Limits → ℕ → Guard → Type 0
 IsOfKind limits k g = ((k < limits.most) × (usual_size limits k ≤ g.space.size) × HasUsualLimit limits g)
     ⊎ ((limits.most ≤ k) × (1 ≤ g.space.size) × (g.space.max_allocs ≡ larger_limit))
 
--- the heap of a grant, as it was before: one that was there, raised as needed; a new usual one of its number, or one of
--- the request's own size
-abbrev pub IsBefore : ℕ → ℕ → Heaps → Granted → Guard → Type 0
-IsBefore size align hs grant g = ((grant.is_new ≡ false)
-    × ((was : Guard) × (heap_at grant.place.heap hs ≡ Some was) × IsRaisedAsNeeded hs.limits grant.place.heap (blocks_needed align) was g))
-    ⊎ ((grant.is_new ≡ true) × (heap_at grant.place.heap hs ≡ None)
-    × ((IsUsual size hs × IsNew (usual_size hs.limits grant.place.heap) hs.limits.first_allocs (hs.made + 1) g)
-    ⊎ ((IsUsual size hs → ⊥) × IsNew size larger_limit (hs.made + 1) g)))
-
 -- the ticket of a grant in its heap
 abbrev pub ticket_in : Granted → Ticket
 ticket_in grant = ticket_from grant.offset grant.place
 
--- a grant: a step of one heap, which all others do not see
-pub record Grants (size align : ℕ) (hs ks : Heaps) (grant : Granted) : Type 0 where
+-- a heap that was there is raised as needed, and a call of tickets is answered
+pub record GrantsOld (Call : Guard → Guard → Type 0) (limits : Limits) (k blocks : ℕ) (old : Option Guard) (after : Guard) : Type 0 where
+  pub was : Guard
   pub before : Guard
+  pub heap : old ≡ Some was
+  pub raised : IsRaisedAsNeeded limits k blocks was before
+  pub by : Call before after
+
+-- a call of tickets is answered, and the step takes an alignment in
+abbrev pub Joins : (Guard → Guard → Type 0) → ℕ → Guard → Guard → Type 0
+Joins Call align g h = (m : Guard) × Call g m × tickets.RaisesStep align m h
+
+-- so in a heap that was just made
+pub record GrantsNew (Call : Guard → Guard → Type 0) (size max_allocs made align : ℕ) (after : Guard) : Type 0 where
+  pub before : Guard
+  pub new : IsNew size max_allocs made before
+  pub by : Joins Call align before after
+
+-- a grant by a call of tickets in one heap, which all others do not see: in one that was there; or in a usual one that is made
+-- for it, where its range begins at 0, a multiple of every alignment, so none is asked of it; or in one of the request's own
+-- size, of which it has all
+pub record GrantsBy (Call : Ticket → Guard → Guard → Type 0) (size align : ℕ) (hs ks : Heaps) (grant : Granted) : Type 0 where
   pub after : Guard
-  pub heap : IsBefore size align hs grant before
-  -- a new one begins at 0, a multiple of every alignment, so none is asked of it; one of the request's own size grants
-  -- all of it
-  pub step : ((grant.is_new ≡ true → IsUsual size hs)
-      × Aligns size (if grant.is_new then 1 else align) before.space after.space (Some (handle_in (ticket_in grant)))
-      × (after.space.accesses ≤ before.space.accesses + 128))
-      ⊎ ((grant.is_new ≡ true) × (IsUsual size hs → ⊥)
-      × AlignsTight size 1 before.space after.space (Some (handle_in (ticket_in grant)))
-      × (after.space.accesses ≤ before.space.accesses + 140 + 6 * length (bin_at before.space.bins (down size))))
-  pub grants : guarded.Grants size before after (ticket_in grant)
-  -- the step of the heap takes the alignment in, of a new one too
-  pub joined : IsJoined before.step align after.step
+  pub step : ((grant.is_new ≡ false)
+      × GrantsOld (Call (ticket_in grant)) hs.limits grant.place.heap (blocks_needed align) (heap_at grant.place.heap hs) after)
+      ⊎ ((grant.is_new ≡ true) × (heap_at grant.place.heap hs ≡ None)
+      × ((IsUsual size hs × GrantsNew (λ g h. tickets.AllocatesAligned size 1 g h (Some (ticket_in grant)))
+      (usual_size hs.limits grant.place.heap) hs.limits.first_allocs (hs.made + 1) align after)
+      ⊎ ((IsUsual size hs → ⊥) × GrantsNew (λ g h. tickets.AllocatesTight size g h (Some (ticket_in grant)))
+      size larger_limit (hs.made + 1) align after)))
   pub realm : grant.place.realm ≡ hs.realm
   pub number : grant.place.heap < length hs.slots
   pub heaps : ks ≡ record hs {
@@ -219,6 +229,10 @@ pub record Grants (size align : ℕ) (hs ks : Heaps) (grant : Granted) : Type 0 
     made = (if grant.is_new then hs.made + 1 else hs.made);
     accesses = ks.accesses;
   }
+
+-- of a heap that was there, as `allocate_aligned` of tickets grants
+abbrev pub Grants : ℕ → ℕ → Heaps → Heaps → Granted → Type 0
+Grants size align hs ks grant = GrantsBy (λ t g h. tickets.AllocatesAligned size align g h (Some t)) size align hs ks grant
 
 -- the text of a reason
 abbrev pub refusal_words : Refusal → List ℕ
@@ -267,18 +281,6 @@ Puts k o hs ks = ks ≡ record hs { slots = slice_set hs.slots k o; accesses = k
 -- a heap that was made gets a number
 abbrev pub Adds : ℕ → Option Guard → Heaps → Heaps → Type 0
 Adds k o hs ks = ks ≡ record hs { slots = slice_set hs.slots k o; made = hs.made + 1; accesses = ks.accesses }
-
--- the range of a place is freed: a step of its heap
-pub record FreesIn (p : Place) (hs ks : Heaps) : Type 0 where
-  pub before : Guard
-  pub after : Guard
-  pub heap : heap_at p.heap hs ≡ Some before
-  pub step : Frees p.name before.space after.space
-  pub gone : guarded.range_of (ticket_of p) after ≡ None
-  pub others : guarded.KeepsOthers (ticket_of p) before after
-  pub serials : after ≡ record before { space = after.space }
-  pub accesses : after.space.accesses ≤ before.space.accesses + 128
-  pub heaps : Puts p.heap (Some after) hs ks
 
 -- whether a heap has no live range, not even one of no units
 abbrev pub is_empty : Option Guard → Bool

@@ -1,12 +1,12 @@
 -- Which numbers have heaps, and the live places of all heaps, one after another.
-use Rattle.std.specs.Prelude.{◌≡◌, ℕ, ◌+◌, ◌<◌, ◌≤◌, Bool, ◌&&◌, List, [], ◌∷◌, ◌++◌, Option, None, Some, IsSome, drop, is_some, map, nat_eq, option_map}
+use Rattle.std.specs.Prelude.{◌≡◌, ℕ, ◌+◌, ◌<◌, ◌≤◌, Bool, ◌&&◌, List, [], ◌∷◌, ◌++◌, Option, None, Some, IsSome, drop, is_some, map, nat_eq}
 use Rattle.std.specs.Option.{option_or}
 use Rattle.offset_allocator.specs.Reporting.Walking.{first_live, live_after, live_handles}
 use Rattle.offset_allocator.specs.View.{one, tally}
 use Rattle.offset_guarded.specs.Guard.{Guard, Ticket}
 use Rattle.offset_heaps.specs.Heaps.{Heaps, heap_at, range_of, slot}
 use Rattle.offset_heaps.specs.Places.{Place, ticket_of}
-use Rattle.offset_heaps.specs.Relocating.{place_in}
+use Rattle.offset_heaps.specs.Relocating.{found_in, place_in}
 
 -- from a number on, no other has a heap
 abbrev pub NoHeapFrom : ℕ → List (Option Guard) → Type 0
@@ -20,13 +20,11 @@ pub record IsHeapFrom (n : ℕ) (slots : List (Option Guard)) (k : ℕ) : Type 0
 
 -- the place of the live range that is the first one in its heap
 abbrev pub first_live_in : ℕ → ℕ → Option Guard → Option Place
-first_live_in k realm None = None
-first_live_in k realm (Some g) = option_map (place_in k realm g) (first_live g.space)
+first_live_in k realm o = found_in first_live k realm o
 
 -- the place of the live range directly after that of a ticket in its heap
 abbrev pub live_after_in : ℕ → ℕ → Ticket → Option Guard → Option Place
-live_after_in k realm t None = None
-live_after_in k realm t (Some g) = option_map (place_in k realm g) (live_after t.name g.space)
+live_after_in k realm t o = found_in (live_after t.name) k realm o
 
 -- the first live place of these heaps, whose numbers are k and those after it
 abbrev pub first_among : ℕ → ℕ → List (Option Guard) → Option Place

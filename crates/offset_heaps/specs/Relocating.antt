@@ -4,7 +4,7 @@ use Rattle.std.specs.Int.{IsGcd}
 use Rattle.offset_allocator.specs.Reporting.Walking.{last_live, live_before}
 use Rattle.offset_allocator.specs.Ranges.{Range}
 use Rattle.offset_allocator.specs.Requests.{blocks_needed, units_needed}
-use Rattle.offset_allocator.specs.View.{Handle, count_used}
+use Rattle.offset_allocator.specs.View.{Handle, View, count_used}
 use Rattle.offset_guarded.specs.Guard.{Guard, Ticket, ticket_at}
 use Rattle.offset_heaps.specs.declared.limits.Limits.{Limits}
 use Rattle.offset_heaps.specs.Heaps.{Heaps, IsLive, MustRaiseIn, heap_at, live_units_of, numbers, part, range_of, room_of, slot, step_at, total}
@@ -105,12 +105,15 @@ NoneLive n slots = (k : ℕ) → k < n → HasLive (slot k slots) → ⊥
 abbrev pub place_in : ℕ → ℕ → Guard → Handle → Place
 place_in k realm g h = place_of k realm (ticket_at h g)
 
+-- the place of the live range that is found in the space of a heap, where there is one
+abbrev pub found_in : (View → Option Handle) → ℕ → ℕ → Option Guard → Option Place
+found_in find k realm None = None
+found_in find k realm (Some g) = option_map (place_in k realm g) (find g.space)
+
 -- the place of the live range that is the last one in its heap
 abbrev pub last_live_in : ℕ → ℕ → Option Guard → Option Place
-last_live_in k realm None = None
-last_live_in k realm (Some g) = option_map (place_in k realm g) (last_live g.space)
+last_live_in k realm o = found_in last_live k realm o
 
 -- the place of the live range directly before that of a ticket in its heap
 abbrev pub live_before_in : ℕ → ℕ → Ticket → Option Guard → Option Place
-live_before_in k realm t None = None
-live_before_in k realm t (Some g) = option_map (place_in k realm g) (live_before t.name g.space)
+live_before_in k realm t o = found_in (live_before t.name) k realm o

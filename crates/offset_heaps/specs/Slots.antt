@@ -1,29 +1,14 @@
 -- What a call leaves of the heap of one number.
-use Rattle.std.specs.Prelude.{◌≡◌, ℕ, ◌+◌, ◌*◌, ◌%◌, ◌<◌, ◌≤◌, ◌⊎◌, List, Option, Some, None, length, nat_lt, slice_set, if◌then◌else◌}
-use Rattle.offset_allocator.specs.Classes.{down}
-use Rattle.offset_allocator.specs.Relations.{Aligns, Frees}
+use Rattle.std.specs.Prelude.{◌≡◌, ℕ, ◌+◌, ◌<◌, ◌≤◌, ◌⊎◌, List, Option, Some, None, length, nat_lt, slice_set, if◌then◌else◌}
 use Rattle.offset_allocator.specs.Reporting.FreeSizes.{largest}
 use Rattle.offset_allocator.specs.Requests.{AdmitsBlocks, blocks_needed}
-use Rattle.offset_allocator.specs.Tight.{AlignsTight, CanHold, HasBlockFor, listed_from}
-use Rattle.offset_allocator.specs.View.{bin_at, free_sizes}
-use Rattle.offset_guarded.specs.Guard.{Guard, HasSerialLeft, Ticket, handle_in}
+use Rattle.offset_allocator.specs.Tight.{CanHold, HasBlockFor}
+use Rattle.offset_allocator.specs.View.{free_sizes}
+use Rattle.offset_guarded.specs.Guard.{Guard, HasSerialLeft, Ticket}
 use Rattle.offset_guarded.specs.Guard as guarded
 use Rattle.offset_guarded.specs.Answers as tickets
-use Rattle.offset_guarded.specs.Step.{IsJoined}
 use Rattle.offset_heaps.specs.declared.limits.Limits.{Limits}
 use Rattle.offset_heaps.specs.Heaps.{IsRaisedAsNeeded, slot, range_in, top_limit}
-
--- a heap grants a request, and its step takes an alignment in
-pub record GrantsIn (size align taken : ℕ) (old new : Option Guard) (t : Ticket) : Type 0 where
-  pub before : Guard
-  pub after : Guard
-  pub was : old ≡ Some before
-  pub is : new ≡ Some after
-  pub step : Aligns size align before.space after.space (Some (handle_in t))
-  pub grants : guarded.Grants size before after t
-  pub joined : IsJoined before.step taken after.step
-  pub accesses : after.space.accesses ≤ before.space.accesses + 128
-  pub aligned : t.offset % align ≡ 0
 
 -- a heap has room for the units and the blocks that a grant may add, under the node limit that it has
 abbrev pub HasRoomNow : ℕ → ℕ → Option Guard → Type 0
@@ -46,44 +31,9 @@ abbrev pub CanHoldNow : ℕ → ℕ → Option Guard → Type 0
 CanHoldNow size align None = ⊥
 CanHoldNow size align (Some g) = HasSerialLeft g × CanHold size align g.space
 
--- such a block is granted, and the step takes an alignment in
-pub record GrantsTightIn (size taken : ℕ) (old new : Option Guard) (t : Ticket) : Type 0 where
-  pub before : Guard
-  pub after : Guard
-  pub was : old ≡ Some before
-  pub is : new ≡ Some after
-  pub step : AlignsTight size 1 before.space after.space (Some (handle_in t))
-  pub grants : guarded.Grants size before after t
-  pub joined : IsJoined before.step taken after.step
-  pub accesses : after.space.accesses ≤ before.space.accesses + 140 + 6 * length (bin_at before.space.bins (down size))
-
--- such a block is granted at a multiple of align
-pub record GrantsTightAlignedIn (size align : ℕ) (old new : Option Guard) (t : Ticket) : Type 0 where
-  pub before : Guard
-  pub after : Guard
-  pub was : old ≡ Some before
-  pub is : new ≡ Some after
-  pub step : AlignsTight size align before.space after.space (Some (handle_in t))
-  pub grants : guarded.Grants size before after t
-  pub joined : IsJoined before.step align after.step
-  pub accesses : after.space.accesses ≤ before.space.accesses + 140 + 6 * length (listed_from (down size) before.space.bins)
-  pub aligned : t.offset % align ≡ 0
-
 -- every other ticket has the range that it had
 abbrev pub KeepsOthersIn : Ticket → Option Guard → Option Guard → Type 0
 KeepsOthersIn t old new = (u : Ticket) → (guarded.AreAlike u t → ⊥) → range_in u new ≡ range_in u old
-
--- the range of a ticket is freed
-pub record FreesSlot (t : Ticket) (old new : Option Guard) : Type 0 where
-  pub before : Guard
-  pub after : Guard
-  pub was : old ≡ Some before
-  pub is : new ≡ Some after
-  pub step : Frees t.name before.space after.space
-  pub gone : guarded.range_of t after ≡ None
-  pub others : guarded.KeepsOthers t before after
-  pub serials : after ≡ record before { space = after.space }
-  pub accesses : after.space.accesses ≤ before.space.accesses + 128
 
 -- the space is one free block again, and the step is 1
 abbrev pub ResetsIn : Option Guard → Option Guard → Type 0

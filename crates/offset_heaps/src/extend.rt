@@ -5,7 +5,7 @@ ghost use Rattle.offset_heaps.specs.Extending.{CanExtendIn, ExtendsHeap, MustExt
 ghost use Rattle.offset_heaps.specs.Heaps.{units_of_heap};
 ghost use Rattle.offset_heaps.specs.Twins.{AreTwins};
 
-use crate::HeapsOf;
+use crate::{HeapsOf, heap};
 use offset_allocator::Tables;
 use std::alloc::AllocError;
 
@@ -54,9 +54,13 @@ impl<T: Tables> HeapsOf<T> {
         if !self.slots.has(number, &mut self.accesses) {
             return Ok(false);
         }
-        let done = self
-            .slots
-            .extend(self.alloc, number, self.limits, more, &mut self.accesses)?;
+        let done = heap::extend_heap(
+            self.alloc,
+            self.slots.heap_mut(number, &mut self.accesses),
+            number,
+            self.limits,
+            more,
+        )?;
         self.index
             .note(&self.slots, number, self.limits, &mut self.accesses);
         Ok(done)

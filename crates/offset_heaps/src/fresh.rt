@@ -1,9 +1,9 @@
 //! Heaps that are made for a request, which they grant at once, and whose alignment their step takes in. It touches
 //! nothing else.
 ghost use Rattle.std.specs.Prelude.{◌≡◌, ◌+◌, ◌<◌, ◌≤◌, IfOk, Some};
+ghost use Rattle.offset_guarded.specs.Answers as tickets;
 ghost use Rattle.offset_guarded.specs.Guard.{Guard};
-ghost use Rattle.offset_heaps.specs.Heaps.{IsNew, larger_limit, usual_room, usual_size};
-ghost use Rattle.offset_heaps.specs.Slots.{GrantsIn, GrantsTightIn};
+ghost use Rattle.offset_heaps.specs.Heaps.{GrantsNew, larger_limit, usual_room, usual_size};
 
 use crate::heap;
 use crate::limits::{Limits, usual_size};
@@ -28,8 +28,9 @@ pub(crate) fn usual<T: Tables>(
     requires limit_max { limits.first_allocs + 1 < T.Index.MAX }
     requires some { 1 ≤ size }
     requires fits { size ≤ usual_room limits number }
-    ensures grants { IfOk result (λ r. (g : Guard)
-        × IsNew (usual_size limits number) limits.first_allocs realm g × GrantsIn size 1 align (Some g) r.0 r.1) }
+    ensures grants { IfOk result (λ r. (h : Guard) × (r.0 ≡ Some h)
+        × GrantsNew (λ g h. tickets.AllocatesAligned size 1 g h (Some r.1))
+        (usual_size limits number) limits.first_allocs realm align h) }
     ensures start { IfOk result (λ r. r.1.offset ≡ 0) }
 {
     let mut slot = Some(GuardedOf::with_realm(
@@ -51,8 +52,8 @@ pub(crate) fn larger<T: Tables>(
 ) -> Result<(Option<GuardedOf<T>>, Ticket), AllocError>
     requires alignment { 1 ≤ align }
     requires limit { 5 < T.Index.MAX }
-    ensures grants { IfOk result (λ r. (g : Guard) × IsNew size larger_limit realm g
-        × GrantsTightIn size align (Some g) r.0 r.1) }
+    ensures grants { IfOk result (λ r. (h : Guard) × (r.0 ≡ Some h)
+        × GrantsNew (λ g h. tickets.AllocatesTight size g h (Some r.1)) size larger_limit realm align h) }
     ensures start { IfOk result (λ r. r.1.offset ≡ 0) }
 {
     let mut slot = Some(GuardedOf::with_realm(alloc, size, LARGER_LIMIT, realm)?);

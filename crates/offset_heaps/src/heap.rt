@@ -7,15 +7,15 @@ ghost use Rattle.std.specs.List.{FoldsTo};
 ghost use Rattle.offset_allocator.specs.Moving.Compacting.{IsCalledWith};
 ghost use Rattle.offset_allocator.specs.Requests.{blocks_needed, units_needed};
 ghost use Rattle.offset_allocator.specs.View.{IsWellFormed};
+ghost use Rattle.offset_guarded.specs.Answers as tickets;
 ghost use Rattle.offset_guarded.specs.Guard.{HasSerialLeft, IsLive, IsRaised, range_of};
 ghost use Rattle.offset_heaps.specs.Changing.{AltersIn, CompactsIn, CompactsSlot, IsCalledAt, IsCompactible};
 ghost use Rattle.offset_heaps.specs.Changing.{can_compact, moves_in, numbered};
 ghost use Rattle.offset_heaps.specs.Extending.{CanExtendIn, EndsFree, ExtendsIf, MustExtend, MustExtendIn};
-ghost use Rattle.offset_heaps.specs.Heaps.{IsOfKind, IsRaisedAsNeeded, IsRaisedWhere, MustRaise, MustRaiseIn};
+ghost use Rattle.offset_heaps.specs.Heaps.{IsOfKind, IsRaisedAsNeeded, IsRaisedWhere, Joins, MustRaise, MustRaiseIn};
 ghost use Rattle.offset_heaps.specs.Heaps.{is_empty, raised_limit, range_in, room, room_of, slot, top_limit};
 ghost use Rattle.offset_heaps.specs.Relocating.{offset_in};
-ghost use Rattle.offset_heaps.specs.Slots.{CanHoldIn, CanHoldNow, FreesSlot, GrantsIn, GrantsTightAlignedIn};
-ghost use Rattle.offset_heaps.specs.Slots.{GrantsTightIn, HasRoomNow, KeepsOthersIn, RaisesIn, ResetsIn};
+ghost use Rattle.offset_heaps.specs.Slots.{CanHoldIn, CanHoldNow, HasRoomNow, RaisesIn, ResetsIn};
 
 use crate::limits::Limits;
 use offset_allocator::laws::{is_well_formed, unused_nodes};
@@ -174,7 +174,7 @@ pub(crate) fn raise_in<T: Tables>(
 pub(crate) fn grant_in<T: Tables>(slot: &mut Option<GuardedOf<T>>, size: u32, align: u32) -> Ticket
     requires alignment { 1 ≤ align }
     requires room { HasRoomNow (blocks_needed align) (max 1 (units_needed size align)) slot.old }
-    ensures { GrantsIn size align align slot.old slot.new result }
+    ensures { AltersIn (λ g h. tickets.AllocatesAligned size align g h (Some result)) slot.old slot.new }
 {
     match slot {
         Some(heap) => {
@@ -197,7 +197,7 @@ pub(crate) fn grant_first_in<T: Tables>(
 ) -> Ticket
     requires alignment { 1 ≤ align }
     requires room { HasRoomNow 1 (max 1 (units_needed size 1)) slot.old }
-    ensures { GrantsIn size 1 align slot.old slot.new result }
+    ensures { AltersIn (Joins (λ g h. tickets.AllocatesAligned size 1 g h (Some result)) align) slot.old slot.new }
 {
     match slot {
         Some(heap) => {
@@ -222,7 +222,7 @@ pub(crate) fn grant_tight_in<T: Tables>(
 ) -> Ticket
     requires alignment { 1 ≤ align }
     requires holds { CanHoldNow size 1 slot.old }
-    ensures { GrantsTightIn size align slot.old slot.new result }
+    ensures { AltersIn (Joins (λ g h. tickets.AllocatesTight size g h (Some result)) align) slot.old slot.new }
 {
     match slot {
         Some(heap) => match heap.allocate_tight(size) {
@@ -244,7 +244,7 @@ pub(crate) fn grant_tight_aligned_in<T: Tables>(
 ) -> Ticket
     requires alignment { 1 ≤ align }
     requires holds { CanHoldNow size align slot.old }
-    ensures { GrantsTightAlignedIn size align slot.old slot.new result }
+    ensures { AltersIn (λ g h. tickets.AllocatesTightAligned size align g h (Some result)) slot.old slot.new }
 {
     match slot {
         Some(heap) => match heap.allocate_tight_aligned(size, align) {
@@ -280,10 +280,8 @@ pub(crate) fn holds<T: Tables>(
 /// Frees the range of a ticket, where it is live.
 pub(crate) fn free_in<T: Tables>(slot: &mut Option<GuardedOf<T>>, ticket: Ticket) -> bool
     ensures done { IsTrue result ↔ IsSome (range_in ticket slot.old) }
-    ensures gone { range_in ticket slot.new ≡ None }
-    ensures others { KeepsOthersIn ticket slot.old slot.new }
     ensures same { result ≡ false → slot.new ≡ slot.old }
-    ensures step { result ≡ true → FreesSlot ticket slot.old slot.new }
+    ensures step { result ≡ true → AltersIn (λ g h. tickets.Frees ticket g h true) slot.old slot.new }
 {
     match slot {
         Some(heap) => heap.free(ticket),
@@ -342,8 +340,9 @@ fn raise_for<T: Tables>(
     Ok(())
 }
 
-// Adds units at the end of a heap, whose node limit is raised first where they need that.
-fn extend_heap<T: Tables>(
+/// Adds units at the end of the heap of a number, whose node limit is raised first where they need that, and returns whether
+/// it did.
+pub(crate) fn extend_heap<T: Tables>(
     alloc: Global,
     heap: &mut GuardedOf<T>,
     number: u32,
@@ -364,29 +363,6 @@ fn extend_heap<T: Tables>(
     is_well_formed(heap.allocator());
     raise_for(alloc, heap, number, limits, more)?;
     Ok(heap.extend(more))
-}
-
-/// Adds units at the end of the heap of a number, as the function before.
-pub(crate) fn extend_in<T: Tables>(
-    alloc: Global,
-    slot: &mut Option<GuardedOf<T>>,
-    number: u32,
-    limits: Limits,
-    more: u32,
-) -> Result<bool, AllocError>
-    requires there { IsSome slot.old }
-    requires limit_max { limits.max_allocs + 1 < T.Index.MAX }
-    requires kind { IfSome slot.old (IsOfKind limits number) }
-    ensures done { IfOk result (λ done. IsTrue done ↔ CanExtendIn limits number more slot.old) }
-    ensures change { IfOk result (λ done. AltersIn (ExtendsIf limits number more done) slot.old slot.new) }
-    ensures must { IsErr result → MustExtendIn limits number more slot.old
-        × CanExtendIn limits number more slot.old }
-    ensures same { IsErr result → slot.new ≡ slot.old }
-{
-    match slot {
-        Some(heap) => extend_heap(alloc, heap, number, limits, more),
-        None => unreachable!(),
-    }
 }
 
 // Slides live ranges of a heap to the front of its space by its step, and returns whether it was done.

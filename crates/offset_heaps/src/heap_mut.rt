@@ -107,6 +107,19 @@ fn retract_to<T: Tables>(heap: &mut GuardedOf<T>, least: u32, less: u32) -> bool
     heap.retract(less)
 }
 
+// A call of tickets on the heap, which is noted in the index; its result.
+macro_rules! in_heap {
+    ($of:ident.$call:ident($($argument:expr),*)) => {{
+        let heaps = &mut *$of.heaps;
+        let result = heaps
+            .slots
+            .heap_mut($of.number, &mut heaps.accesses)
+            .$call($($argument),*);
+        heaps.index.note(&heaps.slots, $of.number, heaps.limits, &mut heaps.accesses);
+        result
+    }};
+}
+
 impl<T: Tables> HeapMut<'_, T> {
     /// The number of the heap.
     ///
@@ -148,13 +161,7 @@ impl<T: Tables> HeapMut<'_, T> {
             self.old.heaps.now self.new.heaps.now }
         ensures accesses { TakesFewAccesses self.old.heaps.now self.new.heaps.now }
     {
-        let heaps = &mut *self.heaps;
-        let result = heaps
-            .slots
-            .heap_mut(self.number, &mut heaps.accesses)
-            .allocate(size);
-        heaps.index.note(&heaps.slots, self.number, heaps.limits, &mut heaps.accesses);
-        result
+        in_heap!(self.allocate(size))
     }
 
     /// As `GuardedOf::allocate_aligned` in this heap, at an alignment from 1 on, which is taken into the step of the heap.
@@ -171,13 +178,7 @@ impl<T: Tables> HeapMut<'_, T> {
             self.old.heaps.now self.new.heaps.now }
         ensures accesses { TakesFewAccesses self.old.heaps.now self.new.heaps.now }
     {
-        let heaps = &mut *self.heaps;
-        let result = heaps
-            .slots
-            .heap_mut(self.number, &mut heaps.accesses)
-            .allocate_aligned(size, align);
-        heaps.index.note(&heaps.slots, self.number, heaps.limits, &mut heaps.accesses);
-        result
+        in_heap!(self.allocate_aligned(size, align))
     }
 
     /// As `GuardedOf::free` in this heap.
@@ -194,13 +195,7 @@ impl<T: Tables> HeapMut<'_, T> {
             self.old.heaps.now self.new.heaps.now }
         ensures accesses { TakesFewAccesses self.old.heaps.now self.new.heaps.now }
     {
-        let heaps = &mut *self.heaps;
-        let result = heaps
-            .slots
-            .heap_mut(self.number, &mut heaps.accesses)
-            .free(ticket);
-        heaps.index.note(&heaps.slots, self.number, heaps.limits, &mut heaps.accesses);
-        result
+        in_heap!(self.free(ticket))
     }
 
     /// As `GuardedOf::allocate_tight` in this heap.
@@ -216,13 +211,7 @@ impl<T: Tables> HeapMut<'_, T> {
             self.old.heaps.now self.new.heaps.now }
         ensures accesses { TakesFewAccesses self.old.heaps.now self.new.heaps.now }
     {
-        let heaps = &mut *self.heaps;
-        let result = heaps
-            .slots
-            .heap_mut(self.number, &mut heaps.accesses)
-            .allocate_tight(size);
-        heaps.index.note(&heaps.slots, self.number, heaps.limits, &mut heaps.accesses);
-        result
+        in_heap!(self.allocate_tight(size))
     }
 
     /// As `GuardedOf::allocate_tight_aligned` in this heap, at an alignment from 1 on, which is taken into the step of the heap.
@@ -239,13 +228,7 @@ impl<T: Tables> HeapMut<'_, T> {
             self.old.heaps.now self.new.heaps.now }
         ensures accesses { TakesFewAccesses self.old.heaps.now self.new.heaps.now }
     {
-        let heaps = &mut *self.heaps;
-        let result = heaps
-            .slots
-            .heap_mut(self.number, &mut heaps.accesses)
-            .allocate_tight_aligned(size, align);
-        heaps.index.note(&heaps.slots, self.number, heaps.limits, &mut heaps.accesses);
-        result
+        in_heap!(self.allocate_tight_aligned(size, align))
     }
 
     /// As `GuardedOf::allocate_at` in this heap: the units from an offset on, where they are free.
@@ -261,13 +244,7 @@ impl<T: Tables> HeapMut<'_, T> {
             self.old.heaps.now self.new.heaps.now }
         ensures accesses { TakesFewAccesses self.old.heaps.now self.new.heaps.now }
     {
-        let heaps = &mut *self.heaps;
-        let result = heaps
-            .slots
-            .heap_mut(self.number, &mut heaps.accesses)
-            .allocate_at(offset, size);
-        heaps.index.note(&heaps.slots, self.number, heaps.limits, &mut heaps.accesses);
-        result
+        in_heap!(self.allocate_at(offset, size))
     }
 
     /// As `GuardedOf::shrink` in this heap.
@@ -283,13 +260,7 @@ impl<T: Tables> HeapMut<'_, T> {
             self.old.heaps.now self.new.heaps.now }
         ensures accesses { TakesFewAccesses self.old.heaps.now self.new.heaps.now }
     {
-        let heaps = &mut *self.heaps;
-        let result = heaps
-            .slots
-            .heap_mut(self.number, &mut heaps.accesses)
-            .shrink(ticket, size);
-        heaps.index.note(&heaps.slots, self.number, heaps.limits, &mut heaps.accesses);
-        result
+        in_heap!(self.shrink(ticket, size))
     }
 
     /// As `GuardedOf::grow_in_place` in this heap.
@@ -305,13 +276,7 @@ impl<T: Tables> HeapMut<'_, T> {
             self.old.heaps.now self.new.heaps.now }
         ensures accesses { TakesFewAccesses self.old.heaps.now self.new.heaps.now }
     {
-        let heaps = &mut *self.heaps;
-        let result = heaps
-            .slots
-            .heap_mut(self.number, &mut heaps.accesses)
-            .grow_in_place(ticket, size);
-        heaps.index.note(&heaps.slots, self.number, heaps.limits, &mut heaps.accesses);
-        result
+        in_heap!(self.grow_in_place(ticket, size))
     }
 
     /// As `GuardedOf::relocate` in this heap: a second range before the first one, which keeps every alignment. `relocate` of
@@ -330,13 +295,7 @@ impl<T: Tables> HeapMut<'_, T> {
             self.old.heaps.now self.new.heaps.now }
         ensures accesses { TakesFewAccesses self.old.heaps.now self.new.heaps.now }
     {
-        let heaps = &mut *self.heaps;
-        let result = heaps
-            .slots
-            .heap_mut(self.number, &mut heaps.accesses)
-            .relocate(ticket);
-        heaps.index.note(&heaps.slots, self.number, heaps.limits, &mut heaps.accesses);
-        result
+        in_heap!(self.relocate(ticket))
     }
 
     /// As `GuardedOf::relocate_aligned` in this heap, at an alignment from 1 on.
@@ -355,13 +314,7 @@ impl<T: Tables> HeapMut<'_, T> {
             self.old.heaps.now self.new.heaps.now }
         ensures accesses { TakesFewAccesses self.old.heaps.now self.new.heaps.now }
     {
-        let heaps = &mut *self.heaps;
-        let result = heaps
-            .slots
-            .heap_mut(self.number, &mut heaps.accesses)
-            .relocate_aligned(ticket, align);
-        heaps.index.note(&heaps.slots, self.number, heaps.limits, &mut heaps.accesses);
-        result
+        in_heap!(self.relocate_aligned(ticket, align))
     }
 
     /// As `GuardedOf::relocate_unaligned` in this heap: **the second range keeps no alignment**; that of `relocate` keeps all.
@@ -379,13 +332,7 @@ impl<T: Tables> HeapMut<'_, T> {
             self.old.heaps.now self.new.heaps.now }
         ensures accesses { TakesFewAccesses self.old.heaps.now self.new.heaps.now }
     {
-        let heaps = &mut *self.heaps;
-        let result = heaps
-            .slots
-            .heap_mut(self.number, &mut heaps.accesses)
-            .relocate_unaligned(ticket);
-        heaps.index.note(&heaps.slots, self.number, heaps.limits, &mut heaps.accesses);
-        result
+        in_heap!(self.relocate_unaligned(ticket))
     }
 
     /// As `GuardedOf::compact` in this heap: **each range keeps every alignment that was asked for**.
@@ -405,13 +352,7 @@ impl<T: Tables> HeapMut<'_, T> {
             self.old.heaps.now self.new.heaps.now }
         ensures accesses { TakesFewAccesses self.old.heaps.now self.new.heaps.now }
     {
-        let heaps = &mut *self.heaps;
-        let result = heaps
-            .slots
-            .heap_mut(self.number, &mut heaps.accesses)
-            .compact(moved);
-        heaps.index.note(&heaps.slots, self.number, heaps.limits, &mut heaps.accesses);
-        result
+        in_heap!(self.compact(moved))
     }
 
     /// As `GuardedOf::compact_by` in this heap: each range keeps its alignment where that divides `step`, from 1 on.
@@ -432,13 +373,7 @@ impl<T: Tables> HeapMut<'_, T> {
             self.old.heaps.now self.new.heaps.now }
         ensures accesses { TakesFewAccesses self.old.heaps.now self.new.heaps.now }
     {
-        let heaps = &mut *self.heaps;
-        let result = heaps
-            .slots
-            .heap_mut(self.number, &mut heaps.accesses)
-            .compact_by(step, moved);
-        heaps.index.note(&heaps.slots, self.number, heaps.limits, &mut heaps.accesses);
-        result
+        in_heap!(self.compact_by(step, moved))
     }
 
     /// As `GuardedOf::compact_unaligned` in this heap: **a moved range keeps no alignment**; `compact` keeps all.
@@ -458,12 +393,7 @@ impl<T: Tables> HeapMut<'_, T> {
             self.old.heaps.now self.new.heaps.now }
         ensures accesses { TakesFewAccesses self.old.heaps.now self.new.heaps.now }
     {
-        let heaps = &mut *self.heaps;
-        heaps
-            .slots
-            .heap_mut(self.number, &mut heaps.accesses)
-            .compact_unaligned(moved);
-        heaps.index.note(&heaps.slots, self.number, heaps.limits, &mut heaps.accesses);
+        in_heap!(self.compact_unaligned(moved))
     }
 
     /// As `GuardedOf::compact_within` in this heap: a compaction over several frames, in which **each range keeps every
@@ -492,13 +422,7 @@ impl<T: Tables> HeapMut<'_, T> {
             self.old.heaps.now self.new.heaps.now }
         ensures accesses { TakesFewAccesses self.old.heaps.now self.new.heaps.now }
     {
-        let heaps = &mut *self.heaps;
-        let result = heaps
-            .slots
-            .heap_mut(self.number, &mut heaps.accesses)
-            .compact_within(from, most_units, most_ranges, moved);
-        heaps.index.note(&heaps.slots, self.number, heaps.limits, &mut heaps.accesses);
-        result
+        in_heap!(self.compact_within(from, most_units, most_ranges, moved))
     }
 
     /// As `GuardedOf::compact_within_by` in this heap, by a step from 1 on.
@@ -527,13 +451,7 @@ impl<T: Tables> HeapMut<'_, T> {
             self.old.heaps.now self.new.heaps.now }
         ensures accesses { TakesFewAccesses self.old.heaps.now self.new.heaps.now }
     {
-        let heaps = &mut *self.heaps;
-        let result = heaps
-            .slots
-            .heap_mut(self.number, &mut heaps.accesses)
-            .compact_within_by(step, from, most_units, most_ranges, moved);
-        heaps.index.note(&heaps.slots, self.number, heaps.limits, &mut heaps.accesses);
-        result
+        in_heap!(self.compact_within_by(step, from, most_units, most_ranges, moved))
     }
 
     /// As `GuardedOf::make_room` in this heap: **each range that moves keeps every alignment that was asked for**.
@@ -587,13 +505,7 @@ impl<T: Tables> HeapMut<'_, T> {
             self.old.heaps.now self.new.heaps.now }
         ensures accesses { TakesFewAccesses self.old.heaps.now self.new.heaps.now }
     {
-        let heaps = &mut *self.heaps;
-        let result = heaps
-            .slots
-            .heap_mut(self.number, &mut heaps.accesses)
-            .make_room_aligned(size, align, moved);
-        heaps.index.note(&heaps.slots, self.number, heaps.limits, &mut heaps.accesses);
-        result
+        in_heap!(self.make_room_aligned(size, align, moved))
     }
 
     /// As `GuardedOf::make_room_by` in this heap, for an alignment and by a step from 1 on.
@@ -622,13 +534,7 @@ impl<T: Tables> HeapMut<'_, T> {
             self.old.heaps.now self.new.heaps.now }
         ensures accesses { TakesFewAccesses self.old.heaps.now self.new.heaps.now }
     {
-        let heaps = &mut *self.heaps;
-        let result = heaps
-            .slots
-            .heap_mut(self.number, &mut heaps.accesses)
-            .make_room_by(size, align, step, moved);
-        heaps.index.note(&heaps.slots, self.number, heaps.limits, &mut heaps.accesses);
-        result
+        in_heap!(self.make_room_by(size, align, step, moved))
     }
 
     /// As `GuardedOf::make_room_unaligned` in this heap: **a moved range keeps no alignment**; `make_room_aligned` keeps all.
@@ -653,13 +559,7 @@ impl<T: Tables> HeapMut<'_, T> {
             self.old.heaps.now self.new.heaps.now }
         ensures accesses { TakesFewAccesses self.old.heaps.now self.new.heaps.now }
     {
-        let heaps = &mut *self.heaps;
-        let result = heaps
-            .slots
-            .heap_mut(self.number, &mut heaps.accesses)
-            .make_room_unaligned(size, moved);
-        heaps.index.note(&heaps.slots, self.number, heaps.limits, &mut heaps.accesses);
-        result
+        in_heap!(self.make_room_unaligned(size, moved))
     }
 
     /// As `GuardedOf::extend` in this heap. `extend_heap` of `Heaps` raises its node limit too, where that is needed.
@@ -675,13 +575,7 @@ impl<T: Tables> HeapMut<'_, T> {
             self.old.heaps.now self.new.heaps.now }
         ensures accesses { TakesFewAccesses self.old.heaps.now self.new.heaps.now }
     {
-        let heaps = &mut *self.heaps;
-        let result = heaps
-            .slots
-            .heap_mut(self.number, &mut heaps.accesses)
-            .extend(more);
-        heaps.index.note(&heaps.slots, self.number, heaps.limits, &mut heaps.accesses);
-        result
+        in_heap!(self.extend(more))
     }
 
     /// As `GuardedOf::retract` in this heap, where it leaves the heap its least units: those that the limits give its number,
@@ -729,12 +623,7 @@ impl<T: Tables> HeapMut<'_, T> {
             self.old.heaps.now self.new.heaps.now }
         ensures accesses { TakesFewAccesses self.old.heaps.now self.new.heaps.now }
     {
-        let heaps = &mut *self.heaps;
-        heaps
-            .slots
-            .heap_mut(self.number, &mut heaps.accesses)
-            .raise_step(align);
-        heaps.index.note(&heaps.slots, self.number, heaps.limits, &mut heaps.accesses);
+        in_heap!(self.raise_step(align))
     }
 
     /// As `GuardedOf::reset` in this heap.
@@ -751,11 +640,6 @@ impl<T: Tables> HeapMut<'_, T> {
             self.old.heaps.now self.new.heaps.now }
         ensures accesses { TakesFewAccesses self.old.heaps.now self.new.heaps.now }
     {
-        let heaps = &mut *self.heaps;
-        heaps
-            .slots
-            .heap_mut(self.number, &mut heaps.accesses)
-            .reset();
-        heaps.index.note(&heaps.slots, self.number, heaps.limits, &mut heaps.accesses);
+        in_heap!(self.reset())
     }
 }

@@ -4,7 +4,6 @@ ghost use Rattle.std.specs.Prelude.{ℕ, List, ◌≡◌, ◌↔◌, ◌+◌, �
 ghost use Rattle.std.specs.Prelude.{Bool, Err, IfErr, MatchOption, Option, Result, false, length, min, option_map, true};
 ghost use Rattle.std.specs.Int.{◌∣◌};
 ghost use Rattle.std.specs.List.{AllByRecursion};
-ghost use Rattle.std.specs.declared.alloc.AllocError.{AllocError};
 ghost use Rattle.offset_allocator.specs.Ranges.{AreDisjoint, Range};
 ghost use Rattle.offset_allocator.specs.Reporting.Reports.{IsReport};
 ghost use Rattle.offset_allocator.specs.Requests.{AdmitsBlocks, CanGrant, blocks_needed, units_needed};
@@ -17,7 +16,7 @@ ghost use Rattle.offset_heaps.specs.Heaps.{Heaps, room, AreAlike, AreTotals, hea
 ghost use Rattle.offset_heaps.specs.Heaps.{Grants, IsFirstFit, IsLive, IsNext, IsRaisedAsNeeded, IsUsual, IsWhy};
 ghost use Rattle.offset_heaps.specs.Heaps.{KeepsAlignments, MustRaiseIn, Puts, step_at};
 ghost use Rattle.offset_heaps.specs.Heaps.{IsFirstSize, total, units_of_heap, usual_room, usual_size};
-ghost use Rattle.offset_heaps.specs.Histories.{AreSteps, BeginsAt, IsGone, IsStep, ResetsAll};
+ghost use Rattle.offset_heaps.specs.Histories.{AreSteps, BeginsAt, IsGone, IsStep};
 ghost use Rattle.offset_heaps.specs.Numbering.{AreOfLive, MeetsPlaces, first_from, live_places, next_place};
 ghost use Rattle.offset_heaps.specs.Places.{Place, place_of, ticket_of};
 ghost use Rattle.offset_heaps.specs.Spaces.{GoesByTheSteps, GoesOn, IsSpace, IsValid};
@@ -26,12 +25,10 @@ ghost use Rattle.offset_heaps.specs.Relocating.{IsEmptiest, IsOwnAlign, NoneLive
 ghost use Rattle.offset_heaps.specs.Relocating.{live_units_at, most_ranks, ranks, squares, size_of};
 ghost use Rattle.offset_heaps.specs.Tight.{GrantsTight, IsRefusedForTight, IsServedTight, IsWhyTight};
 ghost use Rattle.offset_heaps.specs.Twins.{AreTwins};
-ghost use Rattle.offset_heaps.specs.Calls.{Allocates, AllocatesTight, Takes, TakesAll, Call, Drops, DropsEmpty, Frees, GivesUp};
-ghost use Rattle.offset_heaps.specs.Calls.{CompactsEach, RelocatesOwn, TakesAt, TakesOn, TakesWhere};
-ghost use Rattle.offset_heaps.specs.Calls.{GoAll, Goes, ExtendsOne, Relocates, Reply};
+ghost use Rattle.offset_heaps.specs.Calls.{Allocates, AllocatesTight, Takes, TakesAll, TakesOn, TakesWhere, Call, Drops};
+ghost use Rattle.offset_heaps.specs.Calls.{CompactsEach, DropsEmpty, GivesUp, GoAll, Goes, IsStarved, Reply};
 ghost use Rattle.offset_heaps.specs.Asking.{IsRefusedFor, IsServed};
-ghost use Rattle.offset_heaps.specs.Changing.{Alters, RetractsTo};
-ghost use Rattle.offset_allocator.specs.declared.moves.room.RoomCost.{RoomCost};
+ghost use Rattle.offset_heaps.specs.Changing.{Alters};
 ghost use Rattle.offset_heaps.specs.declared.limits.Limits.{Limits};
 ghost use Rattle.offset_heaps.specs.declared.place.Granted.{Granted};
 ghost use Rattle.offset_heaps.specs.declared.refusal.Refusal.{Refusal};
@@ -267,21 +264,9 @@ pub fn a_state_is_read_back<T: Tables>(heaps: &HeapsOf<T>)
 /// returns the same, places included, and leaves twins. Only where memory is refused to a request
 /// of one of them, or to its `extend_heap`, the other may have a heap or nodes more.
 pub fn a_state_decides_each_step()
-    ensures allocate { (size align : ℕ) (hs hs' ks ks' : Heaps) → size ≤ 4294967295 → IsWellFormed hs
-        → AreTwins hs hs' → (r r' : Result Granted Refusal) → Allocates size align hs ks r
-        → Allocates size align hs' ks' r' → (r ≡ Err Memory → ⊥) → (r' ≡ Err Memory → ⊥)
-        → (r ≡ r') × AreTwins ks ks' }
-    ensures allocate_tight { (size align : ℕ) (hs hs' ks ks' : Heaps) → size ≤ 4294967295 → IsWellFormed hs
-        → AreTwins hs hs' → (r r' : Result Granted Refusal) → AllocatesTight size align hs ks r
-        → AllocatesTight size align hs' ks' r' → (r ≡ Err Memory → ⊥) → (r' ≡ Err Memory → ⊥)
-        → (r ≡ r') × AreTwins ks ks' }
-    ensures free { (p : Place) (hs hs' ks ks' : Heaps) → IsWellFormed hs → AreTwins hs hs' → (r r' : Bool)
-        → Frees p hs ks r → Frees p hs' ks' r' → (r ≡ r') × AreTwins ks ks' }
-    ensures relocate { (p : Place) (hs hs' ks ks' : Heaps) → IsWellFormed hs → AreTwins hs hs'
-        → (r r' : Option Granted) → RelocatesOwn p hs ks r → RelocatesOwn p hs' ks' r'
-        → (r ≡ r') × AreTwins ks ks' }
-    ensures relocate_aligned { (p : Place) (align : ℕ) (hs hs' ks ks' : Heaps) → IsWellFormed hs → AreTwins hs hs'
-        → (r r' : Option Granted) → Relocates p align hs ks r → Relocates p align hs' ks' r'
+    // each call, those of tickets on one heap too, with their moves
+    ensures call { (c : Call) (hs hs' ks ks' : Heaps) → IsWellFormed hs → AreTwins hs hs' → (r r' : Reply)
+        → Takes c hs ks r → Takes c hs' ks' r' → (IsStarved r → ⊥) → (IsStarved r' → ⊥)
         → (r ≡ r') × AreTwins ks ks' }
     ensures drop_empty { (keep : ℕ) (hs hs' ks ks' : Heaps) → AreTwins hs hs' → (r r' : Option ℕ)
         → DropsEmpty keep hs ks r → DropsEmpty keep hs' ks' r' → (r ≡ r') × AreTwins ks ks' }
@@ -289,35 +274,12 @@ pub fn a_state_decides_each_step()
         → Drops k hs ks r → Drops k hs' ks' r' → (r ≡ r') × AreTwins ks ks' }
     ensures give_up { (k : ℕ) (hs hs' ks ks' : Heaps) → AreTwins hs hs' → (r r' : Bool)
         → GivesUp k hs ks r → GivesUp k hs' ks' r' → (r ≡ r') × AreTwins ks ks' }
-    ensures reset { (hs hs' ks ks' : Heaps) → IsWellFormed hs → AreTwins hs hs' → ResetsAll hs ks
-        → ResetsAll hs' ks' → AreTwins ks ks' }
-    ensures shrink { (p : Place) (n : ℕ) (hs hs' ks ks' : Heaps) → IsWellFormed hs → AreTwins hs hs' → (r r' : Option Bool)
-        → TakesAt p (tickets.Call.Shrink (ticket_of p) n) hs ks r → TakesAt p (tickets.Call.Shrink (ticket_of p) n) hs' ks' r'
-        → (r ≡ r') × AreTwins ks ks' }
-    ensures grow_in_place { (p : Place) (n : ℕ) (hs hs' ks ks' : Heaps) → IsWellFormed hs → AreTwins hs hs'
-        → (r r' : Option Bool) → TakesAt p (tickets.Call.Grow_in_place (ticket_of p) n) hs ks r
-        → TakesAt p (tickets.Call.Grow_in_place (ticket_of p) n) hs' ks' r' → (r ≡ r') × AreTwins ks ks' }
-    ensures extend_heap { (k more : ℕ) (hs hs' ks ks' : Heaps) → IsWellFormed hs → AreTwins hs hs'
-        → (r r' : Result Bool AllocError) → ExtendsOne k more hs ks r → ExtendsOne k more hs' ks' r'
-        → ((e : AllocError) → r ≡ Err e → ⊥) → ((e : AllocError) → r' ≡ Err e → ⊥)
-        → (r ≡ r') × AreTwins ks ks' }
     ensures compact_heap { (k : ℕ) (hs hs' ks ks' : Heaps) → AreTwins hs hs' → (r r' : Bool)
         → TakesWhere k tickets.Call.Compact (tickets.Answer.Was_done false) hs ks (tickets.Answer.Was_done r)
         → TakesWhere k tickets.Call.Compact (tickets.Answer.Was_done false) hs' ks' (tickets.Answer.Was_done r')
         → (r ≡ r') × AreTwins ks ks' }
     ensures compact { (hs hs' ks ks' : Heaps) → AreTwins hs hs' → (r r' : Bool)
         → CompactsEach hs ks r → CompactsEach hs' ks' r' → (r ≡ r') × AreTwins ks ks' }
-    ensures make_room { (k size align : ℕ) (hs hs' ks ks' : Heaps) → IsWellFormed hs → AreTwins hs hs' → (r r' : Option RoomCost)
-        → TakesWhere k (tickets.Call.Make_room size align) (tickets.Answer.Room_made None) hs ks (tickets.Answer.Room_made r)
-        → TakesWhere k (tickets.Call.Make_room size align) (tickets.Answer.Room_made None) hs' ks'
-        (tickets.Answer.Room_made r') → (r ≡ r') × AreTwins ks ks' }
-    ensures retract { (k less : ℕ) (hs hs' ks ks' : Heaps) → IsWellFormed hs → AreTwins hs hs' → (r r' : Bool)
-        → Alters k (RetractsTo hs.limits k less r) hs ks → Alters k (RetractsTo hs'.limits k less r') hs' ks'
-        → (r ≡ r') × AreTwins ks ks' }
-    // a call of tickets on the heap of a number, and its moves
-    ensures on_heap { (k : ℕ) (c : tickets.Call) (hs hs' ks ks' : Heaps) → IsWellFormed hs → AreTwins hs hs'
-        → (a a' : tickets.Answer) (ms ms' : List Move) → TakesOn k c hs ks a ms → TakesOn k c hs' ks' a' ms'
-        → (a ≡ a') × (ms ≡ ms') × AreTwins ks ks' }
     ensures range { (hs hs' : Heaps) (p : Place) → AreTwins hs hs' → range_of p hs' ≡ range_of p hs }
     ensures emptiest { (hs hs' : Heaps) → AreTwins hs hs' → (r r' : Option ℕ)
         → MatchOption r (NoneLive (numbers hs) hs.slots) (IsEmptiest (numbers hs) hs.slots)

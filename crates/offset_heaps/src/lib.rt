@@ -23,6 +23,7 @@
 ghost use Rattle.std.specs.Prelude.{ℕ, ◌≡◌, ◌↔◌, ◌+◌, ◌^◌, ◌<◌, ◌≤◌, None, IsSome, IsTrue, IfOk};
 ghost use Rattle.std.specs.Prelude.{false, true, length, min, option_copied, option_map, replicate};
 ghost use Rattle.offset_allocator.specs.Ranges.{Range};
+ghost use Rattle.offset_guarded.specs.Answers as tickets;
 ghost use Rattle.offset_heaps.specs.Heaps.{slot};
 ghost use Rattle.offset_heaps.specs.Places.{ticket_of};
 ghost use Rattle.offset_heaps.specs.Slots.{ResetsIn};
@@ -137,7 +138,8 @@ fn reset_all<T: Tables>(
 }
 
 impl<T: Tables> HeapsOf<T> {
-    ghost use Rattle.offset_heaps.specs.Heaps.{FreesIn, IsLive, IsSame, KeepsOthers, TakesFewAccesses};
+    ghost use Rattle.offset_heaps.specs.Changing.{Alters};
+    ghost use Rattle.offset_heaps.specs.Heaps.{IsLive, IsSame, KeepsOthers, TakesFewAccesses};
     ghost use Rattle.offset_heaps.specs.Heaps.{heap_at, range_in, range_of};
 
     /// No heap, and memory for the numbers of all that may be made: some 1.2 KB each. A heap is made by the
@@ -305,7 +307,8 @@ impl<T: Tables> HeapsOf<T> {
         ensures others { KeepsOthers place self.old self.new }
         ensures same { result ≡ false → IsSame self.old self.new }
         // The step of its heap. All other heaps are as they were.
-        ensures step { result ≡ true → FreesIn place self.old self.new }
+        ensures step { result ≡ true
+            → Alters place.heap (λ g h. tickets.Frees (ticket_of place) g h true) self.old self.new }
         ensures accesses { TakesFewAccesses self.old self.new }
     {
         let (number, realm, ticket) = place.split();

@@ -8,19 +8,18 @@ ghost use Rattle.std.specs.List.{FoldsTo};
 ghost use Rattle.std.specs.Option.Follows.{option_follows_value};
 ghost use Rattle.offset_allocator.specs.Requests.{blocks_needed, units_needed};
 ghost use Rattle.offset_allocator.specs.View.{IsWellFormed};
+ghost use Rattle.offset_guarded.specs.Answers as tickets;
 ghost use Rattle.offset_guarded.specs.Guard.{Guard};
 ghost use Rattle.offset_heaps.specs.Changing.{AltersIn, CompactsSlot, IsCalledAt, IsCompactible, moves_in, numbered};
-ghost use Rattle.offset_heaps.specs.Extending.{CanExtendIn, ExtendsIf, MustExtendIn};
-ghost use Rattle.offset_heaps.specs.Heaps.{IsOfKind, MustRaiseIn, is_empty};
+ghost use Rattle.offset_heaps.specs.Heaps.{MustRaiseIn, is_empty};
 ghost use Rattle.offset_heaps.specs.Heaps.{live_units_of, part, step_of};
 ghost use Rattle.offset_heaps.specs.Heaps.{range_in, room, room_of, slot};
 ghost use Rattle.offset_heaps.specs.Numbering.{IsHeapFrom, NoHeapFrom};
 ghost use Rattle.offset_heaps.specs.Relocating.{HasLive, IsEmptiest, NoneLive, TakesUnits, offset_in, units_in};
-ghost use Rattle.offset_heaps.specs.Slots.{CanHoldIn, CanHoldNow, Changes, GrantsTightAlignedIn, FreesSlot, KeepsOthersIn};
-ghost use Rattle.offset_heaps.specs.Slots.{GrantsIn, HasRoomNow, IsEmptier, RaisesIn, ResetsIn};
+ghost use Rattle.offset_heaps.specs.Slots.{CanHoldIn, CanHoldNow, Changes, HasRoomNow, IsEmptier, RaisesIn, ResetsIn};
 
 use crate::heap::{
-    alignment_in, compact_numbered_in, extend_in, free_in, grant_in, grant_tight_aligned_in, holds,
+    alignment_in, compact_numbered_in, free_in, grant_in, grant_tight_aligned_in, holds,
     is_empty_heap, is_fuller, must_raise, raise_in, reset_in, room_at, units_for,
 };
 use crate::limits::Limits;
@@ -180,7 +179,8 @@ impl<T: Tables> Slots<T> {
         requires alignment { 1 ≤ align }
         requires room { HasRoomNow (blocks_needed align) (max 1 (units_needed size align))
             (slot number self.old) }
-        ensures grants { Changes number (λ o p. GrantsIn size align align o p result) self.old self.new }
+        ensures grants { Changes number (AltersIn (λ g h. tickets.AllocatesAligned size align g h (Some result)))
+            self.old self.new }
         ensures accesses { count.new ≡ count.old + 1 }
     {
         count.tick();
@@ -198,7 +198,8 @@ impl<T: Tables> Slots<T> {
         requires there { number < length self.old }
         requires alignment { 1 ≤ align }
         requires holds { CanHoldNow size align (slot number self.old) }
-        ensures grants { Changes number (λ o p. GrantsTightAlignedIn size align o p result) self.old self.new }
+        ensures grants { Changes number (AltersIn (λ g h. tickets.AllocatesTightAligned size align g h (Some result)))
+            self.old self.new }
         ensures accesses { count.new ≡ count.old + 1 }
     {
         count.tick();
@@ -259,9 +260,8 @@ impl<T: Tables> Slots<T> {
     pub(crate) fn free(&mut self, number: u32, ticket: Ticket, count: &mut Accesses) -> bool
         ensures done { IsTrue result ↔ IsSome (range_in ticket (slot number self.old)) }
         ensures there { result ≡ true → number < length self.old }
-        ensures change { result ≡ true → Changes number (λ o p. (range_in ticket p ≡ None)
-            × KeepsOthersIn ticket o p
-            × FreesSlot ticket o p) self.old self.new }
+        ensures change { result ≡ true
+            → Changes number (AltersIn (λ g h. tickets.Frees ticket g h true)) self.old self.new }
         ensures same { result ≡ false → self.new ≡ self.old }
         ensures accesses { count.new ≡ count.old + 1 }
     {
@@ -270,38 +270,6 @@ impl<T: Tables> Slots<T> {
             return false;
         }
         free_in(&mut self.heaps[number as usize], ticket)
-    }
-
-    /// Adds units at the end of the heap of a number, whose node limit is raised first where they need that, and
-    /// returns whether it did.
-    pub(crate) fn extend(
-        &mut self,
-        alloc: Global,
-        number: u32,
-        limits: Limits,
-        more: u32,
-        count: &mut Accesses,
-    ) -> Result<bool, AllocError>
-        requires there { IsSome (slot number self.old) }
-        requires limit_max { limits.max_allocs + 1 < T.Index.MAX }
-        requires kind { IfSome (slot number self.old) (IsOfKind limits number) }
-        ensures done { IfOk result
-            (λ done. IsTrue done ↔ CanExtendIn limits number more (slot number self.old)) }
-        ensures change { IfOk result
-            (λ done. Changes number (AltersIn (ExtendsIf limits number more done)) self.old self.new) }
-        ensures must { IsErr result → MustExtendIn limits number more (slot number self.old)
-            × CanExtendIn limits number more (slot number self.old) }
-        ensures same { IsErr result → self.new ≡ self.old }
-        ensures accesses { count.new ≡ count.old + 1 }
-    {
-        count.tick();
-        extend_in(
-            alloc,
-            &mut self.heaps[number as usize],
-            number,
-            limits,
-            more,
-        )
     }
 
     /// Slides live ranges of the heap of a number to the front of its space by its step, where there is one, and returns

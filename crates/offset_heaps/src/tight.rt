@@ -43,7 +43,7 @@ pub fn refusal_tight_aligned_counted<T: Tables>(
 }
 
 impl<T: Tables> HeapsOf<T> {
-    ghost use Rattle.offset_heaps.specs.Heaps.{Grants, IsForRoom, IsNext, IsSame, KeepsOthers, MustRaiseIn};
+    ghost use Rattle.offset_heaps.specs.Heaps.{IsForRoom, IsNext, IsSame, KeepsOthers, MustRaiseIn};
     ghost use Rattle.offset_heaps.specs.Heaps.{NoneFits, heap_at, range_of};
 
     // The first heap, a free block of which holds a request. Where none does, none has room for it.
@@ -113,8 +113,7 @@ impl<T: Tables> HeapsOf<T> {
         ensures found { IfOk result (λ g. g.is_new ≡ false → IsFirstHolding size align g.place.heap self.old) }
         ensures made { IfOk result (λ g. g.is_new ≡ true
             → NoneHolds size align self.old × IsNext size g.place.heap self.old) }
-        ensures fills { IfOk result (λ g. g.is_new ≡ false → GrantsTight size align self.old self.new g) }
-        ensures grants { IfOk result (λ g. g.is_new ≡ true → Grants size align self.old self.new g) }
+        ensures grants { IfOk result (GrantsTight size align self.old self.new) }
         ensures aligned { IfOk result (λ g. g.offset % align ≡ 0) }
         ensures accesses { (bits : ℕ) → numbers self.old ≤ 2 ^ bits
             → self.new.accesses ≤ self.old.accesses + numbers self.old + 16 * bits + 32 }
@@ -149,8 +148,7 @@ impl<T: Tables> HeapsOf<T> {
         ensures range { IfOk result (λ g. range_of g.place self.new
             ≡ Some (record { offset = g.offset; size = size })) }
         ensures others { IfOk result (λ g. KeepsOthers g.place self.old self.new) }
-        ensures fills { IfOk result (λ g. g.is_new ≡ false → GrantsTight size 1 self.old self.new g) }
-        ensures grants { IfOk result (λ g. g.is_new ≡ true → Grants size 1 self.old self.new g) }
+        ensures grants { IfOk result (GrantsTight size 1 self.old self.new) }
         ensures accesses { (bits : ℕ) → numbers self.old ≤ 2 ^ bits
             → self.new.accesses ≤ self.old.accesses + numbers self.old + 16 * bits + 32 }
     {
@@ -201,8 +199,7 @@ impl<T: Tables> HeapsOf<T> {
         ensures others { IfOk result (λ g. KeepsOthers g.place self.old self.new) }
         // The step of that heap, which was there, or of one that is made as by `allocate_aligned`. All other heaps
         // are as they were.
-        ensures fills { IfOk result (λ g. g.is_new ≡ false → GrantsTight size align self.old self.new g) }
-        ensures grants { IfOk result (λ g. g.is_new ≡ true → Grants size align self.old self.new g) }
+        ensures grants { IfOk result (GrantsTight size align self.old self.new) }
         ensures accesses { (bits : ℕ) → numbers self.old ≤ 2 ^ bits
             → self.new.accesses ≤ self.old.accesses + numbers self.old + 16 * bits + 32 }
     {

@@ -1,42 +1,51 @@
 -- Which plain list a request goes to.
-use Rattle.std.proofs.Common.{◌≡◌, ℕ, ◌+◌, ◌-◌, ◌<◌, ◌≤◌, Bool, true, false, Option, Some, None, IfSome, Ok, Err, length, nat_le, if◌then◌else◌, refl, sym, ap, subst, ◌∙◌, inl, inr, arith, ◌↔◌}
+use Rattle.std.proofs.Common.{◌≡◌, ℕ, ◌+◌, ◌-◌, ◌<◌, ◌≤◌, true, false, Option, Some, None, IfSome, Ok, Err, length, nat_le, if◌then◌else◌, refl, sym, ap, subst, ◌∙◌, inl, inr, arith, ◌↔◌}
 use Rattle.std.proofs.lemmas.Bool.{cases_eq, cases_lt, le-leb, lt-leb, lt-ltb, le-ltb, true≢false}
 use Rattle.std.proofs.lemmas.List.{length-map}
 use Rattle.offset_allocator.specs.{Requests.CanGrant, Requests.blocks_needed, Requests.units_needed, View.View, View.free_sizes, View.max_size, View.padding_to}
 use Rattle.offset_allocator.specs.View as view
 use Rattle.offset_allocator.proofs.{Views.ViewFits.largest_small}
-use Rattle.offset_guarded.specs.Guard.{Guard, HasSerialLeft, last_serial}
-use Rattle.offset_guarded.specs.Guard as guarded
+use Rattle.offset_guarded.specs.Answers as tickets
+use Rattle.offset_guarded.specs.Answers.{IsAdmitted}
+use Rattle.offset_guarded.specs.Answers.Answer.{Requested}
+use Rattle.offset_guarded.specs.Guard.{Guard, HasSerialLeft, Ticket, last_serial}
 use Rattle.offset_script.specs.Machine.{State, Place, chosen_place, is_short_of, total}
 use Rattle.offset_script.specs.Machine as machine
 use Rattle.offset_script.specs.declared.scripts.Command.TheVariants as command
 use Rattle.offset_script.proofs.{Agreed.aligned_agrees, Agreed.has_room, Well.IsWell}
 use Rattle.offset_script.specs.Agreement.{HasBlocksOf}
 use Rattle.offset_calls.specs.Calls.{Answer, step}
-use Rattle.offset_calls.specs.PlainLists.{IsPlain, is_no}
+use Rattle.offset_calls.specs.PlainLists.{IsCall, IsPlain, Plays, is_no, while_left}
+use Rattle.offset_calls.specs.declared.calls.Call.{Call as PlainCall}
 use Rattle.offset_calls.specs.Tickets.{handle_of, handles_of}
 use Rattle.offset_script.specs.Steps.{kept_name}
-use Rattle.offset_allocator.specs.{Relations.Aligns, View.Handle}
+use Rattle.offset_allocator.specs.{View.Handle}
 use Rattle.offset_calls.specs.declared.calls.Call.TheVariants as call
-use Rattle.offset_calls.proofs.{Begun.some_chosen, PlainLists.plain_raised, PlainLists.well}
-use Rattle.offset_heaps.specs.Calls.{Allocates}
-use Rattle.offset_heaps.specs.Heaps.{Heaps, Grants, IsFirstFit, IsNext, IsOfKind, IsRaisedAsNeeded, IsWhy, MayEverFit, NoneFits, heap_at, raised_limit, room, room_of, slot, ticket_in, top_limit}
+use Rattle.offset_calls.proofs.{Begun.some_chosen, PlainLists.plain_call, PlainLists.plain_raised, PlainLists.well}
+use Rattle.offset_heaps.specs.Calls.{Allocates, AllocatesBy, AllocatesTight}
+use Rattle.offset_heaps.specs.Heaps.{Heaps, GrantsBy, GrantsOld, IsFirstFit, IsNext, IsOfKind, IsWhyBy, MayEverFit, NoneFits, heap_at, raised_limit, room, room_of, slot, ticket_in, top_limit}
 use Rattle.offset_heaps.specs.State.{IsHeapFormed, IsWellFormed}
 use Rattle.offset_heaps.specs.declared.limits.Limits.{Limits}
 use Rattle.offset_heaps.specs.declared.place.Granted.{Granted}
 use Rattle.offset_heaps.specs.declared.refusal.Refusal.{Refusal}
 use Rattle.offset_heaps.specs.declared.refusal.Refusal.TheVariants.{Empty, Full, Memory, TooLarge}
 use Rattle.offset_heaps.proofs.{Numbers.slot_same, Rooms.room_grants, Rooms.room_left, Rooms.top_above, Rooms.top_usual}
-use Rattle.offset_plain_heaps.specs.PlainHeaps.{ArePlain, IsPlainAt, WouldGrant, topped}
+use Rattle.offset_plain_heaps.specs.PlainHeaps.{ArePlain, GoesToTheFirst, IsPlainAt, WouldGrant, topped}
+use Rattle.offset_plain_heaps.proofs.TightLists.{block_for, block_found, tight_at, tight_grants, tight_refuses}
+use Rattle.offset_heaps.specs.Slots.{CanHoldIn}
+use Rattle.offset_heaps.specs.Tight.{IsFirstHolding, NoneHolds}
+use Rattle.offset_calls.specs.Tight.{holding_place}
+use Rattle.offset_allocator.specs.Tight.{CanHold}
+use Rattle.std.specs.Prelude.{Result, [], is_some}
 
 -- ---- the plain machine
 -- an aligned request as one request
-aligned_is : (s : State) (n align : ℕ) → 1 ≤ align → units_needed n align ≤ max_size
+aligned_is : (s : State) (n align : ℕ) → 1 ≤ align → (1 < align → units_needed n align ≤ max_size)
     → machine.step (command.Align n align) s ≡ machine.request s (blocks_needed align) (units_needed n align) n (if nat_le align 1 then (λ offset. 0) else padding_to align)
 aligned_is s n align some small = elim (cases_lt 1 align) [
   | inl l ↦
       let b : blocks_needed align ≡ 2 = omega (arith, l) in
-      rw (b, lt-leb align 1 l, le-ltb max_size (n + align - 1) small) refl
+      rw (b, lt-leb align 1 l, le-ltb max_size (n + align - 1) (small l)) refl
   | inr m ↦
       let b : blocks_needed align ≡ 1 = omega (arith, m, some) in
       let u : units_needed n align ≡ n = omega (arith, m, some) in
@@ -65,6 +74,27 @@ same_under s l m b needed n padding_at k o most e = elim (cases_lt (length s.blo
     same None h h' = rw (h, h') refl
     same (Some p) h h' = rw (h, h') refl
 
+aligned_at : (s : State) (l m n align : ℕ) (k o : ℕ) → 1 ≤ align → l ≤ m → (step (call.Command (command.Align n align)) (record s { limit = l })).reply ≡ Answer (machine.Grant k o)
+    → (step (call.Command (command.Align n align)) (record s { limit = m })).reply ≡ Answer (machine.Grant k o)
+aligned_at s l m n align k o some most e = elim (cases_lt max_size (n + align - 1)) [
+  | inr fits ↦ same (λ _. fits)
+  | inl past ↦ elim (cases_lt 1 align) [
+    | inr one ↦ same (λ more. omega (arith, more, one))
+    | inl more ↦ absurd (let no : machine.Refused ≡ machine.Grant k o = sym (too_large past more) ∙ answer_of e in cc)
+  ]
+]
+  where
+    answer_of : {a b : machine.Answer} → Answer a ≡ Answer b → a ≡ b
+    answer_of e = cc
+
+    too_large : max_size < n + align - 1 → 1 < align → (machine.step (command.Align n align) (record s { limit = l })).answer ≡ machine.Refused
+    too_large past more = rw (lt-leb align 1 more, lt-ltb max_size (n + align - 1) past) refl
+
+    same : (1 < align → units_needed n align ≤ max_size) → (step (call.Command (command.Align n align)) (record s { limit = m })).reply ≡ Answer (machine.Grant k o)
+    same small = ap Answer (ap (λ (o : machine.Outcome). o.answer) (aligned_is (record s { limit = m }) n align some small)
+        ∙ same_under s l m (blocks_needed align) (units_needed n align) n (if nat_le align 1 then (λ offset. 0) else padding_to align) k o most
+        (ap (λ (o : machine.Outcome). o.answer) (sym (aligned_is (record s { limit = l }) n align some small)) ∙ answer_of e))
+
 -- a space and its list
 module _ (v : View) (kept_name : ℕ → Option ℕ) (s : State) (w : view.IsWellFormed v) (ws : IsWell s) (g : HasBlocksOf v kept_name s) (n align : ℕ) (some : 1 ≤ align) where
   abbrev pad : ℕ → ℕ
@@ -76,7 +106,7 @@ module _ (v : View) (kept_name : ℕ → Option ℕ) (s : State) (w : view.IsWel
       go : (o : Option Place) → chosen_place (units_needed n align) s.blocks ≡ o → is_no (step (call.Command (command.Align n align)) s).reply ≡ false
       go None e = absurd (some_chosen v kept_name s w ws g (units_needed n align) can.1 e)
       go (Some p) e = ap (λ (o : machine.Outcome). is_no (Answer o.answer))
-          (aligned_is s n align some small ∙ found_answer s (blocks_needed align) (units_needed n align) n pad p (has_room v kept_name s w ws g (blocks_needed align) can.0) e)
+          (aligned_is s n align some (λ _. small) ∙ found_answer s (blocks_needed align) (units_needed n align) n pad p (has_room v kept_name s w ws g (blocks_needed align) can.0) e)
 
   list_refuses : (CanGrant (blocks_needed align) (units_needed n align) v → ⊥) → is_no (step (call.Command (command.Align n align)) s).reply ≡ true
   list_refuses none = ap (λ a. is_no (Answer a)) (aligned_agrees v kept_name s w ws g n align some v w None (none, refl)).answer
@@ -127,6 +157,28 @@ module _ (limits : Limits) (k : ℕ) (g : Guard) (s : State) (size align : ℕ) 
     ],
   )
 
+  -- a tight one
+  would_hold : CanHoldIn limits k size align (Some g) ↔ WouldGrant limits (call.AllocateTightAligned size align) k (Some s)
+  would_hold = (
+    λ can. (
+      omega (arith, grants_given g s p, can.0),
+      ap (λ t. is_no (step (call.AllocateTightAligned size align) t).reply) (topped_is limits k g s p)
+          ∙ tight_grants raised.space (kept_name (handles_of raised under_top.tickets)) (record s { limit = top }) under_top.shows.formed (well raised (record s { limit = top }) under_top) under_top.shows.agrees size align some (can.1, can.2),
+    ),
+    λ would. go (holding_place size align 0 s.blocks) refl would,
+  )
+    where
+      refused : (CanHold size align raised.space → ⊥) → WouldGrant limits (call.AllocateTightAligned size align) k (Some s) → ⊥
+      refused none would = true≢false (sym (tight_refuses raised.space (kept_name (handles_of raised under_top.tickets)) (record s { limit = top }) under_top.shows.formed (well raised (record s { limit = top }) under_top) under_top.shows.agrees size align some none)
+          ∙ ap (λ t. is_no (step (call.AllocateTightAligned size align) t).reply) (sym (topped_is limits k g s p)) ∙ would.1)
+
+      go : (o : Option Place) → holding_place size align 0 s.blocks ≡ o → WouldGrant limits (call.AllocateTightAligned size align) k (Some s) → CanHoldIn limits k size align (Some g)
+      go None e would = absurd (refused (λ can. true≢false (sym (block_found raised.space (kept_name (handles_of raised under_top.tickets)) (record s { limit = top }) under_top.shows.formed (well raised (record s { limit = top }) under_top) under_top.shows.agrees size align some can.1) ∙ ap is_some e)) would)
+      go (Some q) e would = elim (cases_lt (length g.space.blocks + blocks_needed align) top) [
+        | inl room ↦ (omega (arith, grants_given g s p, would.0), room, block_for raised.space (kept_name (handles_of raised under_top.tickets)) (record s { limit = top }) under_top.shows.formed (well raised (record s { limit = top }) under_top) under_top.shows.agrees size align some q e)
+        | inr full ↦ absurd (refused (λ can. let l = can.0 in omega (arith, l, full)) would)
+      ]
+
 -- of a number
 abbrev IsSoundAt : Limits → ℕ → Option Guard → Type 0
 IsSoundAt limits k o = IfSome o (λ g. view.IsWellFormed g.space × IsOfKind limits k g)
@@ -142,102 +194,95 @@ would_at limits k size align None (Some s) p sound one some = absurd p
 would_at limits k size align (Some g) None p sound one some = absurd p
 would_at limits k size align (Some g) (Some s) p sound one some = would_grant limits k g s size align p sound.0 sound.1 one some
 
+hold_at : (limits : Limits) (k size align : ℕ) (o : Option Guard) (l : Option State) → IsPlainAt o l → IsSoundAt limits k o → 1 ≤ size → 1 ≤ align
+    → CanHoldIn limits k size align o ↔ WouldGrant limits (call.AllocateTightAligned size align) k l
+hold_at limits k size align None None p sound one some = ((λ can. absurd can), λ no. absurd no)
+hold_at limits k size align None (Some s) p sound one some = absurd p
+hold_at limits k size align (Some g) None p sound one some = absurd p
+hold_at limits k size align (Some g) (Some s) p sound one some = would_hold limits k g s size align p sound.0 sound.1 one some
+
 -- ---- requests
-module _ (size align : ℕ) (hs : Heaps) (lists : ℕ → Option State) (one : 1 ≤ size) (some : 1 ≤ align) (formed : IsWellFormed hs) (p : ArePlain hs lists) where
-  would : (k : ℕ) → (units_needed size align ≤ room_of hs.limits k (blocks_needed align) (heap_at k hs)) ↔ WouldGrant hs.limits (Asks size align) k (lists k)
-  would k = would_at hs.limits k size align (heap_at k hs) (lists k) (p k) (sound_at hs.limits hs.made k (heap_at k hs) (formed.heaps k)) one some
-
-  none_would : NoneFits (blocks_needed align) (units_needed size align) hs → (j : ℕ) → WouldGrant hs.limits (Asks size align) j (lists j) → ⊥
-  none_would none j w = let fits = (would j).1 w in let less = none j in omega (arith, fits, less)
-
-  first_would : (k : ℕ) → IsFirstFit (blocks_needed align) (units_needed size align) k hs → WouldGrant hs.limits (Asks size align) k (lists k) × ((j : ℕ) → j < k → WouldGrant hs.limits (Asks size align) j (lists j) → ⊥)
-  first_would k first = ((would k).0 first.0, λ j less w. let fits = (would j).1 w in let below = first.1 j less in omega (arith, fits, below))
-
 -- no heap may be made where none may ever be large enough
 next_may : (size k : ℕ) (hs : Heaps) → IsNext size k hs → MayEverFit size hs
 next_may size k hs n = elim n.1 [ inl u ↦ inl u.0 | inr l ↦ inr (omega (arith, l.1)) ]
 
-pub refused_everywhere : (size align : ℕ) (hs ks : Heaps) (why : Refusal) (lists : ℕ → Option State) → 1 ≤ size → 1 ≤ align → IsWellFormed hs → ArePlain hs lists → Allocates size align hs ks (Err why) → (why ≡ Memory → ⊥)
-    → ((k : ℕ) → IsNext size k hs → ⊥) × ((j : ℕ) → WouldGrant hs.limits (Asks size align) j (lists j) → ⊥)
-refused_everywhere size align hs ks why lists one some formed p x other = go why x.why other
-  where
-    go : (w : Refusal) → IsWhy size align hs w → (w ≡ Memory → ⊥) → ((k : ℕ) → IsNext size k hs → ⊥) × ((j : ℕ) → WouldGrant hs.limits (Asks size align) j (lists j) → ⊥)
-    go Empty y other = absurd (omega (arith, y, one))
-    go TooLarge y other = ((λ k n. y.1 (next_may size k hs n)), none_would size align hs lists one some formed p y.0.1)
-    go Full y other = (y.2, none_would size align hs lists one some formed p y.0.1)
-    go Memory y other = absurd (other refl)
+-- of a kind: a call of the plain machine, which one of tickets is, and what says that no heap serves it, or which is the first
+module _ (c : PlainCall) (size align : ℕ) (hs ks : Heaps) (lists : ℕ → Option State) (formed : IsWellFormed hs) (formed' : IsWellFormed ks) (p : ArePlain hs lists) (NoneServes : Heaps → Type 0) (FirstServes : ℕ → Heaps → Type 0)
+    (none : 1 ≤ size → NoneServes hs → (j : ℕ) → WouldGrant hs.limits c j (lists j) → ⊥)
+    (first : 1 ≤ size → (k : ℕ) → FirstServes k hs → WouldGrant hs.limits c k (lists k) × ((j : ℕ) → j < k → WouldGrant hs.limits c j (lists j) → ⊥))
+    (d : tickets.Call) (Call : Ticket → Guard → Guard → Type 0) (admitted : IsAdmitted d) (answers : (t : Ticket) (g h : Guard) → Call t g h → tickets.Answers d g h (Requested (Some t)) [])
+    (left : (t : Ticket) (g h : Guard) → Call t g h → HasSerialLeft g) (is : (g : Guard) (o : Option PlainCall) → IsCall d g o → o ≡ while_left g c)
+    (under : (s : State) (l m k o : ℕ) → l ≤ m → (step c (record s { limit = l })).reply ≡ Answer (machine.Grant k o) → (step c (record s { limit = m })).reply ≡ Answer (machine.Grant k o)) where
+  -- what a heap grants its list does, under the same limit
+  replied : (t : Ticket) (b h : Guard) (s : State) → IsPlain b s → view.IsWellFormed h.space → Call t b h → (step c s).reply ≡ Answer (machine.Grant t.serial t.offset)
+  replied t b h s q known by =
+      let x = plain_call b h s q known d (Requested (Some t)) [] admitted (answers t b h by) in
+      let called : x.0 ≡ Some c = is b x.0 x.1 ∙ ap (λ z. if z then Some c else None) (lt-ltb b.given last_serial (left t b h by)) in
+      (subst (λ o. Plays o b (Requested (Some t)) [] s x.2) called x.3).0
 
-some_size : (size align : ℕ) (hs ks : Heaps) (g : Granted) → Allocates size align hs ks (Ok g) → 1 ≤ size
-some_size size align hs ks g x = elim (cases_eq size 0) [ inl e ↦ absurd (let no = x.empty e in cc) | inr d ↦ omega (arith, d) ]
+  module _ (g : Granted) (y : GrantsBy Call size align hs ks g) (not_new : g.is_new ≡ false) where
+    abbrev k : ℕ
+    k = g.place.heap
 
-pub made_for : (size align : ℕ) (hs ks : Heaps) (g : Granted) (lists : ℕ → Option State) → 1 ≤ align → IsWellFormed hs → ArePlain hs lists → Allocates size align hs ks (Ok g) → g.is_new ≡ true
-    → IsNext size g.place.heap hs × ((j : ℕ) → WouldGrant hs.limits (Asks size align) j (lists j) → ⊥)
-made_for size align hs ks g lists some formed p x new =
-    let y = x.made new in
-    (y.1, none_would size align hs lists (some_size size align hs ks g x) some formed p y.0)
+    now : heap_at k ks ≡ Some y.after
+    now = ap (slot k) (ap (λ (h : Heaps). h.slots) y.heaps) ∙ slot_same hs.slots k (Some y.after) y.number
 
--- the reply of the first list
-module _ (limits : Limits) (k size align : ℕ) (was before after : Guard) (s : State) (h : Handle) (p : IsPlain was s) (formed : view.IsWellFormed was.space) (kind : IsOfKind limits k was) (some : 1 ≤ align) (small' : units_needed size align ≤ max_size)
-    (raised : IsRaisedAsNeeded limits k (blocks_needed align) was before) (step' : Aligns size align before.space after.space (Some h)) (formed' : view.IsWellFormed after.space) where
-  -- under the limit that the heap has then
-  replied : (b : Guard) (t : State) → IsPlain b t → b ≡ before → (step (Asks size align) t).reply ≡ Answer (machine.Grant (t.grants + 1) h.offset)
-  replied b t q e = ap Answer (aligned_agrees b.space (kept_name (handles_of b q.tickets)) t q.shows.formed (well b t q) q.shows.agrees size align some after.space formed' (Some h) (subst (λ (z : Guard). Aligns size align z.space after.space (Some h)) (sym e) step')).answer
+    known : view.IsWellFormed y.after.space
+    known = (subst (IsSoundAt ks.limits k) now (sound_at ks.limits ks.made k (heap_at k ks) (formed'.heaps k))).0
 
-  at_limit : (l m : ℕ) → l ≤ m → (step (Asks size align) (record s { limit = l })).reply ≡ Answer (machine.Grant (s.grants + 1) h.offset)
-      → (step (Asks size align) (record s { limit = m })).reply ≡ Answer (machine.Grant (s.grants + 1) h.offset)
-  at_limit l m most e = ap Answer (ap (λ (o : machine.Outcome). o.answer) (aligned_is (record s { limit = m }) size align some small')
-      ∙ same_under s l m (blocks_needed align) (units_needed size align) size (if nat_le align 1 then (λ offset. 0) else padding_to align) (s.grants + 1) h.offset most
-      (ap (λ (o : machine.Outcome). o.answer) (sym (aligned_is (record s { limit = l }) size align some small')) ∙ answer_of e))
-    where
-      answer_of : {a b : machine.Answer} → Answer a ≡ Answer b → a ≡ b
-      answer_of e = cc
-
-  first_replies : (step (Asks size align) (topped limits k s)).reply ≡ Answer (machine.Grant (s.grants + 1) h.offset)
-  first_replies = ap (λ t. (step (Asks size align) t).reply) (topped_is limits k was s p) ∙ elim raised [
-    | inl up ↦
-        let most : was.space.max_allocs ≤ raised_limit limits was = let l = up.0.1 in omega arith in
-        let q = plain_raised was s p (raised_limit limits was) before most up.1 in
-        at_limit (raised_limit limits was) (top_limit limits k was) (let t = top_usual limits k was up.0.0 in omega arith) (replied before (record s { limit = raised_limit limits was }) q refl)
-    | inr kept ↦ at_limit s.limit (top_limit limits k was) (let e = p.shows.agrees.limit in let t = top_above limits k was kind in omega arith) (replied was s p (sym kept.1))
-  ]
-
-pub found_first : (size align : ℕ) (hs ks : Heaps) (g : Granted) (lists : ℕ → Option State) → 1 ≤ align → IsWellFormed hs → IsWellFormed ks → ArePlain hs lists → Allocates size align hs ks (Ok g) → g.is_new ≡ false
-    → IfSome (lists g.place.heap) (λ s. (step (Asks size align) (topped hs.limits g.place.heap s)).reply ≡ Answer (machine.Grant g.place.serial g.offset))
-    × WouldGrant hs.limits (Asks size align) g.place.heap (lists g.place.heap) × ((j : ℕ) → j < g.place.heap → WouldGrant hs.limits (Asks size align) j (lists j) → ⊥)
-found_first size align hs ks g lists some formed formed' p x not_new =
-    let one = some_size size align hs ks g x in
-    let first = first_would size align hs lists one some formed p g.place.heap (x.found not_new) in
-    (replies x.grants, first.0, first.1)
-  where
-    -- the heap as it was, and as it is now
-    replies : (y : Grants size align hs ks g) → IfSome (lists g.place.heap) (λ s. (step (Asks size align) (topped hs.limits g.place.heap s)).reply ≡ Answer (machine.Grant g.place.serial g.offset))
-    replies y = elim y.heap [
-      | inr n ↦ absurd (true≢false (sym n.0 ∙ not_new))
-      | inl o ↦
-          let was : Guard = o.1.0 in
-          let now : heap_at g.place.heap ks ≡ Some y.after = ap (slot g.place.heap) (ap (λ (h : Heaps). h.slots) y.heaps) ∙ slot_same hs.slots g.place.heap (Some y.after) y.number in
-          let sound = subst (IsSoundAt hs.limits g.place.heap) o.1.1 (sound_at hs.limits hs.made g.place.heap (heap_at g.place.heap hs) (formed.heaps g.place.heap)) in
-          let left = subst (IsSoundAt ks.limits g.place.heap) now (sound_at ks.limits ks.made g.place.heap (heap_at g.place.heap ks) (formed'.heaps g.place.heap)) in
-          there (lists g.place.heap) was y (subst (λ o. IsPlainAt o (lists g.place.heap)) o.1.1 (p g.place.heap)) o.1.1 sound.0 sound.1 o.1.2 left.0
+    there : (l : Option State) (b : GrantsOld (Call (ticket_in g)) hs.limits k (blocks_needed align) (heap_at k hs) y.after) → IsPlainAt (Some b.was) l → IsSoundAt hs.limits k (Some b.was)
+        → IfSome l (λ s. (step c (topped hs.limits k s)).reply ≡ Answer (machine.Grant g.place.serial g.offset))
+    there None b q sound = tt
+    there (Some s) b q sound = ap (λ t. (step c t).reply) (topped_is hs.limits k b.was s q) ∙ elim b.raised [
+      | inl up ↦
+          let most : b.was.space.max_allocs ≤ raised_limit hs.limits b.was = let l = up.0.1 in omega arith in
+          under s (raised_limit hs.limits b.was) (top_limit hs.limits k b.was) g.place.serial g.offset (let t = top_usual hs.limits k b.was up.0.0 in omega arith)
+          (replied (ticket_in g) b.before y.after (record s { limit = raised_limit hs.limits b.was }) (plain_raised b.was s q (raised_limit hs.limits b.was) b.before most up.1) known b.by)
+      | inr kept ↦
+          under s s.limit (top_limit hs.limits k b.was) g.place.serial g.offset (let e = q.shows.agrees.limit in let t = top_above hs.limits k b.was sound.1 in omega arith)
+          (replied (ticket_in g) b.before y.after s (subst (λ z. IsPlain z s) (sym kept.1) q) known b.by)
     ]
-      where
-        there : (l : Option State) (was : Guard) (y : Grants size align hs ks g) → IsPlainAt (Some was) l → heap_at g.place.heap hs ≡ Some was → view.IsWellFormed was.space → IsOfKind hs.limits g.place.heap was
-            → IsRaisedAsNeeded hs.limits g.place.heap (blocks_needed align) was y.before → view.IsWellFormed y.after.space
-            → IfSome l (λ s. (step (Asks size align) (topped hs.limits g.place.heap s)).reply ≡ Answer (machine.Grant g.place.serial g.offset))
-        there None was y q at known kind raised left = tt
-        there (Some s) was y q at known kind raised left =
-            first_replies hs.limits g.place.heap size align was y.before y.after s (guarded.handle_in (ticket_in g)) q known kind some small' raised aligned left
-            ∙ ap (λ n. Answer (machine.Grant n g.offset)) (omega (arith, grants_given was s q, given raised, y.grants.serial))
-          where
-            small' : units_needed size align ≤ max_size
-            small' = small hs.limits g.place.heap was s size align q known kind (some_size size align hs ks g x) some (subst (λ o. units_needed size align ≤ room_of hs.limits g.place.heap (blocks_needed align) o) at (x.found not_new).0)
 
-            aligned : Aligns size align y.before.space y.after.space (Some (guarded.handle_in (ticket_in g)))
-            aligned = elim y.step [
-              | inl a ↦ subst (λ (b : Bool). Aligns size (if b then 1 else align) y.before.space y.after.space (Some (guarded.handle_in (ticket_in g)))) not_new a.1
-              | inr b ↦ absurd (true≢false (sym b.0 ∙ not_new))
-            ]
+    replies : IfSome (lists k) (λ s. (step c (topped hs.limits k s)).reply ≡ Answer (machine.Grant g.place.serial g.offset))
+    replies = elim y.step [
+      | inr n ↦ absurd (true≢false (sym n.0 ∙ not_new))
+      | inl o ↦ there (lists k) o.1 (subst (λ z. IsPlainAt z (lists k)) o.1.heap (p k)) (subst (IsSoundAt hs.limits k) o.1.heap (sound_at hs.limits hs.made k (heap_at k hs) (formed.heaps k)))
+    ]
 
-            given : IsRaisedAsNeeded hs.limits g.place.heap (blocks_needed align) was y.before → y.before.given ≡ was.given
-            given (inl up) = ap (λ (z : Guard). z.given) up.1
-            given (inr kept) = ap (λ (z : Guard). z.given) kept.1
+  refuses : (w : Refusal) → IsWhyBy NoneServes FirstServes size align hs w → 1 ≤ size → (w ≡ Memory → ⊥) → ((j : ℕ) → WouldGrant hs.limits c j (lists j) → ⊥) × ((k : ℕ) → IsNext size k hs → ⊥)
+  refuses Empty y one other = absurd (omega (arith, y, one))
+  refuses TooLarge y one other = (none one y.0.1, λ k n. y.1 (next_may size k hs n))
+  refuses Full y one other = (none one y.0.1, y.2)
+  refuses Memory y one other = absurd (other refl)
+
+  goes : (r : Result Granted Refusal) → AllocatesBy NoneServes FirstServes Call size align hs ks r → GoesToTheFirst c size hs lists r
+  goes (Err why) x = record { found = tt; made = tt; refused = refuses why x.why }
+  goes (Ok g) x =
+      let one : 1 ≤ size = elim (cases_eq size 0) [ inl e ↦ absurd (let no = x.empty e in cc) | inr n ↦ omega (arith, n) ] in
+      record {
+        found = λ not_new. let f = first one g.place.heap (x.found not_new) in (f.0, f.1, replies g x.grants not_new);
+        made = λ new. let m = x.made new in (none one m.0, m.1);
+        refused = tt;
+      }
+
+pub aligned_first : (size align : ℕ) (hs ks : Heaps) (r : Result Granted Refusal) (lists : ℕ → Option State) → 1 ≤ align → IsWellFormed hs → IsWellFormed ks → ArePlain hs lists → Allocates size align hs ks r
+    → GoesToTheFirst (Asks size align) size hs lists r
+aligned_first size align hs ks r lists some formed formed' p x = goes (Asks size align) size align hs ks lists formed formed' p (NoneFits (blocks_needed align) (units_needed size align)) (IsFirstFit (blocks_needed align) (units_needed size align))
+    (λ one none j w. let fits = (would one j).1 w in let less = none j in omega (arith, fits, less))
+    (λ one k first. ((would one k).0 first.0, λ j less w. let fits = (would one j).1 w in let below = first.1 j less in omega (arith, fits, below)))
+    (tickets.Call.Allocate_aligned size align) (λ t g h. tickets.AllocatesAligned size align g h (Some t)) some (λ t g h a. (Some t, refl, a, refl)) (λ t g h a. (a.can_grant.0 refl).0) (λ g o e. e)
+    (λ s l m k o most e. aligned_at s l m size align k o some most e) r x
+  where
+    would : 1 ≤ size → (k : ℕ) → (units_needed size align ≤ room_of hs.limits k (blocks_needed align) (heap_at k hs)) ↔ WouldGrant hs.limits (Asks size align) k (lists k)
+    would one k = would_at hs.limits k size align (heap_at k hs) (lists k) (p k) (sound_at hs.limits hs.made k (heap_at k hs) (formed.heaps k)) one some
+
+pub tight_first : (size align : ℕ) (hs ks : Heaps) (r : Result Granted Refusal) (lists : ℕ → Option State) → 1 ≤ align → IsWellFormed hs → IsWellFormed ks → ArePlain hs lists → AllocatesTight size align hs ks r
+    → GoesToTheFirst (call.AllocateTightAligned size align) size hs lists r
+tight_first size align hs ks r lists some formed formed' p x = goes (call.AllocateTightAligned size align) size align hs ks lists formed formed' p (NoneHolds size align) (IsFirstHolding size align)
+    (λ one none j w. none j ((would one j).1 w))
+    (λ one k first. ((would one k).0 first.0, λ j less w. first.1 j less ((would one j).1 w)))
+    (tickets.Call.Allocate_tight_aligned size align) (λ t g h. tickets.AllocatesTightAligned size align g h (Some t)) some (λ t g h a. (Some t, refl, a, refl)) (λ t g h a. (a.can_hold.0 refl).0) (λ g o e. e)
+    (λ s l m k o most e. tight_at s l m size align k o some most e) r x
+  where
+    would : 1 ≤ size → (k : ℕ) → CanHoldIn hs.limits k size align (heap_at k hs) ↔ WouldGrant hs.limits (call.AllocateTightAligned size align) k (lists k)
+    would one k = hold_at hs.limits k size align (heap_at k hs) (lists k) (p k) (sound_at hs.limits hs.made k (heap_at k hs) (formed.heaps k)) one some

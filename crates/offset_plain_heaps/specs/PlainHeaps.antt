@@ -1,15 +1,19 @@
 -- Many heaps beside plain lists of blocks, one for each heap.
-use Rattle.std.specs.Prelude.{◌≡◌, ℕ, ◌<◌, false, List, [], ◌∷◌, Option, Some, None, nat_lt, if◌then◌else◌}
+use Rattle.std.specs.Prelude.{◌≤◌, IfErr, IfOk, IfSome, Result, ◌≡◌, ℕ, ◌<◌, false, List, [], ◌∷◌, Option, Some, None, nat_lt, if◌then◌else◌, true}
 use Rattle.offset_guarded.specs.Calls.{Event}
 use Rattle.offset_guarded.specs.Calls.Event.{Called, Raised}
 use Rattle.offset_guarded.specs.Guard.{Guard, last_serial}
 use Rattle.offset_script.specs.Machine.{State, start}
-use Rattle.offset_calls.specs.Calls.{step}
+use Rattle.offset_script.specs.Machine as machine
+use Rattle.offset_calls.specs.Calls.{Answer, step}
 use Rattle.offset_calls.specs.PlainLists.{IsCall, IsPlain, Plays, is_no}
 use Rattle.offset_calls.specs.declared.calls.Call.{Call}
-use Rattle.offset_heaps.specs.Heaps.{Heaps, IsNew, heap_at}
+use Rattle.offset_heaps.specs.Heaps.{Heaps, IsNew, IsNext, heap_at}
 use Rattle.offset_heaps.specs.Spaces.{Does}
 use Rattle.offset_heaps.specs.declared.limits.Limits.{Limits}
+use Rattle.offset_heaps.specs.declared.place.Granted.{Granted}
+use Rattle.offset_heaps.specs.declared.refusal.Refusal.{Refusal}
+use Rattle.offset_heaps.specs.declared.refusal.Refusal.TheVariants.{Memory}
 
 -- there is a heap of a number exactly where there is a plain list, and it shows that
 abbrev pub IsPlainAt : Option Guard → Option State → Type 0
@@ -51,3 +55,12 @@ topped limits k s = if nat_lt k limits.most then record s { limit = limits.max_a
 abbrev pub WouldGrant : Limits → Call → ℕ → Option State → Type 0
 WouldGrant limits c k None = ⊥
 WouldGrant limits c k (Some s) = (s.grants < last_serial) × (is_no (step c (topped limits k s)).reply ≡ false)
+
+-- a request, that call of the plain machine, goes to the first list that grants it, with the reply that the list has under that
+-- limit; where none does, to a new heap; and where none may be made either it is refused
+pub record GoesToTheFirst (c : Call) (size : ℕ) (hs : Heaps) (lists : ℕ → Option State) (r : Result Granted Refusal) : Type 0 where
+  pub found : IfOk r (λ g. g.is_new ≡ false → WouldGrant hs.limits c g.place.heap (lists g.place.heap)
+      × ((j : ℕ) → j < g.place.heap → WouldGrant hs.limits c j (lists j) → ⊥)
+      × IfSome (lists g.place.heap) (λ s. (step c (topped hs.limits g.place.heap s)).reply ≡ Answer (machine.Grant g.place.serial g.offset)))
+  pub made : IfOk r (λ g. g.is_new ≡ true → ((j : ℕ) → WouldGrant hs.limits c j (lists j) → ⊥) × IsNext size g.place.heap hs)
+  pub refused : IfErr r (λ why. 1 ≤ size → (why ≡ Memory → ⊥) → ((j : ℕ) → WouldGrant hs.limits c j (lists j) → ⊥) × ((k : ℕ) → IsNext size k hs → ⊥))

@@ -1,26 +1,22 @@
 //! Laws of many heaps and plain lists of blocks. The functions do nothing.
 
-ghost use Rattle.std.specs.Prelude.{◌≡◌, ◌<◌, ◌≤◌, ℕ, Err, IfSome, List, None, Ok, Option, Some, false, true};
+ghost use Rattle.std.specs.Prelude.{◌≡◌, ◌≤◌, ℕ, IfSome, List, Option, Result, Some};
 ghost use Rattle.std.specs.List.{AllByRecursion};
 ghost use Rattle.offset_allocator.specs.Moving.Compacting.{Move};
 ghost use Rattle.offset_guarded.specs.Answers as tickets;
-ghost use Rattle.offset_guarded.specs.Guard.{Guard, last_serial};
-ghost use Rattle.offset_script.specs.Machine as machine;
+ghost use Rattle.offset_guarded.specs.Guard.{Guard};
 ghost use Rattle.offset_script.specs.Machine.{State};
 ghost use Rattle.offset_script.specs.declared.scripts.Command.TheVariants as command;
-ghost use Rattle.offset_calls.specs.Calls as plain;
-ghost use Rattle.offset_calls.specs.Calls.{step};
 ghost use Rattle.offset_calls.specs.PlainLists.{IsCall, IsPlain, Plays};
 ghost use Rattle.offset_calls.specs.declared.calls.Call.{Call as PlainCall};
 ghost use Rattle.offset_calls.specs.declared.calls.Call.TheVariants as call;
-ghost use Rattle.offset_heaps.specs.Calls.{Allocates, AllocatesTight, Call, IsStarved, Reply, Takes, TakesAll, TakesOn};
-ghost use Rattle.offset_heaps.specs.Heaps.{Heaps, IsNext, heap_at};
+ghost use Rattle.offset_heaps.specs.Calls.{Allocates, AllocatesTight, Call, Reply, Takes, TakesAll, TakesOn};
+ghost use Rattle.offset_heaps.specs.Heaps.{Heaps, heap_at};
 ghost use Rattle.offset_heaps.specs.Spaces.{IsValid};
 ghost use Rattle.offset_heaps.specs.State.{IsWellFormed};
 ghost use Rattle.offset_heaps.specs.declared.place.Granted.{Granted};
 ghost use Rattle.offset_heaps.specs.declared.refusal.Refusal.{Refusal};
-ghost use Rattle.offset_heaps.specs.declared.refusal.Refusal.TheVariants.{Memory};
-ghost use Rattle.offset_plain_heaps.specs.PlainHeaps.{ArePlain, GoesOn, WouldGrant, topped};
+ghost use Rattle.offset_plain_heaps.specs.PlainHeaps.{ArePlain, GoesOn, GoesToTheFirst};
 
 /// Many heaps are plain lists of blocks, one for each heap. Whatever call is made, of heaps or on one of them, what is done
 /// in each heap is done in its list, by calls of the plain machine that are answered alike.
@@ -40,22 +36,13 @@ pub fn heaps_are_plain_lists()
         → IsWellFormed hs → ArePlain hs lists → TakesAll hs cs rs ks → (left : ℕ → Option State) × ArePlain ks left }
 {}
 
-/// A request goes to the first plain list that grants it, under the largest node limit that its heap may have. Where none
-/// does, a heap is made for it; and it is refused, but for memory, only where none may be made.
+/// A request goes to the first plain list that grants it, under the largest node limit that its heap may have, and has the
+/// reply of that list. Where none does, a heap is made for it; and it is refused, but for memory, only where none may be made.
 pub fn requests_go_to_the_first_plain_list()
-    ensures found { (size align : ℕ) (hs ks : Heaps) (g : Granted) (lists : ℕ → Option State) → 1 ≤ align → IsWellFormed hs
-        → IsWellFormed ks → ArePlain hs lists → Allocates size align hs ks (Ok g) → g.is_new ≡ false
-        → let c = call.Command (command.Align size align) in
-        let k = g.place.heap in
-        IfSome (lists k) (λ s. (step c (topped hs.limits k s)).reply
-        ≡ plain.Answer (machine.Grant g.place.serial g.offset))
-        × WouldGrant hs.limits c k (lists k) × ((j : ℕ) → j < k → WouldGrant hs.limits c j (lists j) → ⊥) }
-    ensures made { (size align : ℕ) (hs ks : Heaps) (g : Granted) (lists : ℕ → Option State) → 1 ≤ align → IsWellFormed hs
-        → ArePlain hs lists → Allocates size align hs ks (Ok g) → g.is_new ≡ true
-        → IsNext size g.place.heap hs
-        × ((j : ℕ) → WouldGrant hs.limits (call.Command (command.Align size align)) j (lists j) → ⊥) }
-    ensures refused { (size align : ℕ) (hs ks : Heaps) (why : Refusal) (lists : ℕ → Option State) → 1 ≤ size → 1 ≤ align
-        → IsWellFormed hs → ArePlain hs lists → Allocates size align hs ks (Err why) → (why ≡ Memory → ⊥)
-        → ((k : ℕ) → IsNext size k hs → ⊥)
-        × ((j : ℕ) → WouldGrant hs.limits (call.Command (command.Align size align)) j (lists j) → ⊥) }
+    ensures aligned { (size align : ℕ) (hs ks : Heaps) (r : Result Granted Refusal) (lists : ℕ → Option State) → 1 ≤ align
+        → IsWellFormed hs → IsWellFormed ks → ArePlain hs lists → Allocates size align hs ks r
+        → GoesToTheFirst (call.Command (command.Align size align)) size hs lists r }
+    ensures tight { (size align : ℕ) (hs ks : Heaps) (r : Result Granted Refusal) (lists : ℕ → Option State) → 1 ≤ align
+        → IsWellFormed hs → IsWellFormed ks → ArePlain hs lists → AllocatesTight size align hs ks r
+        → GoesToTheFirst (call.AllocateTightAligned size align) size hs lists r }
 {}

@@ -2,7 +2,7 @@
 
 //! Heaps whose space becomes larger in place. It changes one slot, and notes it in the index.
 
-use crate::HeapsOf;
+use crate::{HeapsOf, heap};
 use offset_allocator::Tables;
 use crate::memory::AllocError;
 
@@ -35,9 +35,13 @@ impl<T: Tables> HeapsOf<T> {
         if !self.slots.has(number, &mut self.accesses) {
             return Ok(false);
         }
-        let done = self
-            .slots
-            .extend(self.alloc, number, self.limits, more, &mut self.accesses)?;
+        let done = heap::extend_heap(
+            self.alloc,
+            self.slots.heap_mut(number, &mut self.accesses),
+            number,
+            self.limits,
+            more,
+        )?;
         self.index
             .note(&self.slots, number, self.limits, &mut self.accesses);
         Ok(done)

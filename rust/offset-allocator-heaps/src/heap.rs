@@ -253,8 +253,9 @@ fn raise_for<T: Tables>(
     Ok(())
 }
 
-// Adds units at the end of a heap, whose node limit is raised first where they need that.
-fn extend_heap<T: Tables>(
+/// Adds units at the end of the heap of a number, whose node limit is raised first where they need that, and returns whether
+/// it did.
+pub(crate) fn extend_heap<T: Tables>(
     alloc: Global,
     heap: &mut GuardedOf<T>,
     number: u32,
@@ -266,20 +267,6 @@ fn extend_heap<T: Tables>(
     }
     raise_for(alloc, heap, number, limits, more)?;
     Ok(heap.extend(more))
-}
-
-/// Adds units at the end of the heap of a number, as the function before.
-pub(crate) fn extend_in<T: Tables>(
-    alloc: Global,
-    slot: &mut Option<GuardedOf<T>>,
-    number: u32,
-    limits: Limits,
-    more: u32,
-) -> Result<bool, AllocError> {
-    match slot {
-        Some(heap) => extend_heap(alloc, heap, number, limits, more),
-        None => unreachable!(),
-    }
 }
 
 // Slides live ranges of a heap to the front of its space by its step, and returns whether it was done.

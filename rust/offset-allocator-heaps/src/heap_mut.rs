@@ -85,6 +85,19 @@ fn retract_to<T: Tables>(heap: &mut GuardedOf<T>, least: u32, less: u32) -> bool
     heap.retract(less)
 }
 
+// A call of tickets on the heap, which is noted in the index; its result.
+macro_rules! in_heap {
+    ($of:ident.$call:ident($($argument:expr),*)) => {{
+        let heaps = &mut *$of.heaps;
+        let result = heaps
+            .slots
+            .heap_mut($of.number, &mut heaps.accesses)
+            .$call($($argument),*);
+        heaps.index.note(&heaps.slots, $of.number, heaps.limits, &mut heaps.accesses);
+        result
+    }};
+}
+
 impl<T: Tables> HeapMut<'_, T> {
     /// The number of the heap.
     ///
@@ -134,13 +147,7 @@ impl<T: Tables> HeapMut<'_, T> {
     /// # Ok::<(), AllocError>(())
     /// ```
     pub fn allocate(&mut self, size: u32) -> Option<Ticket> {
-        let heaps = &mut *self.heaps;
-        let result = heaps
-            .slots
-            .heap_mut(self.number, &mut heaps.accesses)
-            .allocate(size);
-        heaps.index.note(&heaps.slots, self.number, heaps.limits, &mut heaps.accesses);
-        result
+        in_heap!(self.allocate(size))
     }
 
     /// As `GuardedOf::allocate_aligned` in this heap, at an alignment from 1 on, which is taken into the step of the heap.
@@ -164,13 +171,7 @@ impl<T: Tables> HeapMut<'_, T> {
     #[track_caller]
     pub fn allocate_aligned(&mut self, size: u32, align: u32) -> Option<Ticket> {
         assert!(1 <= align, "the alignment must be at least 1");
-        let heaps = &mut *self.heaps;
-        let result = heaps
-            .slots
-            .heap_mut(self.number, &mut heaps.accesses)
-            .allocate_aligned(size, align);
-        heaps.index.note(&heaps.slots, self.number, heaps.limits, &mut heaps.accesses);
-        result
+        in_heap!(self.allocate_aligned(size, align))
     }
 
     /// As `GuardedOf::free` in this heap.
@@ -186,13 +187,7 @@ impl<T: Tables> HeapMut<'_, T> {
     /// # Ok::<(), AllocError>(())
     /// ```
     pub fn free(&mut self, ticket: Ticket) -> bool {
-        let heaps = &mut *self.heaps;
-        let result = heaps
-            .slots
-            .heap_mut(self.number, &mut heaps.accesses)
-            .free(ticket);
-        heaps.index.note(&heaps.slots, self.number, heaps.limits, &mut heaps.accesses);
-        result
+        in_heap!(self.free(ticket))
     }
 
     /// As `GuardedOf::allocate_tight` in this heap.
@@ -210,13 +205,7 @@ impl<T: Tables> HeapMut<'_, T> {
     /// # Ok::<(), AllocError>(())
     /// ```
     pub fn allocate_tight(&mut self, size: u32) -> Option<Ticket> {
-        let heaps = &mut *self.heaps;
-        let result = heaps
-            .slots
-            .heap_mut(self.number, &mut heaps.accesses)
-            .allocate_tight(size);
-        heaps.index.note(&heaps.slots, self.number, heaps.limits, &mut heaps.accesses);
-        result
+        in_heap!(self.allocate_tight(size))
     }
 
     /// As `GuardedOf::allocate_tight_aligned` in this heap, at an alignment from 1 on, which is taken into the step of the heap.
@@ -240,13 +229,7 @@ impl<T: Tables> HeapMut<'_, T> {
     #[track_caller]
     pub fn allocate_tight_aligned(&mut self, size: u32, align: u32) -> Option<Ticket> {
         assert!(1 <= align, "the alignment must be at least 1");
-        let heaps = &mut *self.heaps;
-        let result = heaps
-            .slots
-            .heap_mut(self.number, &mut heaps.accesses)
-            .allocate_tight_aligned(size, align);
-        heaps.index.note(&heaps.slots, self.number, heaps.limits, &mut heaps.accesses);
-        result
+        in_heap!(self.allocate_tight_aligned(size, align))
     }
 
     /// As `GuardedOf::allocate_at` in this heap: the units from an offset on, where they are free.
@@ -264,13 +247,7 @@ impl<T: Tables> HeapMut<'_, T> {
     /// # Ok::<(), AllocError>(())
     /// ```
     pub fn allocate_at(&mut self, offset: u32, size: u32) -> Option<Ticket> {
-        let heaps = &mut *self.heaps;
-        let result = heaps
-            .slots
-            .heap_mut(self.number, &mut heaps.accesses)
-            .allocate_at(offset, size);
-        heaps.index.note(&heaps.slots, self.number, heaps.limits, &mut heaps.accesses);
-        result
+        in_heap!(self.allocate_at(offset, size))
     }
 
     /// As `GuardedOf::shrink` in this heap.
@@ -288,13 +265,7 @@ impl<T: Tables> HeapMut<'_, T> {
     /// # Ok::<(), AllocError>(())
     /// ```
     pub fn shrink(&mut self, ticket: Ticket, size: u32) -> Option<bool> {
-        let heaps = &mut *self.heaps;
-        let result = heaps
-            .slots
-            .heap_mut(self.number, &mut heaps.accesses)
-            .shrink(ticket, size);
-        heaps.index.note(&heaps.slots, self.number, heaps.limits, &mut heaps.accesses);
-        result
+        in_heap!(self.shrink(ticket, size))
     }
 
     /// As `GuardedOf::grow_in_place` in this heap.
@@ -312,13 +283,7 @@ impl<T: Tables> HeapMut<'_, T> {
     /// # Ok::<(), AllocError>(())
     /// ```
     pub fn grow_in_place(&mut self, ticket: Ticket, size: u32) -> Option<bool> {
-        let heaps = &mut *self.heaps;
-        let result = heaps
-            .slots
-            .heap_mut(self.number, &mut heaps.accesses)
-            .grow_in_place(ticket, size);
-        heaps.index.note(&heaps.slots, self.number, heaps.limits, &mut heaps.accesses);
-        result
+        in_heap!(self.grow_in_place(ticket, size))
     }
 
     /// As `GuardedOf::relocate` in this heap: a second range before the first one, which keeps every alignment. `relocate` of
@@ -339,13 +304,7 @@ impl<T: Tables> HeapMut<'_, T> {
     /// # Ok::<(), AllocError>(())
     /// ```
     pub fn relocate(&mut self, ticket: Ticket) -> Option<Ticket> {
-        let heaps = &mut *self.heaps;
-        let result = heaps
-            .slots
-            .heap_mut(self.number, &mut heaps.accesses)
-            .relocate(ticket);
-        heaps.index.note(&heaps.slots, self.number, heaps.limits, &mut heaps.accesses);
-        result
+        in_heap!(self.relocate(ticket))
     }
 
     /// As `GuardedOf::relocate_aligned` in this heap, at an alignment from 1 on.
@@ -371,13 +330,7 @@ impl<T: Tables> HeapMut<'_, T> {
     #[track_caller]
     pub fn relocate_aligned(&mut self, ticket: Ticket, align: u32) -> Option<Ticket> {
         assert!(1 <= align, "the alignment must be at least 1");
-        let heaps = &mut *self.heaps;
-        let result = heaps
-            .slots
-            .heap_mut(self.number, &mut heaps.accesses)
-            .relocate_aligned(ticket, align);
-        heaps.index.note(&heaps.slots, self.number, heaps.limits, &mut heaps.accesses);
-        result
+        in_heap!(self.relocate_aligned(ticket, align))
     }
 
     /// As `GuardedOf::relocate_unaligned` in this heap: **the second range keeps no alignment**; that of [`relocate`](Self::relocate) keeps all.
@@ -397,13 +350,7 @@ impl<T: Tables> HeapMut<'_, T> {
     /// # Ok::<(), AllocError>(())
     /// ```
     pub fn relocate_unaligned(&mut self, ticket: Ticket) -> Option<Ticket> {
-        let heaps = &mut *self.heaps;
-        let result = heaps
-            .slots
-            .heap_mut(self.number, &mut heaps.accesses)
-            .relocate_unaligned(ticket);
-        heaps.index.note(&heaps.slots, self.number, heaps.limits, &mut heaps.accesses);
-        result
+        in_heap!(self.relocate_unaligned(ticket))
     }
 
     /// As `GuardedOf::compact` in this heap: **each range keeps every alignment that was asked for**.
@@ -423,13 +370,7 @@ impl<T: Tables> HeapMut<'_, T> {
     /// # Ok::<(), AllocError>(())
     /// ```
     pub fn compact<F: FnMut(Move<T::Index>)>(&mut self, mut moved: F) -> bool {
-        let heaps = &mut *self.heaps;
-        let result = heaps
-            .slots
-            .heap_mut(self.number, &mut heaps.accesses)
-            .compact(&mut moved);
-        heaps.index.note(&heaps.slots, self.number, heaps.limits, &mut heaps.accesses);
-        result
+        in_heap!(self.compact(&mut moved))
     }
 
     /// As `GuardedOf::compact_by` in this heap: each range keeps its alignment where that divides `step`, from 1 on.
@@ -455,13 +396,7 @@ impl<T: Tables> HeapMut<'_, T> {
     #[track_caller]
     pub fn compact_by<F: FnMut(Move<T::Index>)>(&mut self, step: u32, mut moved: F) -> bool {
         assert!(1 <= step, "the step must be at least 1");
-        let heaps = &mut *self.heaps;
-        let result = heaps
-            .slots
-            .heap_mut(self.number, &mut heaps.accesses)
-            .compact_by(step, &mut moved);
-        heaps.index.note(&heaps.slots, self.number, heaps.limits, &mut heaps.accesses);
-        result
+        in_heap!(self.compact_by(step, &mut moved))
     }
 
     /// As `GuardedOf::compact_unaligned` in this heap: **a moved range keeps no alignment**; [`compact`](Self::compact) keeps all.
@@ -481,12 +416,7 @@ impl<T: Tables> HeapMut<'_, T> {
     /// # Ok::<(), AllocError>(())
     /// ```
     pub fn compact_unaligned<F: FnMut(Move<T::Index>)>(&mut self, mut moved: F) {
-        let heaps = &mut *self.heaps;
-        heaps
-            .slots
-            .heap_mut(self.number, &mut heaps.accesses)
-            .compact_unaligned(&mut moved);
-        heaps.index.note(&heaps.slots, self.number, heaps.limits, &mut heaps.accesses);
+        in_heap!(self.compact_unaligned(&mut moved))
     }
 
     /// As `GuardedOf::compact_within` in this heap: a compaction over several frames, in which **each range keeps every
@@ -515,13 +445,7 @@ impl<T: Tables> HeapMut<'_, T> {
         most_ranges: u32,
         mut moved: F,
     ) -> Option<Progress> {
-        let heaps = &mut *self.heaps;
-        let result = heaps
-            .slots
-            .heap_mut(self.number, &mut heaps.accesses)
-            .compact_within(from, most_units, most_ranges, &mut moved);
-        heaps.index.note(&heaps.slots, self.number, heaps.limits, &mut heaps.accesses);
-        result
+        in_heap!(self.compact_within(from, most_units, most_ranges, &mut moved))
     }
 
     /// As `GuardedOf::compact_within_by` in this heap, by a step from 1 on.
@@ -555,13 +479,7 @@ impl<T: Tables> HeapMut<'_, T> {
         mut moved: F,
     ) -> Option<Progress> {
         assert!(1 <= step, "the step must be at least 1");
-        let heaps = &mut *self.heaps;
-        let result = heaps
-            .slots
-            .heap_mut(self.number, &mut heaps.accesses)
-            .compact_within_by(step, from, most_units, most_ranges, &mut moved);
-        heaps.index.note(&heaps.slots, self.number, heaps.limits, &mut heaps.accesses);
-        result
+        in_heap!(self.compact_within_by(step, from, most_units, most_ranges, &mut moved))
     }
 
     /// As `GuardedOf::make_room` in this heap: **each range that moves keeps every alignment that was asked for**.
@@ -620,13 +538,7 @@ impl<T: Tables> HeapMut<'_, T> {
         mut moved: F,
     ) -> Option<RoomCost> {
         assert!(1 <= align, "the alignment must be at least 1");
-        let heaps = &mut *self.heaps;
-        let result = heaps
-            .slots
-            .heap_mut(self.number, &mut heaps.accesses)
-            .make_room_aligned(size, align, &mut moved);
-        heaps.index.note(&heaps.slots, self.number, heaps.limits, &mut heaps.accesses);
-        result
+        in_heap!(self.make_room_aligned(size, align, &mut moved))
     }
 
     /// As `GuardedOf::make_room_by` in this heap, for an alignment and by a step from 1 on.
@@ -660,13 +572,7 @@ impl<T: Tables> HeapMut<'_, T> {
     ) -> Option<RoomCost> {
         assert!(1 <= align, "the alignment must be at least 1");
         assert!(1 <= step, "the step must be at least 1");
-        let heaps = &mut *self.heaps;
-        let result = heaps
-            .slots
-            .heap_mut(self.number, &mut heaps.accesses)
-            .make_room_by(size, align, step, &mut moved);
-        heaps.index.note(&heaps.slots, self.number, heaps.limits, &mut heaps.accesses);
-        result
+        in_heap!(self.make_room_by(size, align, step, &mut moved))
     }
 
     /// As `GuardedOf::make_room_unaligned` in this heap: **a moved range keeps no alignment**; [`make_room_aligned`](Self::make_room_aligned) keeps all.
@@ -691,13 +597,7 @@ impl<T: Tables> HeapMut<'_, T> {
         size: u32,
         mut moved: F,
     ) -> Option<RoomCost> {
-        let heaps = &mut *self.heaps;
-        let result = heaps
-            .slots
-            .heap_mut(self.number, &mut heaps.accesses)
-            .make_room_unaligned(size, &mut moved);
-        heaps.index.note(&heaps.slots, self.number, heaps.limits, &mut heaps.accesses);
-        result
+        in_heap!(self.make_room_unaligned(size, &mut moved))
     }
 
     /// As `GuardedOf::extend` in this heap. `extend_heap` of [`Heaps`](crate::Heaps) raises its node limit too, where that is needed.
@@ -715,13 +615,7 @@ impl<T: Tables> HeapMut<'_, T> {
     /// # Ok::<(), AllocError>(())
     /// ```
     pub fn extend(&mut self, more: u32) -> bool {
-        let heaps = &mut *self.heaps;
-        let result = heaps
-            .slots
-            .heap_mut(self.number, &mut heaps.accesses)
-            .extend(more);
-        heaps.index.note(&heaps.slots, self.number, heaps.limits, &mut heaps.accesses);
-        result
+        in_heap!(self.extend(more))
     }
 
     /// As `GuardedOf::retract` in this heap, where it leaves the heap its least units: those that the limits give its number,
@@ -777,12 +671,7 @@ impl<T: Tables> HeapMut<'_, T> {
     #[track_caller]
     pub fn raise_step(&mut self, align: u32) {
         assert!(1 <= align, "the alignment must be at least 1");
-        let heaps = &mut *self.heaps;
-        heaps
-            .slots
-            .heap_mut(self.number, &mut heaps.accesses)
-            .raise_step(align);
-        heaps.index.note(&heaps.slots, self.number, heaps.limits, &mut heaps.accesses);
+        in_heap!(self.raise_step(align))
     }
 
     /// As `GuardedOf::reset` in this heap.
@@ -798,11 +687,6 @@ impl<T: Tables> HeapMut<'_, T> {
     /// # Ok::<(), AllocError>(())
     /// ```
     pub fn reset(&mut self) {
-        let heaps = &mut *self.heaps;
-        heaps
-            .slots
-            .heap_mut(self.number, &mut heaps.accesses)
-            .reset();
-        heaps.index.note(&heaps.slots, self.number, heaps.limits, &mut heaps.accesses);
+        in_heap!(self.reset())
     }
 }

@@ -3,7 +3,7 @@
 //! The heaps by their numbers: no other module finds one. Each function counts the slots that it touches or lends.
 
 use crate::heap::{
-    alignment_in, compact_numbered_in, extend_in, free_in, grant_in, grant_tight_aligned_in, holds,
+    alignment_in, compact_numbered_in, free_in, grant_in, grant_tight_aligned_in, holds,
     is_empty_heap, is_fuller, must_raise, raise_in, reset_in, room_at, units_for,
 };
 use crate::limits::Limits;
@@ -162,26 +162,6 @@ impl<T: Tables> Slots<T> {
             return false;
         }
         free_in(&mut self.heaps[number as usize], ticket)
-    }
-
-    /// Adds units at the end of the heap of a number, whose node limit is raised first where they need that, and
-    /// returns whether it did.
-    pub(crate) fn extend(
-        &mut self,
-        alloc: Global,
-        number: u32,
-        limits: Limits,
-        more: u32,
-        count: &mut Accesses,
-    ) -> Result<bool, AllocError> {
-        count.tick();
-        extend_in(
-            alloc,
-            &mut self.heaps[number as usize],
-            number,
-            limits,
-            more,
-        )
     }
 
     /// Slides live ranges of the heap of a number to the front of its space by its step, where there is one, and returns

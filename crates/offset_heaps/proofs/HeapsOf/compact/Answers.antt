@@ -1,25 +1,11 @@
-use Rattle.std.proofs.Common.{◌≡◌, ◌+◌, ◌*◌, ◌≤◌, ◌^◌, ◌∙◌, ap, arith, length, mul-le-mul_left, subst, sym, refl}
-use Rattle.offset_heaps.specs.Heaps.{slot}
-use Rattle.offset_heaps.proofs.{Alignments.compacts_keep, Compacted.kind_compacted, Compacted.realm_compacted, Compacted.sizes_compacted, Places.shown}
+use Rattle.std.proofs.Common.{◌≡◌, ◌+◌, ◌*◌, ◌≤◌, ◌^◌, ap, arith, length, mul-le-mul_left, subst, sym, refl}
+use Rattle.offset_heaps.proofs.{Alignments.compacts_keep, Compacted.sizes_compacted, Limited.compact_limited, Limited.sound_levels, Places.shown}
 use Rattle.offset_heaps.proofs.HeapsOf.compact.Goals as goal
 
 pub invariant_of-self : goal.invariant_of-self
 invariant_of-self g c =
     let all = c.compact_all.ensures in
-    let is = c.self.invariant in
-    record {
-      wide = all.wide;
-      noted = all.noted;
-      numbers = all.len ∙ is.numbers;
-      few = rw all.len is.few;
-      low = λ bits enough. rw all.levels (is.low bits (subst (λ n. n ≤ 2 ^ bits) all.len enough));
-      limit_min = is.limit_min;
-      limit_max = is.limit_max;
-      limit_first = is.limit_first;
-      size_first = is.size_first;
-      realms = λ k. realm_compacted c.self.inside.made (slot k c.self.inside.slots) (slot k c.compact_all.new.slots) (all.done k) (is.realms k);
-      kinds = λ k. kind_compacted c.self.inside.limits k (slot k c.self.inside.slots) (slot k c.compact_all.new.slots) (all.done k) (is.kinds k);
-    }
+    sound_levels _ _ _ _ _ _ _ c.self.invariant all.len all.wide all.noted all.levels (λ k. compact_limited _ _ (all.done k))
 
 pub returns-clause-sizes : goal.returns-clause-sizes
 returns-clause-sizes g c =

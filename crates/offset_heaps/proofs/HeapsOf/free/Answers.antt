@@ -1,10 +1,10 @@
-use Rattle.std.proofs.Common.{refl, arith, sym, subst, ap, ◌∙◌}
+use Rattle.std.proofs.Common.{true, refl, sym, subst, ap, ◌∙◌}
 use Rattle.std.proofs.lemmas.Bool.{false≢true}
-use Rattle.offset_allocator.specs.View.{View}
-use Rattle.offset_guarded.specs.Guard.{Guard}
+use Rattle.offset_guarded.specs.Answers as tickets
 use Rattle.offset_heaps.specs.Heaps.{Heaps, IsLive}
-use Rattle.offset_heaps.proofs.Places.{freed_gone, freed_others, freed_step, live_place, live_ticket, not_live_elsewhere, other_realm, same_slots, shown}
-use Rattle.offset_heaps.proofs.Sound.{kind_kept, realm_kept, sound_put, wide_put}
+use Rattle.offset_heaps.specs.Places.{ticket_of}
+use Rattle.offset_heaps.proofs.Places.{live_place, live_ticket, not_live_elsewhere, other_realm, same_slots, shown}
+use Rattle.offset_heaps.proofs.{Changes.altered, Changes.freed_gone, Changes.freed_others, Limited.frees, Limited.sound_altered, Sound.wide_put}
 use Rattle.offset_heaps.proofs.HeapsOf.free.Goals as goal
 
 pub returns-then-realm-self-clause-done : goal.returns-then-realm-self-clause-done
@@ -40,15 +40,8 @@ note-requires-clause-wide g c =
 
 pub invariant_of-self-2 : goal.invariant_of-self-2
 invariant_of-self-2 g c =
-    let there = c.free.ensures.there c.if-not-free.false in
     let change = c.free.ensures.change c.if-not-free.false in
-    let by = change.by.2 in
-    let e = change.slots in
-    let below = realm_kept c.self.inside.made _ change.now by.before by.after by.was by.is (ap (λ (a : Guard). a.realm) by.serials) (c.self.invariant.realms c.split-number.result.0) in
-    let kind = kind_kept c.self.inside.limits c.split-number.result.0 _ change.now by.before by.after by.was by.is (ap (λ (v : View). v.size) by.step.view) (ap (λ (v : View). v.max_allocs) by.step.view)
-    (c.self.invariant.kinds c.split-number.result.0) in
-    rw e (sound_put g.T.Index.NodeIndex.MAX c.self.inside.slots c.self.inside.limits c.self.inside.made c.self.inside.made c.self.inside.index c.note.new.self c.split-number.result.0 change.now
-    c.self.invariant (omega arith) below kind there (rw e at c.note.ensures.wide) (rw e at c.note.ensures.here) (rw e at c.note.ensures.others) c.note.ensures.levels)
+    sound_altered _ _ _ _ _ _ _ _ _ c.self.invariant change (frees _ _ _ _ change.by.by) c.note.ensures.wide c.note.ensures.here c.note.ensures.others c.note.ensures.levels
 
 pub returns-clause-done : goal.returns-clause-done
 returns-clause-done g c = (
@@ -58,20 +51,22 @@ returns-clause-done g c = (
 )
 
 pub returns-clause-gone : goal.returns-clause-gone
-returns-clause-gone g c = freed_gone c.args.place
-    (shown c.self.inside.slots c.self.inside.limits c.self.inside.made c.self.inside.realm c.self.inside.accesses)
-    (shown c.free.new.self c.self.inside.limits c.self.inside.made c.self.inside.realm c.note.new.count) (rw c.split-number.ensures at (c.free.ensures.there c.if-not-free.false))
-    (rw c.split-number.ensures at (c.free.ensures.change c.if-not-free.false)) refl
+returns-clause-gone g c =
+    let old = shown c.self.inside.slots c.self.inside.limits c.self.inside.made c.self.inside.realm c.self.inside.accesses in
+    let new = shown c.free.new.self c.self.inside.limits c.self.inside.made c.self.inside.realm c.note.new.count in
+    let a = altered c.args.place.heap (λ g h. tickets.Frees (ticket_of c.args.place) g h true) old new (rw c.split-number.ensures at (c.free.ensures.change c.if-not-free.false)) refl in
+    freed_gone c.args.place old new (rw c.split-number.ensures at c.if-realm-self.false) a
 
 pub returns-clause-others : goal.returns-clause-others
-returns-clause-others g c = rw (← c.self.view_is)
-    (freed_others c.args.place
-    (shown c.self.inside.slots c.self.inside.limits c.self.inside.made c.self.inside.realm c.self.inside.accesses)
-    (shown c.free.new.self c.self.inside.limits c.self.inside.made c.self.inside.realm c.note.new.count) (rw c.split-number.ensures at (c.free.ensures.there c.if-not-free.false))
-    (rw c.split-number.ensures at (c.free.ensures.change c.if-not-free.false)) refl (rw c.split-number.ensures at c.if-realm-self.false))
+returns-clause-others g c =
+    let old = shown c.self.inside.slots c.self.inside.limits c.self.inside.made c.self.inside.realm c.self.inside.accesses in
+    let new = shown c.free.new.self c.self.inside.limits c.self.inside.made c.self.inside.realm c.note.new.count in
+    let a = altered c.args.place.heap (λ g h. tickets.Frees (ticket_of c.args.place) g h true) old new (rw c.split-number.ensures at (c.free.ensures.change c.if-not-free.false)) refl in
+    rw (← c.self.view_is) (freed_others c.args.place old new (rw c.split-number.ensures at c.if-realm-self.false) a)
 
 pub returns-clause-step : goal.returns-clause-step
-returns-clause-step g c e = rw (← c.self.view_is) (freed_step c.args.place
-    (shown c.self.inside.slots c.self.inside.limits c.self.inside.made c.self.inside.realm c.self.inside.accesses)
-    (shown c.free.new.self c.self.inside.limits c.self.inside.made c.self.inside.realm c.note.new.count) (rw c.split-number.ensures at (c.free.ensures.there c.if-not-free.false))
-    (rw c.split-number.ensures at (c.free.ensures.change c.if-not-free.false)) refl)
+returns-clause-step g c e =
+    let old = shown c.self.inside.slots c.self.inside.limits c.self.inside.made c.self.inside.realm c.self.inside.accesses in
+    let new = shown c.free.new.self c.self.inside.limits c.self.inside.made c.self.inside.realm c.note.new.count in
+    let a = altered c.args.place.heap (λ g h. tickets.Frees (ticket_of c.args.place) g h true) old new (rw c.split-number.ensures at (c.free.ensures.change c.if-not-free.false)) refl in
+    rw (← c.self.view_is) a

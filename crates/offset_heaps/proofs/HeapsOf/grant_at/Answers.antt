@@ -1,7 +1,8 @@
-use Rattle.std.proofs.Common.{◌<◌, ◌≤◌, length, max, ap, arith, subst, sym}
-use Rattle.offset_allocator.specs.{Requests.blocks_needed, Requests.units_needed, View.View}
+use Rattle.std.proofs.Common.{Some, ◌<◌, ◌≤◌, length, max, ap, arith, subst, sym}
+use Rattle.offset_allocator.specs.{Requests.blocks_needed, Requests.units_needed}
+use Rattle.offset_guarded.specs.Answers as tickets
 use Rattle.offset_heaps.specs.Heaps.{Heaps, MustRaiseIn, room_of, slot}
-use Rattle.offset_heaps.proofs.{Finding.levels, Grants.granted_at, Rooms.room_now, Sound.kind_kept, Sound.realm_kept, Sound.sound_put}
+use Rattle.offset_heaps.proofs.{Finding.levels, Grants.granted_at, Limited.asks_aligned, Limited.sound_altered, Rooms.room_now}
 use Rattle.offset_heaps.proofs.HeapsOf.grant_at.Goals as goal
 
 pub grant-ticket-requires-clause-room : goal.grant-ticket-requires-clause-room
@@ -12,22 +13,15 @@ grant-ticket-requires-clause-room g c =
 
 pub invariant_of-self : goal.invariant_of-self
 invariant_of-self g c =
-    let there : c.args.number < length c.self.inside.slots = let l = c.requires.there in let e = ap (λ (h : Heaps). length h.slots) c.self.view_is in omega arith in
     let change = c.grant-ticket.ensures.grants in
-    let by = change.by in
-    let e = change.slots in
-    let below = realm_kept c.self.inside.made (slot c.args.number c.self.inside.slots) change.now by.before by.after by.was by.is by.grants.realm.1 (c.self.invariant.realms c.args.number) in
-    let kind = kind_kept c.self.inside.limits c.args.number (slot c.args.number c.self.inside.slots) change.now by.before by.after by.was by.is
-    (ap (λ (v : View). v.size) by.step.1.view) (ap (λ (v : View). v.max_allocs) by.step.1.view) (c.self.invariant.kinds c.args.number) in
-    rw e (sound_put g.T.Index.NodeIndex.MAX c.self.inside.slots c.self.inside.limits c.self.inside.made c.self.inside.made c.self.inside.index c.note.new.self c.args.number change.now
-    c.self.invariant (omega arith) below kind there (rw e at c.note.ensures.wide) (rw e at c.note.ensures.here) (rw e at c.note.ensures.others) c.note.ensures.levels)
+    sound_altered _ _ _ _ _ _ _ _ _ c.self.invariant change (asks_aligned _ _ _ _ _ change.by.by) c.note.ensures.wide c.note.ensures.here c.note.ensures.others c.note.ensures.levels
 
 pub returns-clause-grants : goal.returns-clause-grants
 returns-clause-grants g c =
     let there : c.args.number < length c.self.inside.slots = let l = c.requires.there in let e = ap (λ (h : Heaps). length h.slots) c.self.view_is in omega arith in
     let stays = subst (λ (h : Heaps). MustRaiseIn h.limits c.args.number (blocks_needed c.args.align) (slot c.args.number h.slots) → ⊥) (sym c.self.view_is) c.requires.stays in
-    rw (c.of.ensures, ← c.self.view_is) (granted_at c.self.inside.slots c.grant-ticket.new.self c.self.inside.limits c.self.inside.made c.self.inside.realm c.self.inside.accesses c.note.new.count
-    c.args.number c.args.size c.args.align c.grant-ticket.result there stays c.grant-ticket.ensures.grants)
+    rw (c.of.ensures, ← c.self.view_is) (granted_at (λ t g h. tickets.AllocatesAligned c.args.size c.args.align g h (Some t)) c.args.size c.args.align c.self.inside.slots c.grant-ticket.new.self c.self.inside.limits c.self.inside.made
+    c.self.inside.realm c.self.inside.accesses c.note.new.count c.args.number c.grant-ticket.result there stays c.grant-ticket.ensures.grants)
 
 pub returns-clause-accesses : goal.returns-clause-accesses
 returns-clause-accesses g c bits enough =

@@ -1,12 +1,12 @@
 use Rattle.std.proofs.Common.{IsSome, refl, subst, sym}
+use Rattle.offset_allocator.specs.Reporting.Walking as Walking
 use Rattle.offset_heaps.specs.Heaps.{heap_at}
-use Rattle.offset_heaps.specs.Places.{ticket_of}
-use Rattle.offset_heaps.proofs.LivePlaces.{before_of, none_of}
+use Rattle.offset_heaps.proofs.LivePlaces.{found_of, none_of}
 use Rattle.offset_heaps.proofs.HeapsOf.live_before.Goals as goal
 
 pub returns-in-Some-clause-before : goal.returns-in-Some-clause-before
 returns-in-Some-clause-before g c live =
-    before_of c.args.place.heap c.args.self.now.realm (ticket_of c.args.place) c.in-Some.guarded.now (heap_at c.args.place.heap c.args.self.now) c.live_before.result c.place_at.result
+    found_of (Walking.live_before c.args.place.name) c.args.place.heap c.args.self.now.realm c.in-Some.guarded.now (heap_at c.args.place.heap c.args.self.now) c.live_before.result c.place_at.result
     (sym (c.in-Some.ensures.heap refl)) ((rw c.split-number.ensures at c.live_before.ensures.before) (subst IsSome c.in-Some.ensures.range live)) (rw c.split-number.ensures at c.place_at.ensures)
 
 pub returns-in-Some-clause-not_live : goal.returns-in-Some-clause-not_live

@@ -1,4 +1,5 @@
-use Rattle.std.proofs.Common.{ap, arith, refl, subst, sym}
+use Rattle.std.proofs.Common.{Some, ap, arith, refl, subst, sym}
+use Rattle.offset_guarded.specs.Answers as tickets
 use Rattle.offset_heaps.specs.{Heaps.Heaps, Heaps.Grants, Heaps.numbers, Relocating.IsTaker}
 use Rattle.offset_heaps.proofs.{Grants.granted_since, Grants.not_live_before, Grants.others_kept, Grants.range_granted, Places.shown, Takers.size_here, Takers.takes_range, Takers.takes_units}
 use Rattle.offset_heaps.proofs.HeapsOf.relocate_aligned.Goals as goal
@@ -46,28 +47,28 @@ returns-clause-grants g c =
     rw (← c.self.view_is)
     (subst (λ n. Grants n c.args.align old c.grant_at.new.self c.grant_at.result)
     (size_here c.args.place c.args.align old c.in_ok-size.size c.in_ok-size.live (rw c.split-own.ensures at c.if-realm-self.false) (rw c.split-own.ensures at c.in_ok-size.ensures.units) (rw c.split-own.ensures at c.in_ok-size.ensures.all))
-    (granted_since c.in_ok-size.size c.args.align old c.taker.new.self c.grant_at.new.self c.grant_at.result c.taker.ensures.same c.grant_at.ensures.grants))
+    (granted_since (λ t g h. tickets.AllocatesAligned c.in_ok-size.size c.args.align g h (Some t)) c.in_ok-size.size c.args.align old c.taker.new.self c.grant_at.new.self c.grant_at.result c.taker.ensures.same c.grant_at.ensures.grants))
 
 pub returns-clause-not_live : goal.returns-clause-not_live
 returns-clause-not_live g c =
     let old = shown c.self.inside.slots c.self.inside.limits c.self.inside.made c.self.inside.realm c.self.inside.accesses in
     rw (← c.self.view_is)
-    (not_live_before c.in_ok-size.size c.args.align old c.grant_at.new.self c.grant_at.result
-    (granted_since c.in_ok-size.size c.args.align old c.taker.new.self c.grant_at.new.self c.grant_at.result c.taker.ensures.same c.grant_at.ensures.grants))
+    (not_live_before (λ t g h. tickets.AllocatesAligned c.in_ok-size.size c.args.align g h (Some t)) c.in_ok-size.size c.args.align (λ t g h a. a.request) old c.grant_at.new.self c.grant_at.result
+    (granted_since (λ t g h. tickets.AllocatesAligned c.in_ok-size.size c.args.align g h (Some t)) c.in_ok-size.size c.args.align old c.taker.new.self c.grant_at.new.self c.grant_at.result c.taker.ensures.same c.grant_at.ensures.grants))
 
 pub returns-clause-range : goal.returns-clause-range
 returns-clause-range g c =
     let old = shown c.self.inside.slots c.self.inside.limits c.self.inside.made c.self.inside.realm c.self.inside.accesses in
     rw (← c.self.view_is, ← size_here c.args.place c.args.align old c.in_ok-size.size c.in_ok-size.live (rw c.split-own.ensures at c.if-realm-self.false) (rw c.split-own.ensures at c.in_ok-size.ensures.units) (rw c.split-own.ensures at c.in_ok-size.ensures.all))
-    (range_granted c.in_ok-size.size c.args.align old c.grant_at.new.self c.grant_at.result
-    (granted_since c.in_ok-size.size c.args.align old c.taker.new.self c.grant_at.new.self c.grant_at.result c.taker.ensures.same c.grant_at.ensures.grants))
+    (range_granted (λ t g h. tickets.AllocatesAligned c.in_ok-size.size c.args.align g h (Some t)) c.in_ok-size.size c.args.align (λ t g h a. a.request) old c.grant_at.new.self c.grant_at.result
+    (granted_since (λ t g h. tickets.AllocatesAligned c.in_ok-size.size c.args.align g h (Some t)) c.in_ok-size.size c.args.align old c.taker.new.self c.grant_at.new.self c.grant_at.result c.taker.ensures.same c.grant_at.ensures.grants))
 
 pub returns-clause-others : goal.returns-clause-others
 returns-clause-others g c =
     let old = shown c.self.inside.slots c.self.inside.limits c.self.inside.made c.self.inside.realm c.self.inside.accesses in
     rw (← c.self.view_is)
-    (others_kept c.in_ok-size.size c.args.align old c.grant_at.new.self c.grant_at.result
-    (granted_since c.in_ok-size.size c.args.align old c.taker.new.self c.grant_at.new.self c.grant_at.result c.taker.ensures.same c.grant_at.ensures.grants))
+    (others_kept (λ t g h. tickets.AllocatesAligned c.in_ok-size.size c.args.align g h (Some t)) c.in_ok-size.size c.args.align (λ t g h a. a.request) old c.grant_at.new.self c.grant_at.result
+    (granted_since (λ t g h. tickets.AllocatesAligned c.in_ok-size.size c.args.align g h (Some t)) c.in_ok-size.size c.args.align old c.taker.new.self c.grant_at.new.self c.grant_at.result c.taker.ensures.same c.grant_at.ensures.grants))
 
 pub returns-clause-accesses : goal.returns-clause-accesses
 returns-clause-accesses g c bits enough =

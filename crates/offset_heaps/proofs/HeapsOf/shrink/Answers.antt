@@ -1,64 +1,29 @@
-use Rattle.std.proofs.Common.{Some, refl, slice_set}
+use Rattle.std.proofs.Common.{refl}
 use Rattle.offset_allocator.specs.Resizing as resize
 use Rattle.offset_guarded.specs.Answers as tickets
-use Rattle.offset_guarded.specs.Guard.{Guard}
 use Rattle.offset_heaps.proofs.Changes.{put, resized_kept, resized_not, resized_others, resized_refused}
-use Rattle.offset_heaps.proofs.Limited.{sound_changed, resized, shrunk}
-use Rattle.offset_heaps.proofs.Places.{shown}
+use Rattle.offset_heaps.proofs.Limited.{sound_changed, shrinks}
 use Rattle.offset_heaps.proofs.HeapsOf.shrink.Goals as goal
 
 pub invariant_of-self-2 : goal.invariant_of-self-2
-invariant_of-self-2 g c =
-    let before : Guard = c.heap_mut.result.now in
-    let after : Guard = c.shrink-result.new.self in
-    let by = c.shrink-result.ensures in
-    let limited = resized before after c.shrink-result.result by.not_live by.serials (shrunk _ c.args.size before.space after.space c.shrink-result.result by.step) in
-    sound_changed g.T.Index.NodeIndex.MAX c.self.inside.slots c.self.inside.limits c.self.inside.made c.self.inside.index c.note.new.self _ before after c.self.invariant
-    c.heap_mut.ensures.heap limited c.note.ensures.wide c.note.ensures.here c.note.ensures.others c.note.ensures.levels
+invariant_of-self-2 g c = sound_changed _ _ _ _ _ _ _ _ _ c.self.invariant c.heap_mut.ensures.heap (shrinks _ _ _ _ _ c.shrink-result.ensures)
+    c.note.ensures.wide c.note.ensures.here c.note.ensures.others c.note.ensures.levels
 
 pub returns-clause-step : goal.returns-clause-step
-returns-clause-step g c =
-    let a = rw (c.in_ok-number.ensures.heap, c.in_ok-number.ensures.ticket) at
-    (put (λ x y. tickets.Shrinks c.in_ok-number.ticket c.args.size x y c.shrink-result.result) c.in_ok-number.number c.self.inside.slots c.self.inside.limits c.self.inside.made c.self.inside.realm c.self.inside.accesses c.note.new.count
-    c.heap_mut.result.now c.shrink-result.new.self c.heap_mut.ensures.heap c.shrink-result.ensures) in
-    rw (← c.self.view_is, c.in_ok-number.ensures.heap) (λ some. a)
+returns-clause-step g c = rw (← c.self.view_is, c.in_ok-number.ensures.heap) (λ some. rw (c.in_ok-number.ensures.heap, c.in_ok-number.ensures.ticket) at (put (λ x y. tickets.Shrinks c.in_ok-number.ticket c.args.size x y c.shrink-result.result) c.in_ok-number.number c.self.inside.slots c.self.inside.limits c.self.inside.made c.self.inside.realm c.self.inside.accesses c.note.new.count _ _ c.heap_mut.ensures.heap c.shrink-result.ensures))
 
 pub returns-clause-others : goal.returns-clause-others
-returns-clause-others g c =
-    let old = shown c.self.inside.slots c.self.inside.limits c.self.inside.made c.self.inside.realm c.self.inside.accesses in
-    let new = shown (slice_set c.self.inside.slots c.args.place.heap (Some c.shrink-result.new.self)) c.self.inside.limits c.self.inside.made c.self.inside.realm c.note.new.count in
-    let own = rw (← c.self.view_is) at (c.in_ok-number.ensures.own.0 refl) in
-    let a = rw (c.in_ok-number.ensures.heap, c.in_ok-number.ensures.ticket) at
-    (put (λ x y. tickets.Shrinks c.in_ok-number.ticket c.args.size x y c.shrink-result.result) c.in_ok-number.number c.self.inside.slots c.self.inside.limits c.self.inside.made c.self.inside.realm c.self.inside.accesses c.note.new.count
-    c.heap_mut.result.now c.shrink-result.new.self c.heap_mut.ensures.heap c.shrink-result.ensures) in
-    rw (← c.self.view_is, c.in_ok-number.ensures.heap) (resized_others c.args.place c.args.size (resize.CanShrink c.args.place.name c.args.size) (resize.Shrinks c.args.place.name c.args.size) old new c.shrink-result.result own a)
+returns-clause-others g c = rw (← c.self.view_is, c.in_ok-number.ensures.heap) (resized_others c.args.place c.args.size (resize.CanShrink c.args.place.name c.args.size) (resize.Shrinks c.args.place.name c.args.size) _ _ c.shrink-result.result (rw (← c.self.view_is) at (c.in_ok-number.ensures.own.0 refl))
+    (rw (c.in_ok-number.ensures.heap, c.in_ok-number.ensures.ticket) at (put (λ x y. tickets.Shrinks c.in_ok-number.ticket c.args.size x y c.shrink-result.result) c.in_ok-number.number c.self.inside.slots c.self.inside.limits c.self.inside.made c.self.inside.realm c.self.inside.accesses c.note.new.count _ _ c.heap_mut.ensures.heap c.shrink-result.ensures)))
 
 pub returns-clause-kept : goal.returns-clause-kept
-returns-clause-kept g c =
-    let old = shown c.self.inside.slots c.self.inside.limits c.self.inside.made c.self.inside.realm c.self.inside.accesses in
-    let new = shown (slice_set c.self.inside.slots c.args.place.heap (Some c.shrink-result.new.self)) c.self.inside.limits c.self.inside.made c.self.inside.realm c.note.new.count in
-    let own = rw (← c.self.view_is) at (c.in_ok-number.ensures.own.0 refl) in
-    let a = rw (c.in_ok-number.ensures.heap, c.in_ok-number.ensures.ticket) at
-    (put (λ x y. tickets.Shrinks c.in_ok-number.ticket c.args.size x y c.shrink-result.result) c.in_ok-number.number c.self.inside.slots c.self.inside.limits c.self.inside.made c.self.inside.realm c.self.inside.accesses c.note.new.count
-    c.heap_mut.result.now c.shrink-result.new.self c.heap_mut.ensures.heap c.shrink-result.ensures) in
-    rw (← c.self.view_is, c.in_ok-number.ensures.heap) (resized_kept c.args.place c.args.size (resize.CanShrink c.args.place.name c.args.size) (resize.Shrinks c.args.place.name c.args.size) old new c.shrink-result.result own a)
+returns-clause-kept g c = rw (← c.self.view_is, c.in_ok-number.ensures.heap) (resized_kept c.args.place c.args.size (resize.CanShrink c.args.place.name c.args.size) (resize.Shrinks c.args.place.name c.args.size) _ _ c.shrink-result.result (rw (← c.self.view_is) at (c.in_ok-number.ensures.own.0 refl))
+    (rw (c.in_ok-number.ensures.heap, c.in_ok-number.ensures.ticket) at (put (λ x y. tickets.Shrinks c.in_ok-number.ticket c.args.size x y c.shrink-result.result) c.in_ok-number.number c.self.inside.slots c.self.inside.limits c.self.inside.made c.self.inside.realm c.self.inside.accesses c.note.new.count _ _ c.heap_mut.ensures.heap c.shrink-result.ensures)))
 
 pub returns-clause-refused : goal.returns-clause-refused
-returns-clause-refused g c =
-    let old = shown c.self.inside.slots c.self.inside.limits c.self.inside.made c.self.inside.realm c.self.inside.accesses in
-    let new = shown (slice_set c.self.inside.slots c.args.place.heap (Some c.shrink-result.new.self)) c.self.inside.limits c.self.inside.made c.self.inside.realm c.note.new.count in
-    let own = rw (← c.self.view_is) at (c.in_ok-number.ensures.own.0 refl) in
-    let a = rw (c.in_ok-number.ensures.heap, c.in_ok-number.ensures.ticket) at
-    (put (λ x y. tickets.Shrinks c.in_ok-number.ticket c.args.size x y c.shrink-result.result) c.in_ok-number.number c.self.inside.slots c.self.inside.limits c.self.inside.made c.self.inside.realm c.self.inside.accesses c.note.new.count
-    c.heap_mut.result.now c.shrink-result.new.self c.heap_mut.ensures.heap c.shrink-result.ensures) in
-    rw (← c.self.view_is, c.in_ok-number.ensures.heap) (resized_refused c.args.place c.args.size (resize.CanShrink c.args.place.name c.args.size) (resize.Shrinks c.args.place.name c.args.size) old new c.shrink-result.result own a)
+returns-clause-refused g c = rw (← c.self.view_is, c.in_ok-number.ensures.heap) (resized_refused c.args.place c.args.size (resize.CanShrink c.args.place.name c.args.size) (resize.Shrinks c.args.place.name c.args.size) _ _ c.shrink-result.result (rw (← c.self.view_is) at (c.in_ok-number.ensures.own.0 refl))
+    (rw (c.in_ok-number.ensures.heap, c.in_ok-number.ensures.ticket) at (put (λ x y. tickets.Shrinks c.in_ok-number.ticket c.args.size x y c.shrink-result.result) c.in_ok-number.number c.self.inside.slots c.self.inside.limits c.self.inside.made c.self.inside.realm c.self.inside.accesses c.note.new.count _ _ c.heap_mut.ensures.heap c.shrink-result.ensures)))
 
 pub returns-clause-not_live : goal.returns-clause-not_live
-returns-clause-not_live g c =
-    let old = shown c.self.inside.slots c.self.inside.limits c.self.inside.made c.self.inside.realm c.self.inside.accesses in
-    let new = shown (slice_set c.self.inside.slots c.args.place.heap (Some c.shrink-result.new.self)) c.self.inside.limits c.self.inside.made c.self.inside.realm c.note.new.count in
-    let own = rw (← c.self.view_is) at (c.in_ok-number.ensures.own.0 refl) in
-    let a = rw (c.in_ok-number.ensures.heap, c.in_ok-number.ensures.ticket) at
-    (put (λ x y. tickets.Shrinks c.in_ok-number.ticket c.args.size x y c.shrink-result.result) c.in_ok-number.number c.self.inside.slots c.self.inside.limits c.self.inside.made c.self.inside.realm c.self.inside.accesses c.note.new.count
-    c.heap_mut.result.now c.shrink-result.new.self c.heap_mut.ensures.heap c.shrink-result.ensures) in
-    rw (← c.self.view_is, c.in_ok-number.ensures.heap) (resized_not c.args.place c.args.size (resize.CanShrink c.args.place.name c.args.size) (resize.Shrinks c.args.place.name c.args.size) old new c.shrink-result.result own a)
+returns-clause-not_live g c = rw (← c.self.view_is, c.in_ok-number.ensures.heap) (resized_not c.args.place c.args.size (resize.CanShrink c.args.place.name c.args.size) (resize.Shrinks c.args.place.name c.args.size) _ _ c.shrink-result.result (rw (← c.self.view_is) at (c.in_ok-number.ensures.own.0 refl))
+    (rw (c.in_ok-number.ensures.heap, c.in_ok-number.ensures.ticket) at (put (λ x y. tickets.Shrinks c.in_ok-number.ticket c.args.size x y c.shrink-result.result) c.in_ok-number.number c.self.inside.slots c.self.inside.limits c.self.inside.made c.self.inside.realm c.self.inside.accesses c.note.new.count _ _ c.heap_mut.ensures.heap c.shrink-result.ensures)))

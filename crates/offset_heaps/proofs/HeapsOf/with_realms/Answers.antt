@@ -2,13 +2,14 @@ use Rattle.std.proofs.Common.{◌≡◌, ◌+◌, ◌≤◌, ◌^◌, ◌∙◌,
 use Rattle.std.proofs.lemmas.Bool.{cases_lt}
 use Rattle.std.proofs.lemmas.List.{length-replicate}
 use Rattle.offset_guarded.specs.Guard.{Guard}
-use Rattle.offset_heaps.proofs.Sound.{empty_slot, noted_more, started}
+use Rattle.offset_heaps.proofs.Sound.{empty_slot, noted_more, started_at}
 use Rattle.offset_heaps.proofs.HeapsOf.with_realms.Goals as goal
 
 pub loop-number-init : goal.loop-number-init
 loop-number-init g c =
-    let begun = started c.args.limits (c.args.limits.most + c.args.limits.most_larger) (2 ^ c.in_ok-index.index.one.height) c.in_ok-slots.slots c.in_ok-index.index c.in_ok-slots.ensures refl
-    c.in_ok-index.ensures.room c.in_ok-index.ensures.one c.in_ok-index.ensures.two c.in_ok-index.ensures.spare c.in_ok-index.ensures.empty in
+    let long : length c.in_ok-slots.slots ≡ c.args.limits.most + c.args.limits.most_larger = ap length c.in_ok-slots.ensures ∙ length-replicate {A = Option Guard} (c.args.limits.most + c.args.limits.most_larger) None in
+    let begun = started_at c.args.limits (2 ^ c.in_ok-index.index.one.height) c.in_ok-slots.slots c.in_ok-index.index long c.in_ok-index.ensures.room c.in_ok-index.ensures.one c.in_ok-index.ensures.two
+    c.in_ok-index.ensures.spare c.in_ok-index.ensures.empty in
     record {
       wide = begun.0;
       noted = λ k within. elim within [ inl l ↦ absurd (omega arith) | inr past ↦ begun.1 k past ];

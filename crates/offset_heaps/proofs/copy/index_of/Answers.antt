@@ -1,5 +1,5 @@
 use Rattle.std.proofs.Common.{◌+◌, ◌^◌, ◌∙◌, arith, inl, inr, refl}
-use Rattle.offset_heaps.proofs.{Sound.noted_more, States.started_at}
+use Rattle.offset_heaps.proofs.{Sound.noted_more, Sound.started_at}
 use Rattle.offset_heaps.proofs.copy.index_of.Goals as goal
 
 pub loop-number-init : goal.loop-number-init

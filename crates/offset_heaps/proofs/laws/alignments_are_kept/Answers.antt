@@ -1,7 +1,8 @@
 use Rattle.std.proofs.Math.Nat.{dvd_of_mod-eq-zero, dvd_trans}
 use Rattle.std.proofs.Common.{Some}
+use Rattle.offset_guarded.specs.Answers as tickets
 use Rattle.offset_guarded.specs.Answers.{Aligns, Requests}
-use Rattle.offset_heaps.proofs.Alignments.{lasts, lasts_in, lasts_tight, step_keeps}
+use Rattle.offset_heaps.proofs.Alignments.{lasts, lasts_in, step_keeps}
 use Rattle.offset_heaps.proofs.Spaces as space
 use Rattle.offset_heaps.proofs.laws.alignments_are_kept.Goals as goal
 
@@ -9,10 +10,10 @@ pub returns-clause-step : goal.returns-clause-step
 returns-clause-step c = step_keeps
 
 pub returns-clause-lasts : goal.returns-clause-lasts
-returns-clause-lasts c = lasts
+returns-clause-lasts c size align = lasts (λ t g h. tickets.AllocatesAligned size align g h (Some t)) size align (λ t g h a. a.request) (λ t g h a. a.aligns)
 
 pub returns-clause-lasts_tight : goal.returns-clause-lasts_tight
-returns-clause-lasts_tight c = lasts_tight
+returns-clause-lasts_tight c size align = lasts (λ t g h. tickets.AllocatesTightAligned size align g h (Some t)) size align (λ t g h a. a.request) (λ t g h a. a.aligns)
 
 pub returns-clause-relocated : goal.returns-clause-relocated
 returns-clause-relocated c p align a hs own d o = own.2 a o d

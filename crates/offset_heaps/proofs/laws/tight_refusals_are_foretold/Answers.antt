@@ -1,5 +1,5 @@
-use Rattle.offset_heaps.proofs.Foretold.{tight_foretold}
+use Rattle.offset_heaps.proofs.{Finders.holds, Foretold.foretold}
 use Rattle.offset_heaps.proofs.laws.tight_refusals_are_foretold.Goals as goal
 
 pub returns : goal.returns
-returns c = tight_foretold
+returns c size align = foretold (holds size align) size align

@@ -1,11 +1,8 @@
-use Rattle.offset_plain_heaps.proofs.FirstLists.{found_first, made_for, refused_everywhere}
+use Rattle.offset_plain_heaps.proofs.FirstLists.{aligned_first, tight_first}
 use Rattle.offset_plain_heaps.proofs.laws.requests_go_to_the_first_plain_list.Goals as goal
 
-pub returns-clause-found : goal.returns-clause-found
-returns-clause-found l = found_first
+pub returns-clause-aligned : goal.returns-clause-aligned
+returns-clause-aligned l = aligned_first
 
-pub returns-clause-made : goal.returns-clause-made
-returns-clause-made l = made_for
-
-pub returns-clause-refused : goal.returns-clause-refused
-returns-clause-refused l = refused_everywhere
+pub returns-clause-tight : goal.returns-clause-tight
+returns-clause-tight l = tight_first

@@ -1,11 +1,6 @@
-use Rattle.offset_guarded.specs.Guard.{Guard}
-use Rattle.offset_heaps.proofs.Limited.{sound_changed, requested, tight}
+use Rattle.offset_heaps.proofs.Limited.{sound_changed, asks_tight_aligned}
 use Rattle.offset_heaps.proofs.heap_mut.HeapMut.allocate_tight_aligned.Goals as goal
 
 pub invariant_of-heaps : goal.invariant_of-heaps
-invariant_of-heaps g c =
-    let before : Guard = c.heap_mut.result.now in
-    let after : Guard = c.allocate_tight_aligned-result.new.self in
-    let limited = requested c.args.size before after c.allocate_tight_aligned-result.result c.allocate_tight_aligned-result.ensures.request.same c.allocate_tight_aligned-result.ensures.request.grants (λ some. tight c.args.size c.args.align before.space after.space _ (c.allocate_tight_aligned-result.ensures.step (c.allocate_tight_aligned-result.ensures.can_hold.0 some).0)) in
-    sound_changed g.T.Index.NodeIndex.MAX c.heaps.inside.slots c.heaps.inside.limits c.heaps.inside.made c.heaps.inside.index c.note.new.self c.args.self.now.number before after c.heaps.invariant
-    c.heap_mut.ensures.heap limited c.note.ensures.wide c.note.ensures.here c.note.ensures.others c.note.ensures.levels
+invariant_of-heaps g c = sound_changed _ _ _ _ _ _ _ _ _ c.heaps.invariant c.heap_mut.ensures.heap (asks_tight_aligned _ _ _ _ _ c.allocate_tight_aligned-result.ensures)
+    c.note.ensures.wide c.note.ensures.here c.note.ensures.others c.note.ensures.levels

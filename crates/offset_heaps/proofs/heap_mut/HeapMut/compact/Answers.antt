@@ -1,11 +1,6 @@
-use Rattle.offset_guarded.specs.Guard.{Guard}
-use Rattle.offset_heaps.proofs.Limited.{sound_changed, by_step, compacts_by}
+use Rattle.offset_heaps.proofs.Limited.{sound_changed, compacts}
 use Rattle.offset_heaps.proofs.heap_mut.HeapMut.compact.Goals as goal
 
 pub invariant_of-heaps : goal.invariant_of-heaps
-invariant_of-heaps g c =
-    let before : Guard = c.heap_mut.result.now in
-    let after : Guard = c.compact-result.new.self in
-    let limited = by_step before after (λ e. (c.compact-result.ensures.none e).1) c.compact-result.ensures.serials (λ some. compacts_by before.step before.space after.space c.compact-result.result (c.compact-result.ensures.step some)) in
-    sound_changed g.T.Index.NodeIndex.MAX c.heaps.inside.slots c.heaps.inside.limits c.heaps.inside.made c.heaps.inside.index c.note.new.self c.args.self.now.number before after c.heaps.invariant
-    c.heap_mut.ensures.heap limited c.note.ensures.wide c.note.ensures.here c.note.ensures.others c.note.ensures.levels
+invariant_of-heaps g c = sound_changed _ _ _ _ _ _ _ _ _ c.heaps.invariant c.heap_mut.ensures.heap (compacts _ _ _ _ _ _ c.compact-result.ensures)
+    c.note.ensures.wide c.note.ensures.here c.note.ensures.others c.note.ensures.levels

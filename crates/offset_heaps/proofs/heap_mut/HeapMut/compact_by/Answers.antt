@@ -1,11 +1,6 @@
-use Rattle.offset_guarded.specs.Guard.{Guard}
-use Rattle.offset_heaps.proofs.Limited.{sound_changed, kept, compacts_by}
+use Rattle.offset_heaps.proofs.Limited.{sound_changed, compacts_by}
 use Rattle.offset_heaps.proofs.heap_mut.HeapMut.compact_by.Goals as goal
 
 pub invariant_of-heaps : goal.invariant_of-heaps
-invariant_of-heaps g c =
-    let before : Guard = c.heap_mut.result.now in
-    let after : Guard = c.compact_by-result.new.self in
-    let limited = kept before after c.compact_by-result.ensures.serials (compacts_by c.args.step before.space after.space c.compact_by-result.result c.compact_by-result.ensures.step) in
-    sound_changed g.T.Index.NodeIndex.MAX c.heaps.inside.slots c.heaps.inside.limits c.heaps.inside.made c.heaps.inside.index c.note.new.self c.args.self.now.number before after c.heaps.invariant
-    c.heap_mut.ensures.heap limited c.note.ensures.wide c.note.ensures.here c.note.ensures.others c.note.ensures.levels
+invariant_of-heaps g c = sound_changed _ _ _ _ _ _ _ _ _ c.heaps.invariant c.heap_mut.ensures.heap (compacts_by _ _ _ _ _ _ _ c.compact_by-result.ensures)
+    c.note.ensures.wide c.note.ensures.here c.note.ensures.others c.note.ensures.levels

@@ -1,11 +1,6 @@
-use Rattle.offset_guarded.specs.Guard.{Guard}
-use Rattle.offset_heaps.proofs.Limited.{sound_changed, by_step, within}
+use Rattle.offset_heaps.proofs.Limited.{sound_changed, within}
 use Rattle.offset_heaps.proofs.heap_mut.HeapMut.compact_within.Goals as goal
 
 pub invariant_of-heaps : goal.invariant_of-heaps
-invariant_of-heaps g c =
-    let before : Guard = c.heap_mut.result.now in
-    let after : Guard = c.compact_within-result.new.self in
-    let limited = by_step before after (λ e. (c.compact_within-result.ensures.none e).1) c.compact_within-result.ensures.serials (λ some. within _ before.step c.args.from c.args.most_units c.args.most_ranges before.space _ c.compact_within-result.result after.space _ (c.compact_within-result.ensures.step some)) in
-    sound_changed g.T.Index.NodeIndex.MAX c.heaps.inside.slots c.heaps.inside.limits c.heaps.inside.made c.heaps.inside.index c.note.new.self c.args.self.now.number before after c.heaps.invariant
-    c.heap_mut.ensures.heap limited c.note.ensures.wide c.note.ensures.here c.note.ensures.others c.note.ensures.levels
+invariant_of-heaps g c = sound_changed _ _ _ _ _ _ _ _ _ c.heaps.invariant c.heap_mut.ensures.heap (within _ _ _ _ _ _ _ _ _ c.compact_within-result.ensures)
+    c.note.ensures.wide c.note.ensures.here c.note.ensures.others c.note.ensures.levels

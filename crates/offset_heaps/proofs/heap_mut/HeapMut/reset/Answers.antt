@@ -1,11 +1,6 @@
-use Rattle.offset_guarded.specs.Guard.{Guard}
-use Rattle.offset_heaps.proofs.Limited.{sound_changed, was_reset}
+use Rattle.offset_heaps.proofs.Limited.{sound_changed, resets}
 use Rattle.offset_heaps.proofs.heap_mut.HeapMut.reset.Goals as goal
 
 pub invariant_of-heaps : goal.invariant_of-heaps
-invariant_of-heaps g c =
-    let before : Guard = c.heap_mut.result.now in
-    let after : Guard = c.reset.new.self in
-    let limited = was_reset before after c.reset.ensures.serials c.reset.ensures.step in
-    sound_changed g.T.Index.NodeIndex.MAX c.heaps.inside.slots c.heaps.inside.limits c.heaps.inside.made c.heaps.inside.index c.note.new.self c.args.self.now.number before after c.heaps.invariant
-    c.heap_mut.ensures.heap limited c.note.ensures.wide c.note.ensures.here c.note.ensures.others c.note.ensures.levels
+invariant_of-heaps g c = sound_changed _ _ _ _ _ _ _ _ _ c.heaps.invariant c.heap_mut.ensures.heap (resets _ _ c.reset-result.ensures)
+    c.note.ensures.wide c.note.ensures.here c.note.ensures.others c.note.ensures.levels

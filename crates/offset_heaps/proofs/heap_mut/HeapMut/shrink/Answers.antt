@@ -1,11 +1,6 @@
-use Rattle.offset_guarded.specs.Guard.{Guard}
-use Rattle.offset_heaps.proofs.Limited.{sound_changed, resized, shrunk}
+use Rattle.offset_heaps.proofs.Limited.{sound_changed, shrinks}
 use Rattle.offset_heaps.proofs.heap_mut.HeapMut.shrink.Goals as goal
 
 pub invariant_of-heaps : goal.invariant_of-heaps
-invariant_of-heaps g c =
-    let before : Guard = c.heap_mut.result.now in
-    let after : Guard = c.shrink-result.new.self in
-    let limited = resized before after c.shrink-result.result c.shrink-result.ensures.not_live c.shrink-result.ensures.serials (shrunk c.args.ticket.name c.args.size before.space after.space c.shrink-result.result c.shrink-result.ensures.step) in
-    sound_changed g.T.Index.NodeIndex.MAX c.heaps.inside.slots c.heaps.inside.limits c.heaps.inside.made c.heaps.inside.index c.note.new.self c.args.self.now.number before after c.heaps.invariant
-    c.heap_mut.ensures.heap limited c.note.ensures.wide c.note.ensures.here c.note.ensures.others c.note.ensures.levels
+invariant_of-heaps g c = sound_changed _ _ _ _ _ _ _ _ _ c.heaps.invariant c.heap_mut.ensures.heap (shrinks _ _ _ _ _ c.shrink-result.ensures)
+    c.note.ensures.wide c.note.ensures.here c.note.ensures.others c.note.ensures.levels
