@@ -91,6 +91,7 @@ impl Index {
     }
 
     /// The first number whose heap has room for a request of these units at a multiple of `align`.
+    #[inline]
     pub(crate) fn first_fit(&self, units: u64, align: u32, count: &mut Accesses) -> Option<u32>
         requires { 1 ≤ units }
         ensures one { align ≡ 1 → IsFirst units self.now.one.keys result }

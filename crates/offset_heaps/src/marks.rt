@@ -58,6 +58,7 @@ impl Marks {
     }
 
     /// Marks a number, or takes its mark away.
+    #[inline]
     pub(crate) fn set(&mut self, at: u32, mark: bool, count: &mut Accesses)
         requires { at < length self.old.keys }
         ensures keys { self.new.keys ≡ slice_set self.old.keys at (if mark then 1 else 0) }

@@ -69,6 +69,7 @@ pub(crate) fn is_empty_heap<T: Tables>(heap: Option<&GuardedOf<T>>) -> bool {
 }
 
 /// Whether the node limit of the heap of a number has to be raised for a call that may add `blocks` blocks.
+#[inline]
 pub(crate) fn must_raise<T: Tables>(
     heap: &GuardedOf<T>,
     number: u32,
@@ -97,6 +98,7 @@ fn double_limit<T: Tables>(
 }
 
 // Doubles the node limit of the heap of a number, where it has to be raised for `blocks` more blocks.
+#[inline]
 fn raise_heap<T: Tables>(
     alloc: Global,
     heap: &mut GuardedOf<T>,
@@ -111,6 +113,7 @@ fn raise_heap<T: Tables>(
 }
 
 /// The same, where the number has a heap.
+#[inline]
 pub(crate) fn raise_in<T: Tables>(
     alloc: Global,
     slot: &mut Option<GuardedOf<T>>,
@@ -206,7 +209,8 @@ pub(crate) fn holds<T: Tables>(
     offset_allocator::laws::has_block_for_counted(space, size, align, &mut Accesses::new())
 }
 
-/// Frees the range of a ticket, where it is live.
+/// Frees the range of a ticket, where it is live. It is out of line, so that the code around it has more registers.
+#[inline(never)]
 pub(crate) fn free_in<T: Tables>(slot: &mut Option<GuardedOf<T>>, ticket: Ticket) -> bool {
     match slot {
         Some(heap) => heap.free(ticket),

@@ -67,6 +67,7 @@ impl Index {
     }
 
     /// The first number whose heap has room for a request of these units at a multiple of `align`.
+    #[inline]
     pub(crate) fn first_fit(&self, units: u64, align: u32, count: &mut Accesses) -> Option<u32> {
         if align == 1 {
             self.one.first_at_least(units, count)

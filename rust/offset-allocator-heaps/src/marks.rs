@@ -34,6 +34,7 @@ impl Marks {
     }
 
     /// Marks a number, or takes its mark away.
+    #[inline]
     pub(crate) fn set(&mut self, at: u32, mark: bool, count: &mut Accesses) {
         let key = if mark { 1 } else { 0 };
         let was = self.row.set(at, key, count);

@@ -60,6 +60,7 @@ impl Maxima {
     }
 
     /// The first number whose key is at least `least`, or `None` where there is none.
+    #[inline]
     pub(crate) fn first_at_least(&self, least: u64, count: &mut Accesses) -> Option<u32> {
         if (read(&self.cells, 1, count) as u64) < least {
             return None;
@@ -89,7 +90,9 @@ impl Maxima {
         Some((last - self.cells.len() / 2) as u32)
     }
 
-    /// Writes the key of a number, and returns the one that it had.
+    /// Writes the key of a number, and returns the one that it had. It is inlined, since most keys stay: out of
+    /// line a step takes about a tenth more instructions by `release`.
+    #[inline]
     pub(crate) fn set(&mut self, at: u32, key: u32, count: &mut Accesses) -> u32 {
         let mut place = self.cells.len() / 2 + at as usize;
         let was = read(&self.cells, place, count);
