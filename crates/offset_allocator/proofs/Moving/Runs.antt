@@ -1,4 +1,4 @@
--- Runs of blocks, as a walk back from the last block meets them.
+-- Runs of blocks: what they cost, and where one is large enough.
 use Rattle.offset_allocator.proofs.{Classes.down_law, Taken.HasFit, Tallies.tally_append, Tallies.free_sum}
 use Rattle.offset_allocator.proofs.{Joints.free_units-append}
 use Rattle.offset_allocator.proofs.{Common.ends_used, Common.one}

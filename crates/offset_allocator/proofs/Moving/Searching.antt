@@ -270,7 +270,7 @@ abbrev pub IsBest : Bool → ℕ → ℕ → ℕ → List Block → List Block �
 IsBest back s want short front bs None = (front ≡ []) × HasNone s want short (front ++ bs)
 IsBest back s want short front bs (Some r) = IsKnown back s want short front bs r
 
--- one block alone is a run where it is free
+-- a block that is not enough alone is no run that serves
 pub alone_none : (s want short : ℕ) (b : Block) → (b.used ≡ false → want ≤ b.size → short ≤ 1 → ⊥) → HasNone s want short (b ∷ [])
 alone_none s want short b alone run r h = elim (new_or_old run [] b r) [
   | inl q ↦ no_run run q
@@ -286,7 +286,7 @@ not_empty : (pre : List Block) (z : Block) (zs : List Block) → pre ++ z ∷ zs
 not_empty [] z zs e = absurd (cc)
 not_empty (p ∷ pre) z zs e = absurd (cc)
 
--- one more block makes no run that serves, but for those of all blocks
+-- where runs that serve begin with the first block alone, they do so with one more block too
 pub none_turn : (s want short : ℕ) (b : Block) (bs : List Block) → HasNone s want short (drop 1 bs)
     → ((x : Block) (l : List Block) → bs ≡ x ∷ l → b.used ≡ false → Serves s want short (l ++ b ∷ []) → ⊥) → HasNone s want short (drop 1 (bs ++ b ∷ []))
 none_turn s want short b [] t k run r h = no_run run r

@@ -68,7 +68,7 @@ IsBetter back (Some k) found r =
     ((r ≡ k) × IsAtMost k.cost found.cost × (back ≡ false → IsLess k.cost found.cost))
     ⊎ ((r ≡ found) × IsAtMost found.cost k.cost × (back ≡ true → IsLess found.cost k.cost))
 
--- a run as it lies in space, of which the first block is the last one on a way that goes back
+-- a run as it lies in space: its first block is the last one on a way that goes back
 abbrev pub in_space : Bool → Option Run → Option Run
 in_space back None = None
 in_space back (Some r) = Some (if back then record { first = r.end; end = r.first; cost = r.cost } else r)
