@@ -37,8 +37,8 @@ abbrev pub FollowsAll : Guard → State → List Event → Guard → State → T
 FollowsAll g s [] h t = (h ≡ g) × (t ≡ s)
 FollowsAll g s (e ∷ es) h t = (now : Guard) × (u : State) × Does e g now × Follows e g s u × FollowsAll now u es h t
 
--- what a number has after a call: no heap and no list; what it had, after these events; or, where it had none, a new heap and
--- one free block, after these events
+-- what a number has after a call: no heap and no list; what it had, after some events; or, where it had none, a new heap and
+-- one free block, after some events. Which calls are made, and when a heap is dropped, is in the contract of each call
 abbrev pub GoesOn : Option Guard → Option State → Option Guard → Option State → Type 0
 GoesOn g s None t = Unit {0}
 GoesOn None s (Some h) (Some t) = (size : ℕ) × (limit : ℕ) × (realm : ℕ) × (fresh : Guard) × IsNew size limit realm fresh
@@ -56,8 +56,9 @@ abbrev pub WouldGrant : Limits → Call → ℕ → Option State → Type 0
 WouldGrant limits c k None = ⊥
 WouldGrant limits c k (Some s) = (s.grants < last_serial) × (is_no (step c (topped limits k s)).reply ≡ false)
 
--- a request, that call of the plain machine, goes to the first list that grants it, with the reply that the list has under that
--- limit; where none does, to a new heap; and where none may be made either it is refused
+-- a nonzero request, which is this call of the plain machine, is granted by the first list that would grant it, with the reply
+-- of that list under that limit; or in a new heap, where no list would; a refusal other than Memory is returned only where no
+-- list would and no heap may be made
 pub record GoesToTheFirst (c : Call) (size : ℕ) (hs : Heaps) (lists : ℕ → Option State) (r : Result Granted Refusal) : Type 0 where
   pub found : IfOk r (λ g. g.is_new ≡ false → WouldGrant hs.limits c g.place.heap (lists g.place.heap)
       × ((j : ℕ) → j < g.place.heap → WouldGrant hs.limits c j (lists j) → ⊥)

@@ -36,8 +36,9 @@ pub fn heaps_are_plain_lists()
         → IsWellFormed hs → ArePlain hs lists → TakesAll hs cs rs ks → (left : ℕ → Option State) × ArePlain ks left }
 {}
 
-/// A request goes to the first plain list that grants it, under the largest node limit that its heap may have, and has the
-/// reply of that list. Where none does, a heap is made for it; and it is refused, but for memory, only where none may be made.
+/// A nonzero request goes to the first plain list that grants it, under the largest node limit that its heap may have, and
+/// has the reply of that list. Where no list grants it, a heap is made for it. A refusal other than `Memory` is returned only
+/// where no list grants it and no heap may be made.
 pub fn requests_go_to_the_first_plain_list()
     ensures aligned { (size align : ℕ) (hs ks : Heaps) (r : Result Granted Refusal) (lists : ℕ → Option State) → 1 ≤ align
         → IsWellFormed hs → IsWellFormed ks → ArePlain hs lists → Allocates size align hs ks r

@@ -16,7 +16,7 @@ whole_steps s bs = tally (λ b. if b.used then 0 else b.size - b.size % s) bs
 abbrev pub all_steps : ℕ → List Block → ℕ
 all_steps s bs = tally (λ b. one (not b.used && nat_eq (b.size % s) 0)) bs
 
--- blocks have so many units in whole steps, and so many free ones that are whole steps
+-- the whole steps of blocks are at least `need` units, and at least `few` free ones are whole steps
 abbrev pub HaveSteps : ℕ → ℕ → ℕ → List Block → Type 0
 HaveSteps s need few bs = (need ≤ whole_steps s bs) × (few ≤ all_steps s bs)
 

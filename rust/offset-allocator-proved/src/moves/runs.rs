@@ -63,7 +63,7 @@ impl Sums {
         }
     }
 
-    // Whether they have so many units in whole steps, and so many free ones that are whole steps.
+    // Whether their whole steps are at least `need` units, and at least `few` free ones are whole steps.
     #[inline(always)]
     fn have(self, need: u32, few: u32) -> bool {
         self.whole >= need && self.names >= few
@@ -244,7 +244,7 @@ fn walk<T: Tables>(
     run
 }
 
-// The last of the cheapest runs with at least `want` free units, where no free block alone has so many.
+// The last of the cheapest runs with at least `want` free units, where each free block has fewer.
 #[inline(never)]
 pub(crate) fn cheapest<T: Tables>(
     tables: &T,
